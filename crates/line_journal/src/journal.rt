@@ -1,5 +1,5 @@
 //! A snapshot and the lines since. Lines are added at the end of the file, a batch at a time.
-ghost use Rattle.std.specs.Prelude.{◌≡◌, ◌⊎◌, ◌<◌, ◌≤◌, ◌^◌, ◌++◌, List, ℕ, length, OnOk, IfOk, IsErrOf};
+ghost use Rattle.std.specs.Prelude.{◌≡◌, ◌⊎◌, ◌<◌, ◌≤◌, ◌^◌, ◌++◌, List, ℕ, length, OnOk, OnErr, IfOk, IsErrOf};
 ghost use Rattle.line_journal.specs.Device.{LeavesOnly, Only};
 ghost use Rattle.line_journal.specs.Journal.{journal_content, with_lines, fresh, IsJournalSettled, IsBeforeOrAfter};
 
@@ -32,6 +32,7 @@ pub fn begin<D: Device>(
     // It does not give up by itself.
     ensures failed { IsErrOf result DeviceError.Failed → D.faults device.old < D.faults device.new }
     ensures full { IsErrOf result DeviceError.Full → ⊥ }
+    ensures counted { D.faults device.old ≤ D.faults device.new }
 {
     let text = snapshot.file(alloc)?;
     device.replace(&text)?;
@@ -54,6 +55,8 @@ impl<D: Device> Journal<D> {
         // It does not give up by itself.
         ensures failed { IsErrOf result DeviceError.Failed → D.faults self.old.device < D.faults self.new.device }
         ensures full { IsErrOf result DeviceError.Full → 2 ^ 60 ≤ self.old.gate }
+        ensures counted { D.faults self.old.device ≤ D.faults self.new.device }
+        ensures same_gate { OnErr result (self.new.gate ≡ self.old.gate) }
     {
         if self.gate >= MAX_GATE {
             return Err(DeviceError::Full);
@@ -87,6 +90,8 @@ impl<D: Device> Journal<D> {
         // It does not give up by itself.
         ensures failed { IsErrOf result DeviceError.Failed → D.faults self.old.device < D.faults self.new.device }
         ensures full { IsErrOf result DeviceError.Full → ⊥ }
+        ensures counted { D.faults self.old.device ≤ D.faults self.new.device }
+        ensures same_gate { OnErr result (self.new.gate ≡ self.old.gate) }
     {
         self.gate = begin(alloc, &mut self.device, snapshot)?;
         Ok(())

@@ -1,5 +1,5 @@
 //! The changes of a journal, one after the other.
-ghost use Rattle.std.specs.Prelude.{◌≡◌, ◌<◌, ◌≤◌, ◌^◌, ℕ, List, length, take, OnOk, IsErrOf};
+ghost use Rattle.std.specs.Prelude.{◌≡◌, ◌<◌, ◌≤◌, ◌^◌, ℕ, List, length, take, OnOk, OnErr, IsErrOf};
 ghost use Rattle.line_journal.specs.Device.{LeavesOnly};
 ghost use Rattle.line_journal.specs.Journal.{journal_content, IsJournalSettled, IsBeforeOrAfter};
 ghost use Rattle.line_journal.specs.Run.{content_after, after_all, IsAfterSome};
@@ -29,6 +29,8 @@ impl<D: Device> Journal<D> {
         // It does not give up by itself.
         ensures failed { IsErrOf result DeviceError.Failed → D.faults self.old.device < D.faults self.new.device }
         ensures full { IsErrOf result DeviceError.Full → 2 ^ 60 ≤ self.old.gate }
+        ensures counted { D.faults self.old.device ≤ D.faults self.new.device }
+        ensures same_gate { OnErr result (self.new.gate ≡ self.old.gate) }
     {
         match change {
             JournalChange::Append(batch) => self.append(alloc, batch),
@@ -46,6 +48,10 @@ impl<D: Device> Journal<D> {
         // A crash at any moment leaves what the first changes made, none of them skipped and none in part.
         ensures any_moment { LeavesOnly D.moment D.left_since self.old.device self.new.device
             (IsAfterSome changes.now (journal_content (D.seen self.old.device))) }
+
+        // It does not give up by itself. The gate is that of the change that was not made.
+        ensures failed { IsErrOf result DeviceError.Failed → D.faults self.old.device < D.faults self.new.device }
+        ensures full { IsErrOf result DeviceError.Full → 2 ^ 60 ≤ self.new.gate }
     {
         for change in changes {
             self.apply(alloc, change)?;

@@ -1,4 +1,4 @@
-use Rattle.std.proofs.Common.{rules, ◌≡◌, ◌<◌, ◌∙◌, ap, sym, length}
+use Rattle.std.proofs.Common.{rules, arith, ◌≡◌, ◌<◌, ◌∙◌, ap, sym, length}
 use Rattle.std.specs.Prelude.{slice_index_or, Option}
 use Rattle.line_journal.specs.Journal.{JournalContent, journal_content, IsBeforeOrAfter}
 use Rattle.line_journal.specs.Run.{content_after, IsAfterSome}
@@ -31,6 +31,7 @@ loop-change-preserved g c =
       settled = c.in_ok-apply.ensures.acknowledged.0;
       made = c.in_ok-apply.ensures.acknowledged.1 ∙ ap (λ (o : Option JournalContent). content_after change o) c.loop-change.invariant.made
           ∙ sym (one_more c.args.changes.now c.loop-change.change-index change first inside is);
+      counted = omega (arith, c.loop-change.invariant.counted, c.apply.ensures.counted);
       since = joined D.moment D.left_since start c.loop-change.self.device c.apply.new.self.device (IsAfterSome c.args.changes.now first) (IsBeforeOrAfter now (content_after change now))
           c.loop-change.invariant.since c.apply.ensures.any_moment (some_made c.args.changes.now c.loop-change.change-index change first now inside is c.loop-change.invariant.made);
     }

@@ -1,4 +1,4 @@
-use Rattle.std.proofs.Common.{◌≡◌, take}
+use Rattle.std.proofs.Common.{◌≡◌, ◌≤◌, take}
 use Rattle.line_journal.specs.Device.{LeavesOnly}
 use Rattle.line_journal.specs.Journal.{journal_content, IsJournalSettled}
 use Rattle.line_journal.specs.Run.{after_all, IsAfterSome}
@@ -9,5 +9,6 @@ abbrev pub invariant-loop-change : goal.invariant-loop-change
 invariant-loop-change g l = let D = g.D.Device in record {
   settled : IsJournalSettled D.seen D.may_leave l.self.device l.self.gate;
   made : journal_content (D.seen l.self.device) ≡ after_all (take l.change-index l.changes) (journal_content (D.seen l.fn.self.device));
+  counted : D.faults l.fn.self.device ≤ D.faults l.self.device;
   since : LeavesOnly D.moment D.left_since l.fn.self.device l.self.device (IsAfterSome l.changes (journal_content (D.seen l.fn.self.device)));
 }
