@@ -1,6 +1,6 @@
 //! Giving new slices to all operators.
 
-ghost use Rattle.std.specs.Prelude.{◌≡◌, ◌<◌, ◌≤◌, ◌^◌, All, None, length, map, option_map, vec_len, vec_capacity, OnOk, OnErr};
+ghost use Rattle.std.specs.Prelude.{◌≡◌, ◌<◌, ◌≤◌, ◌^◌, All, None, length, map, option_map, vec_len, vec_capacity, IfOk, OnOk, OnErr};
 ghost use Rattle.operator_model.specs.declared.action.Action.TheVariants as actions;
 ghost use Rattle.operator_model.specs.Machine.{unfit_from};
 ghost use Rattle.operator_model.specs.Replay.{operator_of_book, book_after_action};
@@ -10,7 +10,7 @@ ghost use Rattle.plant_core.specs.Faults.{IsReported};
 ghost use Rattle.plant_core.specs.Giving.{HaveTaken};
 ghost use Rattle.plant_core.specs.Reslicing.{reslice_fault};
 ghost use Rattle.cell_state.specs.HeldView.{cell_book, waiting_of, history_room};
-ghost use Rattle.cell_state.specs.Receiving.{IsReceiptOf};
+ghost use Rattle.cell_state.specs.Receiving.{IsReceiptOf, AreOwnersReceipts};
 
 use crate::held::Held;
 use crate::judging::reslice_fault;
@@ -72,6 +72,7 @@ fn give(alloc: Global, helds: &mut Vec<Held>, told: &mut Vec<Told>, from: u32, r
     requires capacity { length rows.now ≤ vec_capacity told.old }
     ensures books { HaveTaken from rows.now (map cell_book helds.old.items) (map cell_book helds.new.items) }
     ensures waiting { map waiting_of helds.new.items ≡ map waiting_of helds.old.items }
+    ensures receipts { AreOwnersReceipts from rows.now (map cell_book helds.old.items) told.new.items }
 {
     for (op, row) in rows.iter().enumerate() {
         let receipt = helds[op].reslice(alloc, from, *row);
@@ -94,6 +95,7 @@ fn give_all(
     requires fit { reslice_fault from (map cell_book helds.old.items) rows.now ≡ None }
     ensures books { OnOk result (HaveTaken from rows.now (map cell_book helds.old.items) (map cell_book helds.new.items)) }
     ensures waiting { map waiting_of helds.new.items ≡ map waiting_of helds.old.items }
+    ensures receipts { IfOk result (λ told. AreOwnersReceipts from rows.now (map cell_book helds.old.items) told.items) }
     ensures same { OnErr result (map cell_book helds.new.items ≡ map cell_book helds.old.items) }
 {
     let mut told = Vec::with_capacity(alloc, rows.len())?;
@@ -113,6 +115,7 @@ pub fn reslice(
     requires { vec_len helds.old < 2 ^ 64 }
     ensures books { OnOk result (HaveTaken from rows.now (map cell_book helds.old.items) (map cell_book helds.new.items)) }
     ensures waiting { map waiting_of helds.new.items ≡ map waiting_of helds.old.items }
+    ensures receipts { IfOk result (λ told. AreOwnersReceipts from rows.now (map cell_book helds.old.items) told.items) }
     ensures same { OnErr result (map cell_book helds.new.items ≡ map cell_book helds.old.items) }
     ensures fault { IsReported result
         (option_map (λ fault. core_faults.Reslice fault) (reslice_fault from (map cell_book helds.old.items) rows.now)) }
