@@ -2,6 +2,8 @@
 use Rattle.std.proofs.Common.{◌≡◌, ℕ, ◌+◌, ◌<◌, ◌≤◌, true, false, List, length, take, Option, Some, None, ◌⊎◌, inl, inr, refl, sym, ap, ◌∙◌, subst, arith, below_more}
 use Rattle.std.specs.Prelude.{slice_get, min, MatchOption}
 use Rattle.std.proofs.lemmas.Bool.{eq-eqb, eqb-true, false≢true}
+use Rattle.std.proofs.lemmas.List.{length-take-le}
+use Rattle.std.proofs.lemmas.List.Sums.{count_by-le-length}
 use Rattle.std.proofs.lemmas.Option.{same_Some, slice_get_within}
 use Rattle.plant.specs.declared.plant.PlantFields.{PlantFields}
 use Rattle.run_model.specs.declared.step.Step.{Step}
@@ -32,6 +34,14 @@ module _ (first_frame op : ℕ) (all : List Step) (at : ℕ) (before : (i : ℕ)
 
   pub spent_nowhere : length all ≤ at → (i : ℕ) → IsSpentAt first_frame op all i → ⊥
   spent_nowhere le i p = let within = slice_get_within all i (steps.Tick op) p.step_is in before i (omega (arith, le, within)) p
+
+-- fewer steps than the frame numbers that are left spend none
+pub too_few : (first_frame op : ℕ) (all : List Step) → first_frame + length all ≤ 4294967295 → (i : ℕ) → IsSpentAt first_frame op all i → ⊥
+too_few first_frame op all few i p =
+    let within = slice_get_within all i (steps.Tick op) p.step_is in
+    let most = count_by-le-length (is_tick_of op) (take i all) in
+    let long = length-take-le i all (omega (arith, within)) in
+    absurd (omega (arith, few, within, most, long, p.spent))
 
 -- ---- operator by operator
 -- the least place of the first operators

@@ -22,11 +22,14 @@ fn is_tick_of(op: Op, step: &Step) -> bool
 }
 
 /// Returns the place of an operator's first Tick that has so many of its Ticks before it that no
-/// frame number is left.
+/// frame number is left. Fewer steps than there are frame numbers left are not looked at.
 fn spent_of(first_frame: u32, op: Op, steps: &[Step]) -> Option<usize>
     ensures { IsOwnSpent first_frame op steps.now result }
 {
     let allowed = (u32::MAX - first_frame) as usize;
+    if steps.len() <= allowed {
+        return None;
+    }
     let mut ticks = 0;
     for at in 0..steps.len() {
         if is_tick_of(op, &steps[at]) {
@@ -51,7 +54,8 @@ fn lesser(a: Option<usize>, b: Option<usize>) -> Option<usize>
 }
 
 /// Returns the place of the first Tick that finds its operator's frame numbers spent. Takes no
-/// memory, and time in proportion to the steps and the operators, of which there are at most 32.
+/// memory. Takes time in proportion to the operators, of which there are at most 32, and to the
+/// steps only where these are more than the frame numbers that are left.
 pub fn first_spent(plant: &Plant, steps: &[Step]) -> Option<usize>
     ensures { MatchOption result (NoneSpentBefore plant.now steps.now (length steps.now))
         (IsFirstSpent plant.now steps.now) }
