@@ -3,4 +3,3 @@ pub mod LeftLemmas
 pub mod StepLemmas
 pub mod LineLemmas
 pub mod ServiceLemmas
-pub mod ItemLemmas

@@ -4,4 +4,3 @@ pub mod Front
 pub mod Service
 pub mod SoFar
 pub mod Steps
-pub mod Items

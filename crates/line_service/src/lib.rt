@@ -14,7 +14,7 @@ mod steps_end;
 pub use answering::{answer_line, run_steps, write_end};
 pub use bytes::next_byte;
 pub use front::{read_plant_text, read_to_bar};
-pub use laws::{service_is_of_changes, service_is_shown};
+pub use laws::service_is_shown;
 pub use line_buffer::LineBuffer;
 pub use line_outcome::LineOutcome;
 pub use serving::{answer_held, next_number, serve};

@@ -1,7 +1,7 @@
 //! Serving a plant as long as there are lines.
 
 ghost use Rattle.run_model.specs.Starts.{Start};
-ghost use Rattle.std.specs.Prelude.{◌≡◌, ◌+◌, [], ◌∷◌, List, ℕ, Option, IfOk, OnOk, IfSome};
+ghost use Rattle.std.specs.Prelude.{◌≡◌, ◌≢◌, ◌↔◌, ◌+◌, [], ◌∷◌, List, ℕ, Option, IfOk, OnOk, IsOk, IfSome};
 ghost use Rattle.plant.specs.declared.plant.PlantFields.{PlantFields};
 ghost use Rattle.run_model.specs.declared.step.Out.{Out};
 ghost use Rattle.run_model.specs.declared.step.Step.{Step};
@@ -21,7 +21,8 @@ use std::io::{Read, Write};
 
 /// Returns the number of the line after this one, or an error after 2^64 - 1 lines.
 pub fn next_number(number: u64) -> io::Result<u64>
-    ensures { IfOk result (λ next. next ≡ number + 1) }
+    ensures next { IfOk result (λ next. next ≡ number + 1) }
+    ensures only { IsOk result ↔ (number ≢ 18446744073709551615) }
 {
     match number.checked_add(1) {
         Some(next) => Ok(next),

@@ -1,5 +1,5 @@
 -- What a text before the lines says, and why it says nothing.
-use Rattle.std.proofs.Common.{◌≡◌, ℕ, List, Bool, true, false, MatchBool, Ok, refl, sym, subst, inl, inr}
+use Rattle.std.proofs.Common.{◌≡◌, ℕ, List, Bool, true, false, MatchBool, Ok, refl, sym, subst}
 use Rattle.std.specs.Str.{IsUtf8, is_utf8}
 use Rattle.std.proofs.lemmas.Str.{IsUtf8-from_is_utf8}
 use Rattle.plant.specs.declared.plant.PlantFields.{PlantFields}

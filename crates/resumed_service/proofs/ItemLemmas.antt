@@ -1,7 +1,5 @@
 -- The answer to a line.
-use Rattle.std.proofs.Common.{◌≡◌, ◌<◌, ℕ, ◌==◌, ◌&&◌, Bool, true, false, List, [], ◌∷◌, ◌++◌, length, Option, Some, None, map, refl, sym, ap, subst, ◌∙◌, arith, codes, inl, inr}
-use Rattle.std.specs.Str.{bytes_eq}
-use Rattle.std.specs.Io.KnownBytes.{Appends}
+use Rattle.std.proofs.Common.{◌≡◌, ℕ, true, false, List, [], ◌∷◌, ◌++◌, Option, map, refl, sym, ap, ◌∙◌, inl, inr}
 use Rattle.plant.specs.declared.plant.PlantFields.{PlantFields}
 use Rattle.run_model.specs.declared.step.Step.{Step}
 use Rattle.run_model.specs.declared.step.Out.{Out}
@@ -16,53 +14,51 @@ use Rattle.snapshot_format.specs.declared.saved.Snapshot.{Snapshot}
 use Rattle.snapshot_format.specs.Text.{text_of_snapshot}
 use Rattle.snapshot_format.specs.States.{sfid_with_flow, saved_flow, state_of, saved_state}
 use Rattle.line_service.specs.Service.{answer_text}
-use Rattle.line_service.specs.SoFar.{IsHeld, LineIsAnswered}
-use Rattle.line_service.specs.Items.{ItemAnswer}
+use Rattle.line_service.specs.SoFar.{LineIsAnswered}
 use Rattle.plant_restart.specs.Saving.{state_of_book, saved_book, IsCoreSnapshot}
-use Rattle.resumed_service.specs.Items.{asks_snapshot, core_snapshot, meaning_of, run_so_far, ItemIsAnswered, WritesSnapshot}
-
--- a line that is too long is not the letter
-pub long_line : (line : List ℕ) → 4096 < length line → asks_snapshot line ≡ false
-long_line [] long = absurd (omega (arith, long))
-long_line (a ∷ []) long = absurd (omega (arith, long))
-long_line (a ∷ b ∷ line) long = by (a == 75) refl where
-  by : (t : Bool) → (a == 75) ≡ t → asks_snapshot (a ∷ b ∷ line) ≡ false
-  by true is = rw is refl
-  by false is = rw is refl
+use Rattle.resumed_service.specs.Items.{asks_snapshot, begins_plant, core_snapshot}
+use Rattle.resumed_service.specs.Served.{in_service, ItemIsAnswered, WritesSnapshot}
 
 module _ (file : List ℕ) (plant : PlantFields) (start : Start) (before : List Step) (shown : List Out) (number : ℕ) (line : List ℕ) (w0 w1 : Option (List ℕ)) where
   -- the line of a script
-  pub line_answered : (live : CoreView) → asks_snapshot line ≡ false → LineIsAnswered plant start before shown number line live w0 w1
-      → ItemIsAnswered (meaning_of file) (run_so_far plant start before shown) number line live w0 w1
-  line_answered live other told = record {
-    answer = record { lines = 1; run = run_so_far plant start (before ++ told.answered.done) (shown ++ told.answered.told); changes = false; text = answer_text plant number told.answered };
+  pub line_answered : (live : CoreView) → begins_plant line ≡ false → asks_snapshot line ≡ false → LineIsAnswered plant start before shown number line live w0 w1
+      → ItemIsAnswered (in_service file plant start before shown) number line live w0 w1
+  line_answered live no_plant no_snapshot told = record {
+    answer = record {
+      lines = 1;
+      next = in_service file plant start (before ++ told.answered.done) (shown ++ told.answered.told);
+      changes = false;
+      text = answer_text plant number told.answered;
+    };
     is = λ lines. inl (record {
       live = live;
       answered = told.answered;
       is = told.is;
-      no_plant = refl;
-      no_snapshot = other;
+      no_plant = no_plant;
+      no_snapshot = no_snapshot;
       one = refl;
       on = refl;
-      run_is = refl;
+      next_is = refl;
       text_is = refl;
     });
     one = refl;
+    same_file = refl;
     leads = told.is.after;
     written = told.written;
   }
 
   -- the request for a snapshot
   pub snapshot_answered : (live : CoreView) → asks_snapshot line ≡ true → IsAfterFrom plant start before shown live → WritesSnapshot file live number w0 w1
-      → ItemIsAnswered (meaning_of file) (run_so_far plant start before shown) number line live w0 w1
+      → ItemIsAnswered (in_service file plant start before shown) number line live w0 w1
   snapshot_answered live asks after wrote = record {
-    answer = record { lines = 1; run = run_so_far plant start before shown; changes = false; text = wrote.text };
+    answer = record { lines = 1; next = in_service file plant start before shown; changes = false; text = wrote.text };
     is = λ lines. inr (inr (record {
       on = refl;
-      run_is = refl;
+      next_is = refl;
       why = inl (record { live = live; leads = after; requests = asks; one = refl; answered = wrote.answered });
     }));
     one = refl;
+    same_file = refl;
     leads = after;
     written = wrote.written;
   }

@@ -2,10 +2,9 @@
 use Rattle.std.proofs.Common.{◌≡◌, ◌≢◌, ℕ, ◌==◌, Bool, true, false, List, [], ◌∷◌, ◌++◌, Option, Some, None, IfSome, refl, sym, ap, subst, ◌∙◌, arith, codes}
 use Rattle.std.proofs.lemmas.Bool.Decides.{nat_tests}
 use Rattle.script_format.specs.Input.{plant_text, script_text}
-use Rattle.script_format.specs.Lines.{lines_of, parts_of, parts_from}
+use Rattle.script_format.specs.Lines.{parts_of, parts_from}
 use Rattle.line_service.specs.Bytes.{Takes, WhereKnown}
 use Rattle.line_service.specs.SoFar.{IsHeld}
-use Rattle.resumed_service.specs.declared.line_break.LineBreak.{LineBreak}
 use Rattle.resumed_service.specs.declared.line_break.LineBreak.TheVariants.{Another, End}
 use Rattle.resumed_service.specs.Beginning.{is_snapshot_head, front_text, lines_after}
 use Rattle.resumed_service.specs.Lines.{IsPartRead, IsLineRead}

@@ -1,104 +1,265 @@
--- The lines of a service, one after the other.
-use Rattle.std.proofs.Common.{◌≡◌, ℕ, ◌+◌, Bool, List, [], ◌∷◌, ◌++◌, Option, Some, None, IfSome, refl, sym, ap, subst, ◌∙◌, append_assoc, append-nil}
+-- The items of a service, one after the other.
+use Rattle.std.proofs.Common.{◌≡◌, ℕ, suc, ◌+◌, Bool, true, false, List, [], ◌∷◌, ◌++◌, Option, Some, None, IfSome, inl, inr, refl, sym, ap, subst, ◌∙◌, arith, append_assoc, append-nil, codes}
 use Rattle.std.specs.Prelude.{drop}
 use Rattle.std.specs.Io.KnownBytes.{Appends}
 use Rattle.std.proofs.KnownBytes.{Appends-nil, Appends-trans}
+use Rattle.std.proofs.lemmas.Slice.Eq.{bytes_eq-Decides}
 use Rattle.plant.specs.declared.plant.PlantFields.{PlantFields}
 use Rattle.run_model.specs.declared.step.Step.{Step}
 use Rattle.run_model.specs.declared.step.Out.{Out}
 use Rattle.run_model.specs.Starts.{Start}
-use Rattle.run_model.specs.Changing.{RunSoFar}
 use Rattle.run_model.specs.IsStateAfter.{CoreView}
 use Rattle.live_core.specs.After.{IsAfterFrom}
 use Rattle.script_format.specs.Lines.{lines_of}
 use Rattle.snapshot_format.specs.declared.saved.Snapshot.{Snapshot}
+use Rattle.snapshot_format.specs.States.{states_of}
 use Rattle.line_service.specs.Bytes.{WhereKnown}
 use Rattle.line_service.specs.SoFar.{IsHeld}
-use Rattle.line_service.specs.Items.{ItemAnswer, Meaning, IsRunSoFarOf, IsItemAnswer, AreItemAnswers, IsServedFrom}
+use Rattle.line_service.proofs.ServiceLemmas.{known_same}
+use Rattle.plant_restart.specs.ByName.{start_by_name}
+use Rattle.plant_restart.specs.Changing.{IsChangeOf}
+use Rattle.plant_restart.specs.Restarted.{IsRestarted}
+use Rattle.plant_restart.specs.Saving.{states_by_name}
+use Rattle.resumed_service.specs.declared.line_break.LineBreak.{LineBreak}
 use Rattle.resumed_service.specs.declared.line_break.LineBreak.TheVariants.{Another, End}
-use Rattle.resumed_service.specs.Lines.{IsLineRead}
 use Rattle.resumed_service.specs.declared.begin_fault.BeginFault.{BeginFault}
+use Rattle.resumed_service.specs.declared.new_plant_fault.NewPlantFault.{NewPlantFault}
+use Rattle.resumed_service.specs.declared.new_plant_fault.NewPlantFault.TheVariants as new_faults
+use Rattle.resumed_service.specs.declared.kept_text.Keeping.{Keeping}
+use Rattle.resumed_service.specs.declared.plant_file.PlantFileEnd.{PlantFileEnd}
 use Rattle.resumed_service.specs.declared.serving.ServiceEnd.{ServiceEnd}
 use Rattle.resumed_service.specs.declared.serving.ServiceEnd.TheVariants as ends
 use Rattle.resumed_service.specs.Beginning.{front_text, lines_after, IsBeginning, IsTextFault, IsBeginFault}
-use Rattle.resumed_service.specs.Items.{meaning_of, run_so_far, texts_of, ItemIsAnswered, AreServedSoFar}
-use Rattle.resumed_service.specs.Resumed.{resumed_run, EndsBegun, EndsInput}
+use Rattle.resumed_service.specs.Lines.{IsLineRead}
+use Rattle.resumed_service.specs.NewPlants.{IsNewFileFault, IsChangeRefusal, IsNewPlantFault, refusal_text}
+use Rattle.resumed_service.specs.PlantFiles.{lines_taken, lines_left, break_after, file_text, IsFileOf, IsFileKept, IsFileRead, IsNumberAfter}
+use Rattle.resumed_service.specs.Items.{InService, ItemAnswer, IsRunSoFarOf, IsItemAnswer, AreItemAnswers, IsServedFrom, begins_plant, change_text, texts_of}
+use Rattle.resumed_service.specs.Resumed.{resumed_service, EndsBegun, EndsInput}
+use Rattle.resumed_service.specs.Served.{in_service, ItemIsAnswered, AreServedSoFar, AwaitsPlant}
 use Rattle.resumed_service.proofs.BeginLemmas.{text_fault, state_fault}
 
-module _ (meaning : Meaning) (first : RunSoFar) where
-  -- nothing is read yet
-  pub begun : (input : List ℕ) (live : CoreView) (known : Option (List ℕ)) → IsRunSoFarOf first live → AreServedSoFar meaning first input input 1 live known known
-  begun input live known after = record {
-    run = first;
-    text = [];
-    leads = after;
-    goes_on = λ more are. (more, are, refl);
-    written = Appends-nil known;
+-- nothing is read yet
+pub begun : (first : InService) (input : List ℕ) (live : CoreView) (file : List ℕ) (known : Option (List ℕ)) → IsRunSoFarOf first.run live → first.file ≡ file
+    → AreServedSoFar first input (lines_of input) 1 live file known known
+begun first input live file known leads same = record {
+  now = first;
+  text = [];
+  leads = leads;
+  file_is = same;
+  goes_on = λ more are. (more, are, refl);
+  written = Appends-nil known;
+}
+
+-- the number of a line that is not there says nothing
+renumber : (end : LineBreak) (rest : List ℕ) (number next : ℕ) → IsNumberAfter end number next → (now : InService) (more : List ItemAnswer) → AreItemAnswers now next (lines_left end rest) more
+    → AreItemAnswers now number (lines_left end rest) more
+renumber Another rest number next is now more are = subst (λ (n : ℕ). AreItemAnswers now n (lines_of rest) more) is are
+renumber End rest number next is now [] are = tt
+renumber End rest number next is now (answer ∷ more) are = absurd are
+
+past_first : (line : List ℕ) (lines : List (List ℕ)) (count : ℕ) → drop (1 + count) (line ∷ lines) ≡ drop count lines
+past_first line lines count = let next : 1 + count ≡ suc count = omega arith in ap (λ (n : ℕ). drop n (line ∷ lines)) next
+
+-- ---- an item is answered
+
+module _ (first : InService) (input line : List ℕ) (lines : List (List ℕ)) (number : ℕ) (old : CoreView) (file : List ℕ) (w0 w1 w2 : Option (List ℕ)) (so_far : AreServedSoFar first input (line ∷ lines) number old file w0 w1)
+    (rest : List ℕ) (end : LineBreak) (next : ℕ) where
+  answered : (new : CoreView) (new_file : List ℕ) (answer : ItemAnswer) → IsItemAnswer so_far.now number line lines answer → drop answer.lines (line ∷ lines) ≡ lines_left end rest
+      → IsNumberAfter end (number + answer.lines) next → IsRunSoFarOf answer.next.run new → answer.next.file ≡ new_file → Appends w1 w2 answer.text
+      → AreServedSoFar first input (lines_left end rest) next new new_file w0 w2
+  answered new new_file answer is left counted leads same wrote = record {
+    now = answer.next;
+    text = so_far.text ++ answer.text;
+    leads = leads;
+    file_is = same;
+    goes_on = λ more are.
+        let here = renumber end rest (number + answer.lines) next counted answer.next more are in
+        let tail = subst (λ (ls : List (List ℕ)). AreItemAnswers answer.next (number + answer.lines) ls more) (sym left) here in
+        let all = so_far.goes_on (answer ∷ more) (is, tail) in
+        (all.0, all.1, all.2 ∙ sym (append_assoc so_far.text answer.text (texts_of more)));
+    written = Appends-trans w0 w1 w2 so_far.text answer.text so_far.written wrote;
   }
 
-  -- an item before those of the lines after it
-  joined : (run : RunSoFar) (number : ℕ) (line : List ℕ) (lines : List (List ℕ)) (answer : ItemAnswer) (more : List ItemAnswer) → answer.lines ≡ 1 → IsItemAnswer meaning run number line lines answer
-      → AreItemAnswers meaning answer.run (number + 1) lines more → AreItemAnswers meaning run number (line ∷ lines) (answer ∷ more)
-  joined run number line lines answer more one is are =
-      (is, subst (λ (n : ℕ). AreItemAnswers meaning answer.run (number + n) (drop n (line ∷ lines)) more) (sym one) are)
+  -- a line of a script, or the request for a snapshot
+  pub line_served : (new : CoreView) → ItemIsAnswered so_far.now number line new w1 w2 → lines ≡ lines_left end rest → IsNumberAfter end (number + 1) next
+      → AreServedSoFar first input (lines_left end rest) next new file w0 w2
+  line_served new now left counted =
+      answered new file now.answer (now.is lines) (ap (λ (n : ℕ). drop n (line ∷ lines)) now.one ∙ left)
+      (subst (λ (n : ℕ). IsNumberAfter end (number + n) next) (sym now.one) counted) now.leads (now.same_file ∙ so_far.file_is) now.written
 
-  module _ (input rest left bytes : List ℕ) (is_long : Bool) (number : ℕ) (old live : CoreView) (w0 w1 w2 : Option (List ℕ)) (so_far : AreServedSoFar meaning first input rest number old w0 w1) where
-    -- a line is answered, and another follows
-    pub line_more : (read : IsLineRead rest left bytes is_long Another) → ItemIsAnswered meaning so_far.run number read.line live w1 w2 → AreServedSoFar meaning first input left (number + 1) live w0 w2
-    line_more read now = record {
-      run = now.answer.run;
-      text = so_far.text ++ now.answer.text;
-      leads = now.leads;
-      goes_on = λ more are.
-          let tail = subst (λ (ls : List (List ℕ)). AreItemAnswers meaning so_far.run number ls (now.answer ∷ more)) (sym read.lines_are)
-          (joined so_far.run number read.line (lines_of left) now.answer more now.one (now.is (lines_of left)) are) in
-          let all = so_far.goes_on (now.answer ∷ more) tail in
-          (all.0, all.1, all.2 ∙ sym (append_assoc so_far.text now.answer.text (texts_of more)));
-      written = Appends-trans w0 w1 w2 so_far.text now.answer.text so_far.written now.written;
-    }
+  module _ (begins : begins_plant line ≡ true) (left : drop (lines_taken lines) lines ≡ lines_left end rest) (counted : IsNumberAfter end (number + 1 + lines_taken lines) next) where
+    all_left : drop (1 + lines_taken lines) (line ∷ lines) ≡ lines_left end rest
+    all_left = past_first line lines (lines_taken lines) ∙ left
 
-    -- the last line is answered
-    pub line_last : (read : IsLineRead rest left bytes is_long End) → ItemIsAnswered meaning so_far.run number read.line live w1 w2 → IsServedFrom meaning first input w0 w2
-    line_last read now =
-        let tail = subst (λ (ls : List (List ℕ)). AreItemAnswers meaning so_far.run number ls (now.answer ∷ [])) (sym read.lines_are)
-        (joined so_far.run number read.line [] now.answer [] now.one (now.is []) tt) in
-        let all = so_far.goes_on (now.answer ∷ []) tail in
-        record {
-          answers = all.0;
-          answer = all.1;
-          written =
-              subst (λ (t : List ℕ). Appends w0 w2 t) (sym (all.2 ∙ ap (λ (t : List ℕ). so_far.text ++ t) (append-nil now.answer.text)))
-              (Appends-trans w0 w1 w2 so_far.text now.answer.text so_far.written now.written);
-        }
+    all_counted : IsNumberAfter end (number + (1 + lines_taken lines)) next
+    all_counted = let same : number + 1 + lines_taken lines ≡ number + (1 + lines_taken lines) = omega arith in subst (λ (n : ℕ). IsNumberAfter end n next) same counted
+
+    -- a plant file, to which the plant is not changed
+    pub refused : (fault : NewPlantFault) → IsNewPlantFault old lines fault → Appends w1 w2 (refusal_text number fault) → AreServedSoFar first input (lines_left end rest) next old file w0 w2
+    refused fault is wrote =
+        answered old file (record { lines = 1 + lines_taken lines; next = so_far.now; changes = false; text = refusal_text number fault })
+        (inr (inr (record {
+          on = refl;
+          next_is = refl;
+          why = inr (record { live = old; leads = so_far.leads; begins = begins; taken = refl; fault = fault; is = is; text_is = refl });
+        }))) all_left all_counted so_far.leads so_far.file_is wrote
+
+    -- a plant file, to which the plant is changed
+    pub changed : (new : CoreView) (text : List ℕ) (plant : PlantFields) → IsFileOf lines plant → text ≡ file_text lines → (is : IsChangeOf old plant new) → Appends w1 w2 (change_text is.frame)
+        → AreServedSoFar first input (lines_left end rest) next new text w0 w2
+    changed new text plant is_file text_is is wrote =
+        let start = start_by_name plant is.frame (states_by_name old) in
+        let run = so_far.now.run in
+        answered new text (record { lines = 1 + lines_taken lines; next = in_service text plant start [] []; changes = true; text = change_text is.frame })
+        (inr (inl (record {
+          live = new;
+          begins = begins;
+          taken = refl;
+          is_file = is_file;
+          new = refl;
+          changed = is.changes run.plant run.start run.steps run.outs so_far.leads;
+          leads = is.is_restarted.reached;
+          file_is = text_is;
+          text_is = refl;
+        }))) all_left all_counted is.is_restarted.reached refl wrote
+
+-- a fault of the file, or of the change, is one of both
+pub file_refused : (live : CoreView) (lines : List (List ℕ)) (fault : NewPlantFault) → IsNewFileFault lines fault → IsNewPlantFault live lines fault
+file_refused live lines new_faults.NotEnded is = is
+file_refused live lines new_faults.TooLong is = is
+file_refused live lines new_faults.NotText is = is
+file_refused live lines (new_faults.InvalidPlant fault) is = is
+file_refused live lines (new_faults.NotChanged why) is = absurd is
+file_refused live lines new_faults.NoMemory is = is
+
+pub change_refused : (live : CoreView) (lines : List (List ℕ)) (plant : PlantFields) (fault : NewPlantFault) → IsFileOf lines plant → IsChangeRefusal live plant fault → IsNewPlantFault live lines fault
+change_refused live lines plant new_faults.NotEnded is_file is = absurd is
+change_refused live lines plant new_faults.TooLong is_file is = absurd is
+change_refused live lines plant new_faults.NotText is_file is = absurd is
+change_refused live lines plant (new_faults.InvalidPlant fault) is_file is = absurd is
+change_refused live lines plant (new_faults.NotChanged why) is_file is = record { plant = plant; is_file = is_file; refused = is }
+change_refused live lines plant new_faults.NoMemory is_file is = is_file.is_text.0.0
 
 -- ---- where the reader's bytes are known
 
-module _ (meaning : Meaning) (bytes : List ℕ) (is_long : Bool) (number : ℕ) (core old new : CoreView) (w0 w1 w2 : Option (List ℕ))
-    (now : (plant : PlantFields) (start : Start) (before : List Step) (shown : List Out) → IsAfterFrom plant start before shown old → (line : List ℕ) → IsHeld bytes is_long line → ItemIsAnswered meaning (run_so_far plant start before shown) number line new w1 w2) where
-  pub all_served : (a b d : Option (List ℕ))
-      → ((plant : PlantFields) (start : Start) (before : List Step) (shown : List Out) → IsAfterFrom plant start before shown core → WhereKnown a b (λ input rest. AreServedSoFar meaning (run_so_far plant start before shown) input rest number old w0 w1))
-      → WhereKnown b d (λ rest left. IsLineRead rest left bytes is_long End)
-      → IfSome a (λ input. (plant : PlantFields) (start : Start) (before : List Step) (shown : List Out) → IsAfterFrom plant start before shown core → IsServedFrom meaning (run_so_far plant start before shown) input w0 w2)
-  all_served None b d so_far read = tt
-  all_served (Some input) None d so_far read = λ plant start before shown after. absurd (so_far plant start before shown after)
-  all_served (Some input) (Some rest) None so_far read = absurd read
-  all_served (Some input) (Some rest) (Some left) so_far read = λ plant start before shown after.
-      let served = so_far plant start before shown after in
-      let run = served.run in
-      line_last meaning (run_so_far plant start before shown) input rest left bytes is_long number old new w0 w1 w2 served read
-      (now run.plant run.start run.steps run.outs served.leads read.line read.is_held)
+-- what holds of an input and of what is left of it, and what holds of that and of what is left then, make a third
+pub known_then : (a b d : Option (List ℕ)) (P Q R : List ℕ → List ℕ → Type 0) → ((input rest left : List ℕ) → P input rest → Q rest left → R input left) → WhereKnown a b P → WhereKnown b d Q → WhereKnown a d R
+known_then None b d P Q R on h k = tt
+known_then (Some input) None d P Q R on h k = absurd h
+known_then (Some input) (Some rest) None P Q R on h k = absurd k
+known_then (Some input) (Some rest) (Some left) P Q R on h k = on input rest left h k
 
-  pub more_served : (a b d : Option (List ℕ)) (plant : PlantFields) (start : Start) (before : List Step) (shown : List Out)
-      → WhereKnown a b (λ input rest. AreServedSoFar meaning (run_so_far plant start before shown) input rest number old w0 w1)
-      → WhereKnown b d (λ rest left. IsLineRead rest left bytes is_long Another)
-      → WhereKnown a d (λ input left. AreServedSoFar meaning (run_so_far plant start before shown) input left (number + 1) new w0 w2)
-  more_served None b d plant start before shown served read = tt
-  more_served (Some input) None d plant start before shown served read = absurd served
-  more_served (Some input) (Some rest) None plant start before shown served read = absurd read
-  more_served (Some input) (Some rest) (Some left) plant start before shown served read =
-      let run = served.run in
-      line_more meaning (run_so_far plant start before shown) input rest left bytes is_long number old new w0 w1 w2 served read
-      (now run.plant run.start run.steps run.outs served.leads read.line read.is_held)
+pub known_map : (a b : Option (List ℕ)) (P Q : List ℕ → List ℕ → Type 0) → ((input rest : List ℕ) → P input rest → Q input rest) → WhereKnown a b P → WhereKnown a b Q
+known_map None b P Q on h = tt
+known_map (Some input) None P Q on h = absurd h
+known_map (Some input) (Some rest) P Q on h = on input rest h
+
+-- before the first line
+pub service_begun : (plant : PlantFields) (saved : Snapshot) (live core : CoreView) (file : List ℕ) (number : ℕ) (after : LineBreak) (known w0 : Option (List ℕ)) → IsRestarted plant saved.frame (states_of saved) live → core ≡ live
+    → file ≡ saved.plant → number ≡ 1 → after ≡ Another → WhereKnown known known (λ input rest. AreServedSoFar (resumed_service plant saved) input (lines_left after rest) number core file w0 w0)
+service_begun plant saved live core file number after known w0 is same_core same_file one more =
+    let first = resumed_service plant saved in
+    known_same known (λ input rest. AreServedSoFar first input (lines_left after rest) number core file w0 w0)
+    (λ input.
+    subst (λ (a : LineBreak). AreServedSoFar first input (lines_left a input) number core file w0 w0) (sym more)
+    (subst (λ (n : ℕ). AreServedSoFar first input (lines_of input) n core file w0 w0) (sym one)
+    (subst (λ (v : CoreView). AreServedSoFar first input (lines_of input) 1 v file w0 w0) (sym same_core)
+    (subst (λ (f : List ℕ). AreServedSoFar first input (lines_of input) 1 live f w0 w0) (sym same_file) (begun first input live saved.plant w0 is.reached refl)))))
+
+-- the end of the input
+pub all_served : (first : InService) (number : ℕ) (live : CoreView) (file : List ℕ) (w0 w1 : Option (List ℕ)) (end : LineBreak) (a b : Option (List ℕ)) → end ≡ End
+    → WhereKnown a b (λ input rest. AreServedSoFar first input (lines_left end rest) number live file w0 w1) → IfSome a (λ input. IsServedFrom first input w0 w1)
+all_served first number live file w0 w1 end None b is h = tt
+all_served first number live file w0 w1 end (Some input) None is h = absurd h
+all_served first number live file w0 w1 end (Some input) (Some rest) is h =
+    let so_far = subst (λ (e : LineBreak). AreServedSoFar first input (lines_left e rest) number live file w0 w1) is h in
+    let all = so_far.goes_on [] tt in
+    record {
+      answers = all.0;
+      answer = all.1;
+      written = subst (λ (t : List ℕ). Appends w0 w1 t) (sym (all.2 ∙ append-nil so_far.text)) so_far.written;
+    }
+
+-- an item is read: its first line, and what is left
+module _ (first : InService) (number : ℕ) (old : CoreView) (file bytes : List ℕ) (is_long : Bool) (end : LineBreak) (w0 w1 : Option (List ℕ)) where
+  line_here : (input rest left : List ℕ) → AreServedSoFar first input (lines_of rest) number old file w0 w1 → (read : IsLineRead rest left bytes is_long end)
+      → AreServedSoFar first input (read.line ∷ lines_left end left) number old file w0 w1
+  line_here input rest left so_far read = subst (λ (ls : List (List ℕ)). AreServedSoFar first input ls number old file w0 w1) read.lines_are so_far
+
+  pub item_served : (a b d : Option (List ℕ)) (next : ℕ) (new : CoreView) (w2 : Option (List ℕ)) → WhereKnown a b (λ input rest. AreServedSoFar first input (lines_of rest) number old file w0 w1)
+      → WhereKnown b d (λ rest left. IsLineRead rest left bytes is_long end) → IsNumberAfter end (number + 1) next
+      → ((plant : PlantFields) (start : Start) (before : List Step) (shown : List Out) → IsAfterFrom plant start before shown old → (line : List ℕ) → IsHeld bytes is_long line → ItemIsAnswered (in_service file plant start before shown) number line new w1 w2)
+      → WhereKnown a d (λ input left. AreServedSoFar first input (lines_left end left) next new file w0 w2)
+  item_served a b d next new w2 so_far read counted now =
+      known_then a b d (λ input rest. AreServedSoFar first input (lines_of rest) number old file w0 w1) (λ rest left. IsLineRead rest left bytes is_long end)
+      (λ input left. AreServedSoFar first input (lines_left end left) next new file w0 w2)
+      (λ input rest left served line.
+      let here = line_here input rest left served line in
+      let run = here.now.run in
+      line_served first input line.line (lines_left end left) number old file w0 w1 w2 here left end next new
+      (subst (λ (f : List ℕ). ItemIsAnswered (in_service f run.plant run.start run.steps run.outs) number line.line new w1 w2) (sym here.file_is) (now run.plant run.start run.steps run.outs here.leads line.line line.is_held))
+      refl counted) so_far read
+
+  -- the line `P`
+  pub plant_begun : (a b d : Option (List ℕ)) → WhereKnown a b (λ input rest. AreServedSoFar first input (lines_of rest) number old file w0 w1) → WhereKnown b d (λ rest left. IsLineRead rest left bytes is_long end)
+      → ((line : List ℕ) → IsHeld bytes is_long line → begins_plant line ≡ true) → WhereKnown a d (λ input left. AreServedSoFar first input (codes "P" ∷ lines_left end left) number old file w0 w1)
+  plant_begun a b d so_far read begins =
+      known_then a b d (λ input rest. AreServedSoFar first input (lines_of rest) number old file w0 w1) (λ rest left. IsLineRead rest left bytes is_long end)
+      (λ input left. AreServedSoFar first input (codes "P" ∷ lines_left end left) number old file w0 w1)
+      (λ input rest left served line.
+      subst (λ (l : List ℕ). AreServedSoFar first input (l ∷ lines_left end left) number old file w0 w1) ((bytes_eq-Decides line.line (codes "P")).0 (begins line.line line.is_held))
+      (line_here input rest left served line)) so_far read
+
+-- the plant file after it
+module _ (first : InService) (number next : ℕ) (old : CoreView) (file : List ℕ) (w0 w1 : Option (List ℕ)) (keeping : Keeping) (bytes : List ℕ) (before : LineBreak) (end : PlantFileEnd) (a b d : Option (List ℕ))
+    (so_far : WhereKnown a b (λ input rest. AreServedSoFar first input (codes "P" ∷ lines_left before rest) number old file w0 w1))
+    (read : WhereKnown b d (λ rest left. IsFileRead (lines_left before rest) left (number + 1) next keeping bytes end)) where
+  pub file_awaits : (plant : PlantFields) → ((lines : List (List ℕ)) → IsFileKept lines keeping bytes end → IsFileOf lines plant × (bytes ≡ file_text lines))
+      → WhereKnown a d (λ input left. AwaitsPlant first input left (break_after end) number next old file bytes plant w0 w1)
+  file_awaits plant valid =
+      known_then a b d (λ input rest. AreServedSoFar first input (codes "P" ∷ lines_left before rest) number old file w0 w1)
+      (λ rest left. IsFileRead (lines_left before rest) left (number + 1) next keeping bytes end)
+      (λ input left. AwaitsPlant first input left (break_after end) number next old file bytes plant w0 w1)
+      (λ input rest left served lines.
+      let says = valid (lines_left before rest) lines.is_kept in
+      record {
+        line = codes "P";
+        lines = lines_left before rest;
+        so_far = served;
+        begins = refl;
+        is_file = says.0;
+        text_is = says.1;
+        left = lines.left;
+        counted = lines.counted;
+      }) so_far read
+
+  pub file_not_taken : (fault : NewPlantFault) (w2 : Option (List ℕ)) → ((lines : List (List ℕ)) → IsFileKept lines keeping bytes end → IsNewFileFault lines fault) → Appends w1 w2 (refusal_text number fault)
+      → WhereKnown a d (λ input left. AreServedSoFar first input (lines_left (break_after end) left) next old file w0 w2)
+  file_not_taken fault w2 invalid wrote =
+      known_then a b d (λ input rest. AreServedSoFar first input (codes "P" ∷ lines_left before rest) number old file w0 w1)
+      (λ rest left. IsFileRead (lines_left before rest) left (number + 1) next keeping bytes end)
+      (λ input left. AreServedSoFar first input (lines_left (break_after end) left) next old file w0 w2)
+      (λ input rest left served lines.
+      refused first input (codes "P") (lines_left before rest) number old file w0 w1 w2 served left (break_after end) next refl lines.left lines.counted fault
+      (file_refused old (lines_left before rest) fault (invalid (lines_left before rest) lines.is_kept)) wrote) so_far read
+
+-- the change
+module _ (first : InService) (end : LineBreak) (number next : ℕ) (old : CoreView) (file text : List ℕ) (plant : PlantFields) (w0 w1 w2 : Option (List ℕ)) (a b : Option (List ℕ))
+    (waits : WhereKnown a b (λ input rest. AwaitsPlant first input rest end number next old file text plant w0 w1)) where
+  pub plant_changed : (new : CoreView) → (is : IsChangeOf old plant new) → Appends w1 w2 (change_text is.frame)
+      → WhereKnown a b (λ input rest. AreServedSoFar first input (lines_left end rest) next new text w0 w2)
+  plant_changed new is wrote =
+      known_map a b (λ input rest. AwaitsPlant first input rest end number next old file text plant w0 w1) (λ input rest. AreServedSoFar first input (lines_left end rest) next new text w0 w2)
+      (λ input rest here.
+      changed first input here.line here.lines number old file w0 w1 w2 here.so_far rest end next here.begins here.left here.counted new text plant here.is_file here.text_is is wrote) waits
+
+  pub plant_kept : (fault : NewPlantFault) → IsChangeRefusal old plant fault → Appends w1 w2 (refusal_text number fault)
+      → WhereKnown a b (λ input rest. AreServedSoFar first input (lines_left end rest) next old file w0 w2)
+  plant_kept fault is wrote =
+      known_map a b (λ input rest. AwaitsPlant first input rest end number next old file text plant w0 w1) (λ input rest. AreServedSoFar first input (lines_left end rest) next old file w0 w2)
+      (λ input rest here.
+      refused first input here.line here.lines number old file w0 w1 w2 here.so_far rest end next here.begins here.left here.counted fault
+      (change_refused old here.lines plant fault here.is_file is) wrote) waits
 
 -- ---- the whole
 
@@ -110,7 +271,7 @@ begun_ends (Some input) mid text plant saved w0 w1 ends.Served is behind begins 
   plant = plant;
   saved = saved;
   begins = subst (λ (t : List ℕ). IsBeginning t plant saved) is begins;
-  served = subst (λ (m : Option (List ℕ)). IfSome m (λ lines. IsServedFrom (meaning_of saved.plant) (resumed_run plant saved) lines w0 w1)) behind served;
+  served = subst (λ (m : Option (List ℕ)). IfSome m (λ lines. IsServedFrom (resumed_service plant saved) lines w0 w1)) behind served;
 }
 begun_ends (Some input) mid text plant saved w0 w1 (ends.NotBegun fault) is behind begins refused =
     (subst (λ (t : List ℕ). IsBeginFault t fault) is (state_fault text plant saved fault begins refused.0), refused.1)

@@ -1,32 +1,32 @@
 -- A service that begins with a plant file or a snapshot (implementation-specific).
 use Rattle.std.specs.Prelude.{◌≡◌, ℕ, List, [], Option, IfSome}
 use Rattle.plant.specs.declared.plant.PlantFields.{PlantFields}
-use Rattle.run_model.specs.Changing.{RunSoFar}
 use Rattle.snapshot_format.specs.declared.saved.Snapshot.{Snapshot}
 use Rattle.snapshot_format.specs.States.{states_of}
-use Rattle.line_service.specs.Items.{IsServedFrom}
 use Rattle.plant_restart.specs.ByName.{start_by_name}
-use Rattle.resumed_service.specs.declared.begin_fault.BeginFault.{BeginFault}
 use Rattle.resumed_service.specs.declared.serving.ServiceEnd.{ServiceEnd}
 use Rattle.resumed_service.specs.declared.serving.ServiceEnd.TheVariants.{Served, NotBegun}
 use Rattle.resumed_service.specs.Beginning.{front_text, lines_after, IsBeginning, IsRestoringFault, IsBeginFault}
-use Rattle.resumed_service.specs.Items.{meaning_of, run_so_far}
+use Rattle.resumed_service.specs.Items.{InService, IsServedFrom}
 
 -- a run that begins at the snapshot's frame: each operator goes on in the state that is saved under its name, and without one it is
--- opened before that frame
-abbrev pub resumed_run : PlantFields → Snapshot → RunSoFar
-resumed_run plant saved = run_so_far plant (start_by_name plant saved.frame (states_of saved)) [] []
+-- opened before that frame. The plant file is that of the snapshot.
+abbrev pub resumed_service : PlantFields → Snapshot → InService
+resumed_service plant saved = record {
+  run = record { plant = plant; start = start_by_name plant saved.frame (states_of saved); steps = []; outs = [] };
+  file = saved.plant;
+}
 
 -- the lines are answered, one after the other, from where the plant begins
 pub record IsResumedService (text lines : List ℕ) (old new : Option (List ℕ)) : Type 0 where
   pub plant : PlantFields
   pub saved : Snapshot
   pub begins : IsBeginning text plant saved
-  pub served : IsServedFrom (meaning_of saved.plant) (resumed_run plant saved) lines old new
+  pub served : IsServedFrom (resumed_service plant saved) lines old new
 
 -- the plant serves its lines in the saved states; or it does not, for this reason, and nothing is written
 abbrev pub EndsBegun : PlantFields → Snapshot → Option (List ℕ) → Option (List ℕ) → Option (List ℕ) → ServiceEnd → Type 0
-EndsBegun plant saved read old new Served = IfSome read (λ lines. IsServedFrom (meaning_of saved.plant) (resumed_run plant saved) lines old new)
+EndsBegun plant saved read old new Served = IfSome read (λ lines. IsServedFrom (resumed_service plant saved) lines old new)
 EndsBegun plant saved read old new (NotBegun fault) = IsRestoringFault plant saved fault × (new ≡ old)
 
 -- what is written: the answers; or nothing, for this reason

@@ -1,15 +1,16 @@
-//! The answers to lines, `K` among them.
+//! The answers to lines that begin no plant file, `K` among them.
 
-ghost use Rattle.std.specs.Prelude.{◌≡◌, List, ℕ, Err, IfOk, OnOk};
+ghost use Rattle.std.specs.Prelude.{◌≡◌, List, ℕ, false, Err, IfOk, OnOk};
 ghost use Rattle.live_core.specs.After.{BehindEachRun, IsReachableFromStart};
 ghost use Rattle.live_core.specs.LiveView.{live_view};
 ghost use Rattle.line_service.specs.SoFar.{IsHeld};
 ghost use Rattle.live_core.specs.declared.rest_fault.RestFault.{RestFault};
 ghost use Rattle.live_core.specs.Resting.{Rests};
-ghost use Rattle.line_service.specs.Items.{SnapshotIsGiven};
 ghost use Rattle.plant_restart.specs.declared.fault.SaveFault.TheVariants as save_faults;
-ghost use Rattle.resumed_service.specs.Items.{asks_snapshot, meaning_of, run_so_far, ItemIsAnswered, WritesSnapshot};
+ghost use Rattle.resumed_service.specs.Items.{begins_plant, SnapshotIsGiven};
+ghost use Rattle.resumed_service.specs.Served.{in_service, ItemIsAnswered, WritesSnapshot};
 
+use crate::holding::is_held;
 use line_service::{LineBuffer, LineOutcome, answer_held, write_end};
 use live_core::LiveCore;
 use plant_restart::{SaveFault, save};
@@ -19,19 +20,9 @@ use std::io;
 use std::io::Write;
 use tlv24::Bytes;
 
-/// Returns whether a line requests a snapshot.
-fn asks_snapshot(held: &LineBuffer) -> bool
-    ensures { (line : List ℕ) → IsHeld held.now.bytes.items held.now.is_long line → result ≡ asks_snapshot line }
-{
-    if held.is_long {
-        return false;
-    }
-    held.bytes.as_slice() == b"K".as_slice()
-}
-
 /// Returns the text of a snapshot of a core, with this plant file. It fails if the core does not rest, or if memory runs out.
 fn snapshot_of_core(alloc: Global, core: &LiveCore, file: &Bytes) -> Result<Vec<u8>, SaveFault>
-    ensures ok { IfOk result (λ text. SnapshotIsGiven (meaning_of file.now) (live_view core.now) text.items) }
+    ensures ok { IfOk result (λ text. SnapshotIsGiven file.now (live_view core.now) text.items) }
     ensures none { (why : RestFault) → result ≡ Err (save_faults.Unfinished why)
         → (frame : ℕ) → Rests (live_view core.now) frame → ⊥ }
     ensures memory { result ≡ Err save_faults.NoMemory → (frame : ℕ) × Rests (live_view core.now) frame }
@@ -66,7 +57,7 @@ fn answer_snapshot<W: Write>(
     writer.flush()
 }
 
-/// Answers a line: `K` by a snapshot of the core, any other as `answer_held` does.
+/// Answers a line that begins no plant file: `K` by a snapshot of the core, any other as `answer_held` does.
 pub(crate) fn answer_item<W: Write>(
     alloc: Global,
     core: &mut LiveCore,
@@ -75,14 +66,15 @@ pub(crate) fn answer_item<W: Write>(
     held: &LineBuffer,
     writer: &mut W,
 ) -> io::Result<()>
-    requires { IsReachableFromStart (live_view core.old) }
+    requires reached { IsReachableFromStart (live_view core.old) }
+    requires no_plant { (line : List ℕ) → IsHeld held.now.bytes.items held.now.is_long line → begins_plant line ≡ false }
     ensures reached { OnOk result (IsReachableFromStart (live_view core.new)) }
     ensures answered { OnOk result (BehindEachRun (live_view core.old) (λ plant start before shown. (line : List ℕ)
         → IsHeld held.now.bytes.items held.now.is_long line
-        → ItemIsAnswered (meaning_of file.now) (run_so_far plant start before shown) number line (live_view core.new)
+        → ItemIsAnswered (in_service file.now plant start before shown) number line (live_view core.new)
         (W.contents writer.old) (W.contents writer.new))) }
 {
-    if asks_snapshot(held) {
+    if is_held(held, b"K") {
         answer_snapshot(alloc, core, file, number, writer)
     } else {
         answer_held(alloc, core, number, held, writer)

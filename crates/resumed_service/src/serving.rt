@@ -1,10 +1,10 @@
 //! The service, from what it begins with to the end of the input.
 
-ghost use Rattle.std.specs.Prelude.{◌≡◌, ◌↔◌, [], map, IsTrue, IfOk, OnOk, IfSome};
-ghost use Rattle.live_core.specs.After.{BehindEachRun, IsReachableFromStart};
+ghost use Rattle.std.specs.Prelude.{◌≡◌, ◌↔◌, ◌∷◌, List, ℕ, Option, map, codes, Ok, IsTrue, IfOk, OnOk};
+ghost use Rattle.live_core.specs.After.{IsReachableFromStart};
 ghost use Rattle.live_core.specs.LiveView.{live_view};
-ghost use Rattle.line_service.specs.SoFar.{IsHeld};
-ghost use Rattle.line_service.specs.Items.{IsServedFrom};
+ghost use Rattle.line_service.specs.Bytes.{WhereKnown};
+ghost use Rattle.script_format.specs.Lines.{lines_of};
 ghost use Rattle.plant.specs.declared.plant.PlantFields.{PlantFields};
 ghost use Rattle.snapshot_format.specs.declared.saved.Snapshot.{Snapshot};
 ghost use Rattle.snapshot_format.specs.States.{states_of};
@@ -14,22 +14,29 @@ ghost use Rattle.plant_restart.specs.Restarted.{IsRestoreFault};
 ghost use Rattle.resumed_service.specs.declared.begin_fault.BeginFault.TheVariants as faults;
 ghost use Rattle.resumed_service.specs.declared.serving.ServiceEnd.TheVariants as ends;
 ghost use Rattle.resumed_service.specs.Beginning.{IsRestoringFault};
-ghost use Rattle.resumed_service.specs.Items.{meaning_of, run_so_far};
+ghost use Rattle.resumed_service.specs.Items.{InService};
+ghost use Rattle.resumed_service.specs.PlantFiles.{lines_left};
 ghost use Rattle.resumed_service.specs.Resumed.{EndsBegun, EndsInput};
+ghost use Rattle.resumed_service.specs.Served.{AreServedSoFar, IsAfterItem};
 
 use crate::begin_fault::BeginFault;
 use crate::beginning::{Beginning, beginning_of};
+use crate::changing::{answer_change, answer_refusal};
+use crate::holding::is_held;
 use crate::items::answer_item;
+use crate::kept_text::KeptText;
 use crate::line_break::LineBreak;
+use crate::new_plant::{ItemOutcome, WaitingLine};
+use crate::notes::RefusalNotes;
+use crate::plant_file::{break_after, plant_of_file, read_plant_file};
 use crate::reading::{read_front, read_line};
+use crate::service::{ServiceState, number_after};
 use grant_policy::{RankInput, Ranking, rank_by};
-use line_service::{LineBuffer, next_number};
-use live_core::LiveCore;
-use plant_restart::{RestartFault, RestoreFault, restore};
+use line_service::LineBuffer;
+use plant_restart::{RestartFault, RestoreFault, change, restore};
 use std::alloc::Global;
 use std::io;
 use std::io::{Read, Write};
-use tlv24::Bytes;
 
 /// How a service ended that was to begin with a plant file or a snapshot.
 #[derive(Debug, Drop)]
@@ -40,32 +47,79 @@ pub enum ServiceEnd {
     NotBegun { fault: BeginFault },
 }
 
-/// Answers the lines of a script, up to the end of the input, each before the next one is read.
-fn serve_items<R: Read, W: Write>(
+/// Reads the plant file after a line `P`, and answers that line unless the file is valid.
+fn take_plant_file<R: Read, W: Write, N: RefusalNotes>(
     alloc: Global,
-    core: &mut LiveCore,
-    file: &Bytes,
-    mut held: LineBuffer,
+    service: &mut ServiceState,
+    after: LineBreak,
     reader: &mut R,
     writer: &mut W,
-) -> io::Result<()>
-    requires reached { IsReachableFromStart (live_view core.old) }
-    requires empty { IsHeld held.bytes.items held.is_long [] }
-    ensures { OnOk result (IfSome (R.remaining reader.old) (λ input. BehindEachRun (live_view core.old) (λ plant start before shown.
-        IsServedFrom (meaning_of file.now) (run_so_far plant start before shown) input (W.contents writer.old) (W.contents writer.new)))) }
+    notes: &mut N,
+) -> io::Result<ItemOutcome>
+    ensures core { OnOk result (service.new.core ≡ service.old.core) }
+    ensures on { IfOk result (λ outcome. (first : InService) (known written : Option (List ℕ))
+        → WhereKnown known (R.remaining reader.old) (λ input rest. AreServedSoFar first input (codes "P" ∷ lines_left after rest)
+        service.old.number (live_view service.old.core) service.old.file written (W.contents writer.old))
+        → WhereKnown known (R.remaining reader.new) (λ input rest. IsAfterItem first input rest service.new.after service.new.number
+        (live_view service.new.core) service.new.file written (W.contents writer.new) outcome)) }
 {
-    let mut number = 1u64;
-    for _ in 0..u64::MAX {
-        let end = read_line(reader, &mut held)?;
-        answer_item(alloc, core, file, number, &held, writer)?;
-        match end {
-            LineBreak::End => return Ok(()),
-            LineBreak::Another => {}
+    let number = service.number;
+    let mut text = KeptText::new(alloc);
+    let end = read_plant_file(
+        after,
+        reader,
+        &mut service.held,
+        &mut text,
+        &mut service.number,
+    )?;
+    service.after = break_after(end);
+    match plant_of_file(alloc, &text, end) {
+        Ok(plant) => Ok(ItemOutcome::Awaits {
+            waiting: WaitingLine {
+                number,
+                text: text.bytes,
+            },
+            plant,
+        }),
+        Err(fault) => {
+            answer_refusal(alloc, number, text.bytes.as_slice(), &fault, writer, notes)?;
+            Ok(ItemOutcome::Answered)
         }
-        number = next_number(number)?;
-        held.clear();
     }
-    Err(io::Error::from(io::ErrorKind::Other))
+}
+
+/// Reads an item of the input, and answers it unless it is a valid plant file.
+fn serve_item<R: Read, W: Write, N: RefusalNotes>(
+    alloc: Global,
+    service: &mut ServiceState,
+    reader: &mut R,
+    writer: &mut W,
+    notes: &mut N,
+) -> io::Result<ItemOutcome>
+    requires reached { IsReachableFromStart (live_view service.old.core) }
+    ensures reached { OnOk result (IsReachableFromStart (live_view service.new.core)) }
+    ensures on { IfOk result (λ outcome. (first : InService) (known written : Option (List ℕ))
+        → WhereKnown known (R.remaining reader.old) (λ input rest. AreServedSoFar first input (lines_of rest)
+        service.old.number (live_view service.old.core) service.old.file written (W.contents writer.old))
+        → WhereKnown known (R.remaining reader.new) (λ input rest. IsAfterItem first input rest service.new.after service.new.number
+        (live_view service.new.core) service.new.file written (W.contents writer.new) outcome)) }
+{
+    service.held.clear();
+    let after = read_line(reader, &mut service.held)?;
+    if is_held(&service.held, b"P") {
+        return take_plant_file(alloc, service, after, reader, writer, notes);
+    }
+    answer_item(
+        alloc,
+        &mut service.core,
+        &service.file,
+        service.number,
+        &service.held,
+        writer,
+    )?;
+    service.number = number_after(after, service.number)?;
+    service.after = after;
+    Ok(ItemOutcome::Answered)
 }
 
 /// Returns whether memory ran out as states were restored.
@@ -92,40 +146,25 @@ fn restore_fault(why: RestoreFault) -> BeginFault
     }
 }
 
-/// Serves a plant that goes on in its saved states. The rankings are in the plant's order of operators.
-fn serve_ranked<R: Read, W: Write>(
-    alloc: Global,
-    begun: Beginning,
-    rankings: Vec<Ranking>,
-    reader: &mut R,
-    writer: &mut W,
-) -> io::Result<ServiceEnd>
-    requires { map (λ ranking. ranking.policy) rankings.items ≡ map (λ row. row.policy) begun.plant.rows }
-    ensures { IfOk result (λ end. EndsBegun begun.plant begun.saved (R.remaining reader.old) (W.contents writer.old) (W.contents writer.new) end) }
+/// Returns that a service does not begin because memory ran out.
+fn end_without_memory() -> io::Result<ServiceEnd>
+    ensures { result ≡ Ok (ends.NotBegun faults.NoMemory) }
 {
-    let Beginning { plant, saved } = begun;
-    let Ok(held) = LineBuffer::new(alloc) else {
-        return Ok(ServiceEnd::NotBegun {
-            fault: BeginFault::NoMemory,
-        });
-    };
-    match restore(alloc, plant, &saved, rankings) {
-        Ok(mut core) => {
-            serve_items(alloc, &mut core, &saved.plant, held, reader, writer)?;
-            Ok(ServiceEnd::Served)
-        }
-        Err(why) => Ok(ServiceEnd::NotBegun {
-            fault: restore_fault(why),
-        }),
-    }
+    Ok(ServiceEnd::NotBegun {
+        fault: BeginFault::NoMemory,
+    })
 }
 
 /// Serves a plant that goes on in its saved states, each operator by the policy of its row.
-fn serve_begun<R: Read, W: Write>(
+///
+/// The cores of new plants and their rankings are made here too, since a function that makes them may not hand them out. A
+/// ranking of a new plant for which memory runs out is left out: then `change` fails, since it is missing.
+fn serve_begun<R: Read, W: Write, N: RefusalNotes>(
     alloc: Global,
     begun: Beginning,
     reader: &mut R,
     writer: &mut W,
+    notes: &mut N,
 ) -> io::Result<ServiceEnd>
     ensures { IfOk result (λ end. EndsBegun begun.plant begun.saved (R.remaining reader.old) (W.contents writer.old) (W.contents writer.new) end) }
 {
@@ -135,18 +174,49 @@ fn serve_begun<R: Read, W: Write>(
         let Ok(rank) = Box::new(alloc, move |input: RankInput| -> u8 {
             rank_by(policy, &input)
         }) else {
-            return Ok(ServiceEnd::NotBegun {
-                fault: BeginFault::NoMemory,
-            });
+            return end_without_memory();
         };
         let ranking = Ranking::new(row.get_fields().policy, rank);
         if rankings.push(ranking).is_err() {
-            return Ok(ServiceEnd::NotBegun {
-                fault: BeginFault::NoMemory,
-            });
+            return end_without_memory();
         }
     }
-    serve_ranked(alloc, begun, rankings, reader, writer)
+    let Beginning { plant, saved } = begun;
+    let Ok(held) = LineBuffer::new(alloc) else {
+        return end_without_memory();
+    };
+    let mut service = match restore(alloc, plant, &saved, rankings) {
+        Ok(core) => ServiceState::new(core, saved.plant, held),
+        Err(why) => {
+            return Ok(ServiceEnd::NotBegun {
+                fault: restore_fault(why),
+            });
+        }
+    };
+    for _ in 0..u64::MAX {
+        match service.after {
+            LineBreak::End => return Ok(ServiceEnd::Served),
+            LineBreak::Another => {}
+        }
+        let (waiting, plant) = match serve_item(alloc, &mut service, reader, writer, notes)? {
+            ItemOutcome::Answered => continue,
+            ItemOutcome::Awaits { waiting, plant } => (waiting, plant),
+        };
+        let mut rankings = Vec::new(alloc);
+        for row in plant.rows() {
+            let policy = row.get_fields().policy;
+            let Ok(rank) = Box::new(alloc, move |input: RankInput| -> u8 {
+                rank_by(policy, &input)
+            }) else {
+                continue;
+            };
+            let ranking = Ranking::new(row.get_fields().policy, rank);
+            let _left_out = rankings.push(ranking);
+        }
+        let changed = change(alloc, &service.core, plant, rankings);
+        answer_change(alloc, &mut service, waiting, changed, writer, notes)?;
+    }
+    Err(io::Error::from(io::ErrorKind::Other))
 }
 
 /// Returns how a service ends if the text before the lines cannot be read: out of memory, or by that error.
@@ -166,12 +236,17 @@ fn end_of_failed_read(error: io::Error) -> io::Result<ServiceEnd>
 /// next. A line of a script is answered as `serve` does, and the line `K` by a snapshot with the text of the plant file. Lines are counted
 /// from 1, empty ones too.
 ///
+/// The line `P` begins a plant file, up to the next line of three dashes. The plant is changed to that of the file, with `change`,
+/// and `P frame N` is answered. If it cannot be changed, it stays as it is: `notes` has the reason, and the answer is the
+/// line `P` as an invalid line, or `fault: memory`. In each case the lines of the file are counted and no lines of a script.
+///
 /// Where the service does not begin, nothing is written. An error is one of the reader's or of the writer's; then no clause says
 /// what is written.
-pub fn resume<R: Read, W: Write>(
+pub fn resume<R: Read, W: Write, N: RefusalNotes>(
     alloc: Global,
     reader: &mut R,
     writer: &mut W,
+    notes: &mut N,
 ) -> io::Result<ServiceEnd>
     ensures { IfOk result (λ end. EndsInput (R.remaining reader.old) (W.contents writer.old) (W.contents writer.new) end) }
 {
@@ -180,7 +255,7 @@ pub fn resume<R: Read, W: Write>(
         Err(error) => return end_of_failed_read(error),
     };
     match beginning_of(alloc, text) {
-        Ok(begun) => serve_begun(alloc, begun, reader, writer),
+        Ok(begun) => serve_begun(alloc, begun, reader, writer, notes),
         Err(fault) => Ok(ServiceEnd::NotBegun { fault }),
     }
 }

@@ -4,16 +4,16 @@ use Rattle.line_service.proofs.StepLemmas.{on_ok_map}
 use Rattle.resumed_service.proofs.ItemLemmas.{line_answered, snapshot_answered}
 use Rattle.resumed_service.proofs.items.answer_item.Goals as goal
 
-pub returns-then-asks_snapshot-clause-answered : goal.returns-then-asks_snapshot-clause-answered
-returns-then-asks_snapshot-clause-answered g c =
+pub returns-then-is_held-clause-answered : goal.returns-then-is_held-clause-answered
+returns-then-is_held-clause-answered g c =
     on_ok_map c.answer_snapshot.result _ _
     (λ wrote plant start before shown after line held.
     snapshot_answered c.args.file.now plant start before shown c.args.number line _ _ (live_view c.args.core.now)
-    (sym (c.asks_snapshot.ensures line held) ∙ c.if-asks_snapshot.true) after wrote) c.answer_snapshot.ensures
+    (sym (c.is_held.ensures line held) ∙ c.if-is_held.true) after wrote) c.answer_snapshot.ensures
 
-pub returns-else-asks_snapshot-clause-answered : goal.returns-else-asks_snapshot-clause-answered
-returns-else-asks_snapshot-clause-answered g c =
+pub returns-else-is_held-clause-answered : goal.returns-else-is_held-clause-answered
+returns-else-is_held-clause-answered g c =
     on_ok_map c.answer_held.result _ _
     (λ answers plant start before shown after line held.
     line_answered c.args.file.now plant start before shown c.args.number line _ _ (live_view c.answer_held.new.core)
-    (sym (c.asks_snapshot.ensures line held) ∙ c.if-asks_snapshot.false) (answers plant start before shown after line held)) c.answer_held.ensures.answered
+    (c.requires.no_plant line held) (sym (c.is_held.ensures line held) ∙ c.if-is_held.false) (answers plant start before shown after line held)) c.answer_held.ensures.answered

@@ -1,4 +1,4 @@
-use Rattle.std.proofs.Common.{◌≡◌, ◌∷◌, List, ℕ, Option, subst}
+use Rattle.std.proofs.Common.{ℕ, Option, subst}
 use Rattle.line_service.specs.Bytes.{Takes}
 use Rattle.line_service.proofs.FrontLemmas.{known_on}
 use Rattle.line_service.proofs.ServiceLemmas.{known_same}

@@ -1,8 +1,22 @@
 use Rattle.std.proofs.Common.{◌≡◌, map, take}
+use Rattle.live_core.specs.After.{IsReachableFromStart}
+use Rattle.live_core.specs.LiveView.{live_view}
+use Rattle.line_service.specs.Bytes.{WhereKnown}
+use Rattle.resumed_service.specs.PlantFiles.{lines_left}
+use Rattle.resumed_service.specs.Resumed.{resumed_service}
+use Rattle.resumed_service.specs.Served.{AreServedSoFar}
 use Rattle.resumed_service.proofs.serving.serve_begun.Given as goal
 
 abbrev pub invariant-loop-row : goal.invariant-loop-row
 invariant-loop-row g l = record {
   writer : l.writer ≡ l.initial.writer;
   policies : map (λ ranking. ranking.policy) l.rankings.items ≡ map (λ row. row.policy) (take l.row-index l.row-items);
+}
+
+abbrev pub invariant-loop : goal.invariant-loop
+invariant-loop g l = record {
+  reached : IsReachableFromStart (live_view l.service.core);
+  served : WhereKnown (g.R.Read.remaining l.fn.reader) (g.R.Read.remaining l.reader)
+      (λ input rest. AreServedSoFar (resumed_service l.fn.begun.plant l.fn.begun.saved) input (lines_left l.service.after rest) l.service.number (live_view l.service.core) l.service.file
+      (g.W.Write.contents l.fn.writer) (g.W.Write.contents l.writer));
 }

@@ -1,0 +1,35 @@
+-- Why the plant of a core is not changed, and what always holds of a core that is restarted.
+use Rattle.std.proofs.Common.{◌≢◌, ℕ, List, [], refl, sym, ap, subst}
+use Rattle.grant_policy.specs.declared.policy.Policy.{Policy}
+use Rattle.operator_model.specs.State.{OperatorState}
+use Rattle.plant.specs.declared.plant.PlantFields.{PlantFields}
+use Rattle.run_model.specs.IsStateAfter.{CoreView}
+use Rattle.live_core.specs.After.{IsAfterFrom, IsReachableFromStart}
+use Rattle.plant_restart.specs.declared.fault.ChangeFault.{ChangeFault}
+use Rattle.plant_restart.specs.declared.fault.ChangeFault.TheVariants.{ConstantsDiffer, Unfinished, Restart}
+use Rattle.plant_restart.specs.declared.fault.RestartFault.{RestartFault}
+use Rattle.plant_restart.specs.declared.fault.RestartFault.TheVariants.{RankingsMismatch, State, Core, NoMemory}
+use Rattle.plant_restart.specs.ByName.{start_by_name}
+use Rattle.plant_restart.specs.Changing.{IsChangeFault}
+use Rattle.plant_restart.specs.Restarted.{IsRestarted}
+use Rattle.resumed_service.specs.declared.new_plant_fault.NewPlantFault.TheVariants as new_faults
+use Rattle.resumed_service.specs.NewPlants.{IsChangeRefusal}
+
+-- a fault that is not about rankings holds with the right ones too
+pub not_changed : (live : CoreView) (plant : PlantFields) (policies : List Policy) (why : ChangeFault) → why ≢ Restart RankingsMismatch → why ≢ Restart NoMemory → IsChangeFault live plant policies why
+    → IsChangeRefusal live plant (new_faults.NotChanged why)
+not_changed live plant policies ConstantsDiffer ranked other is = (is, other)
+not_changed live plant policies (Unfinished why) ranked other is = (is, other)
+not_changed live plant policies (Restart RankingsMismatch) ranked other is = absurd (ranked refl)
+not_changed live plant policies (Restart (State op why)) ranked other is = (record { frame = is.frame; rests = is.rests; shared = is.shared; is = is.is }, other)
+not_changed live plant policies (Restart (Core why)) ranked other is = (record { frame = is.frame; rests = is.rests; shared = is.shared; is = is.is }, other)
+not_changed live plant policies (Restart NoMemory) ranked other is = absurd (other refl)
+
+-- where memory runs out, the core rests and all operators share the same
+pub out_of_memory : (live : CoreView) (plant : PlantFields) (policies : List Policy) (why : RestartFault) → IsChangeFault live plant policies (Restart why) → IsChangeRefusal live plant new_faults.NoMemory
+out_of_memory live plant policies why is = (is.shared, (is.frame, is.rests))
+
+pub restarted_is_reached : (plant : PlantFields) (frame : ℕ) (states : List (List ℕ × OperatorState)) (live : CoreView) → IsRestarted plant frame states live → IsReachableFromStart live
+restarted_is_reached plant frame states live is =
+    let start = start_by_name plant frame states in
+    (start, [], [], subst (λ (p : PlantFields). IsAfterFrom p start [] [] live) (sym (ap (λ (v : CoreView). v.plant) is.is_started)) is.reached)

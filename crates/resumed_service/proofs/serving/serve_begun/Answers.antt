@@ -1,0 +1,95 @@
+use Rattle.std.proofs.Common.{◌≡◌, List, map, refl, sym, ap, subst, ◌∙◌, arith}
+use Rattle.std.proofs.lemmas.List.{take_all}
+use Rattle.grant_policy.specs.declared.policy.Policy.{Policy}
+use Rattle.plant.specs.declared.operator_row.RowFields.{RowFields}
+use Rattle.live_core.specs.After.{IsReachableFromStart}
+use Rattle.live_core.specs.LiveView.{live_view}
+use Rattle.line_service.specs.Bytes.{WhereKnown}
+use Rattle.script_format.proofs.Outcomes.{if_ok}
+use Rattle.snapshot_format.specs.States.{states_of}
+use Rattle.plant_restart.specs.Restarted.{IsRestoreFault}
+use Rattle.plant_restart.specs.Saving.{states_by_name}
+use Rattle.resumed_service.specs.declared.line_break.LineBreak.{LineBreak}
+use Rattle.resumed_service.specs.declared.new_plant.ItemOutcome.{ItemOutcome}
+use Rattle.resumed_service.specs.PlantFiles.{lines_left}
+use Rattle.resumed_service.specs.Resumed.{resumed_service}
+use Rattle.resumed_service.specs.Served.{AreServedSoFar, IsAfterItem}
+use Rattle.resumed_service.proofs.RefusalLemmas.{restarted_is_reached}
+use Rattle.resumed_service.proofs.ServedLemmas.{service_begun, all_served}
+use Rattle.resumed_service.proofs.serving.serve_begun.Goals as goal
+
+pub returns-in-Err : goal.returns-in-Err
+returns-in-Err g c =
+    let plant = c.args.begun.plant in
+    let saved = c.args.begun.saved in
+    let items = c.rows-row-items.result.now in
+    let all = take_all c.loop-row.row-index items (omega (arith, c.loop-row-test.false, c.loop-row.auto.row-index-end)) ∙ c.rows-row-items.ensures.value in
+    let policies = c.loop-row.invariant.policies ∙ ap (λ (rows : List RowFields). map (λ row. row.policy) rows) all in (
+      c.restore_fault.ensures plant saved (subst (λ (all : List Policy). IsRestoreFault plant all saved.frame (states_of saved) c.in-Err.why) policies c.in-Err.ensures.fault),
+      refl,
+    )
+
+pub loop-init : goal.loop-init
+loop-init g c =
+    let plant = c.args.begun.plant in
+    let saved = c.args.begun.saved in
+    let service = c.new-service.result in
+    let live = live_view c.in-Ok-restore.core in
+    let same : live_view service.core ≡ live = ap (λ (core : _). live_view core) c.new-service.ensures.core in
+    record {
+      reached = subst (λ (core : _). IsReachableFromStart (live_view core)) (sym c.new-service.ensures.core) (restarted_is_reached plant saved.frame (states_of saved) live c.in-Ok-restore.ensures.ok);
+      served =
+          service_begun plant saved live (live_view service.core) service.file service.number service.after (g.R.Read.remaining c.args.reader.now) (g.W.Write.contents c.args.writer.now)
+          c.in-Ok-restore.ensures.ok same c.new-service.ensures.file c.new-service.ensures.number c.new-service.ensures.after;
+    }
+
+pub returns-in-End : goal.returns-in-End
+returns-in-End g c =
+    let service = c.loop.service in
+    all_served (resumed_service c.args.begun.plant c.args.begun.saved) service.number (live_view service.core) service.file (g.W.Write.contents c.args.writer.now) (g.W.Write.contents c.loop.writer)
+    service.after (g.R.Read.remaining c.args.reader.now) (g.R.Read.remaining c.loop.reader) c.in-End.is c.loop.invariant.served
+
+pub loop-preserved-in-Answered : goal.loop-preserved-in-Answered
+loop-preserved-in-Answered g c =
+    let first = resumed_service c.args.begun.plant c.args.begun.saved in
+    let known = g.R.Read.remaining c.args.reader.now in
+    let w0 = g.W.Write.contents c.args.writer.now in
+    let w1 = g.W.Write.contents c.loop.writer in
+    let w2 = g.W.Write.contents c.serve_item.new.writer in
+    let old = c.loop.service in
+    let new = c.serve_item.new.service in
+    let so_far =
+    subst (λ (after : LineBreak). WhereKnown known (g.R.Read.remaining c.loop.reader) (λ input rest. AreServedSoFar first input (lines_left after rest) old.number (live_view old.core) old.file w0 w1)) c.in-Another.is
+    c.loop.invariant.served in
+    record {
+      reached = c.in_ok-serve_item.ensures.reached;
+      served =
+          subst (λ (outcome : ItemOutcome). WhereKnown known (g.R.Read.remaining c.serve_item.new.reader) (λ input rest. IsAfterItem first input rest new.after new.number (live_view new.core) new.file w0 w2 outcome)) c.in-Answered.is
+          (c.in_ok-serve_item.ensures.on first known w0 so_far);
+    }
+
+pub answer_change-requires-clause-core : goal.answer_change-requires-clause-core
+answer_change-requires-clause-core g c =
+    let old = live_view c.serve_item.new.service.core in
+    if_ok c.change-changed.result _ _ (λ core is. restarted_is_reached _ is.frame (states_by_name old) (live_view core) is.is_restarted) c.change-changed.ensures.ok
+
+pub loop-preserved : goal.loop-preserved
+loop-preserved g c =
+    let first = resumed_service c.args.begun.plant c.args.begun.saved in
+    let known = g.R.Read.remaining c.args.reader.now in
+    let read = g.R.Read.remaining c.serve_item.new.reader in
+    let w0 = g.W.Write.contents c.args.writer.now in
+    let w1 = g.W.Write.contents c.loop.writer in
+    let w2 = g.W.Write.contents c.serve_item.new.writer in
+    let old = c.loop.service in
+    let new = c.serve_item.new.service in
+    let so_far =
+    subst (λ (after : LineBreak). WhereKnown known (g.R.Read.remaining c.loop.reader) (λ input rest. AreServedSoFar first input (lines_left after rest) old.number (live_view old.core) old.file w0 w1)) c.in-Another.is
+    c.loop.invariant.served in
+    let waits =
+    subst (λ (outcome : ItemOutcome). WhereKnown known read (λ input rest. IsAfterItem first input rest new.after new.number (live_view new.core) new.file w0 w2 outcome)) c.in-Awaits.is
+    (c.in_ok-serve_item.ensures.on first known w0 so_far) in
+    record {
+      reached = c.in_ok-answer_change.ensures.reached;
+      served = c.in_ok-answer_change.ensures.on first known read w0 _ _ c.change-changed.ensures.ok c.change-changed.ensures.fault waits;
+    }

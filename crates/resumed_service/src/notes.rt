@@ -1,0 +1,11 @@
+//! Notes of changes that are refused.
+
+use crate::new_plant_fault::NewPlantFault;
+use std::alloc::Global;
+
+/// Takes notes of changes of the plant that are refused.
+pub trait RefusalNotes {
+    /// Notes that the plant is not changed to that of the plant file after the line `P` of this number, and why. If the file is
+    /// too long, or if memory ran out, `file` is the beginning of it.
+    fn note_refused(&mut self, alloc: Global, number: u64, file: &[u8], why: &NewPlantFault);
+}
