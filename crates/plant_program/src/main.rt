@@ -81,6 +81,26 @@ fn words_of(rt: &(impl Env + AllocGlobal)) -> io::Result<Vec<String>> {
     Ok(words)
 }
 
+/// Returns whether reasons are written as they come. Those of other commands are written at the end, and not if the reader of the
+/// output has gone.
+fn reports_at_once(words: &[&str]) -> bool {
+    match words {
+        [word, ..] => *word == "resume",
+        [] => false,
+    }
+}
+
+/// Runs the program over its words. Returns the status.
+fn run_words<'a, R: Read, W: Write, E: Write>(
+    rt: &(impl Files + AllocGlobal + Threads + Wait + Sync),
+    words: &'a [&'a str],
+    reader: &mut R,
+    writer: &mut W,
+    reasons: &mut E,
+) -> u8 {
+    run_with_options(rt, rt.alloc(), words, reader, writer, reasons, Ending::Ends)
+}
+
 /// Returns the status that the program answers to its words.
 fn run<N: Write>(
     rt: &(impl Env + Files + Input + Print + AllocGlobal + Threads + Wait + Sync),
@@ -102,16 +122,12 @@ fn run<N: Write>(
     };
     let mut reader = BufReader::new(rt.alloc(), awaited)?;
     let mut writer = BufWriter::new(rt.alloc(), left)?;
+    let words = behind_name(texts.as_slice());
+    if reports_at_once(words) {
+        return Ok(run_words(rt, words, &mut reader, &mut writer, reasons));
+    }
     let mut told = Vec::new(rt.alloc());
-    let status = run_with_options(
-        rt,
-        rt.alloc(),
-        behind_name(texts.as_slice()),
-        &mut reader,
-        &mut writer,
-        &mut told,
-        Ending::Ends,
-    );
+    let status = run_words(rt, words, &mut reader, &mut writer, &mut told);
     if !writer.get_ref().is_left {
         let _lost = reasons.write_all(told.as_slice());
     }

@@ -67,7 +67,7 @@ fn flow_text(alloc: Global, why: StateFault) -> Option<Result<String, AllocError
 }
 
 /// Returns what is wrong with the state of an operator.
-fn state_text(alloc: Global, why: StateFault) -> Result<String, AllocError> {
+pub(crate) fn state_text(alloc: Global, why: StateFault) -> Result<String, AllocError> {
     if let Some(text) = flow_text(alloc, why) {
         return text;
     }

@@ -8,6 +8,7 @@ mod file_input;
 mod noted_service;
 mod objects;
 mod recording;
+mod refusal_reasons;
 mod resuming;
 mod running;
 mod strict;

@@ -7,6 +7,7 @@ ghost use Rattle.program_runner.specs.Resume.{is_resume, asks_resume_help, begin
 
 use crate::answering::{finish, tell};
 use crate::begin_reasons::{begin_reason, io_reason};
+use crate::refusal_reasons::RefusalReasons;
 use plant_script::plant_line;
 use resumed_service::{BeginFault, ServiceEnd, resume};
 use std::alloc::{AllocError, Global};
@@ -23,7 +24,7 @@ pub(crate) fn is_resume(words: &[&str]) -> bool
 }
 
 /// The help of the command.
-const HELP: &[u8] = b"Serve a plant that begins with a plant file or a snapshot, and write snapshots
+const HELP: &[u8] = b"Serve a plant from a plant file or a snapshot, save it and change it
 
 Usage: plant_script resume
 
@@ -39,7 +40,15 @@ Standard output: as of `serve`. The line K is answered by a snapshot: the state 
         sed -n '/^melfjits-snapshot /,/^end [0-9]* [0-9]*$/p' > state
     (cat state; echo ---; cat more.txt) | plant_script resume
 
-While some operators have ticked and others have not, K is answered by `fault: line n`.
+The line P begins a plant file, up to the next line ---. The plant in service is changed to that file, and the answer
+is `P frame N`: operators go on by their names before frame N, new ones are opened there, and the others leave:
+
+    (echo P; cat new.toml; echo ---)
+
+If the file is invalid or does not fit, the plant stays as it is. The answer is `fault: line n`, n being the number of
+the line P, and the reason is written to standard error at once. The lines of the file are counted like other lines.
+
+While some operators have ticked and others have not, K and P are answered by `fault: line n`.
 
 Exit status: 0 end of the input, 3 invalid plant file or snapshot, 5 out of memory before the first line, 6 I/O error,
 or a plant file that is too long or not UTF-8.
@@ -115,7 +124,8 @@ pub(crate) fn run_resume<R: Read, W: Write, E: Write>(
 ) -> u8
     ensures { IsResumeAnswer (R.remaining reader.old) result (W.contents writer.old) (W.contents writer.new) }
 {
-    match resume(alloc, reader, writer) {
+    let ended = resume(alloc, reader, writer, &mut RefusalReasons::new(reasons));
+    match ended {
         Ok(ServiceEnd::Served) => 0,
         Ok(ServiceEnd::NotBegun { fault }) => refuse_to_begin(alloc, &fault, writer, reasons),
         Err(error) => {

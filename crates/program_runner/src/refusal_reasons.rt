@@ -1,0 +1,138 @@
+//! What standard error says of a change of the plant that is refused.
+
+use crate::answering::tell;
+use crate::begin_reasons::state_text;
+use command_line::Word;
+use diagnostics::reason_of;
+use live_core::{RestFault, ResumeFault};
+use plant_restart::{ChangeFault, RestartFault};
+use resumed_service::{NewPlantFault, RefusalNotes};
+use std::alloc::{AllocError, Global};
+use std::io::Write;
+
+/// The status that `check` has for an invalid plant file.
+const INVALID_PLANT: u8 = 3;
+
+/// Returns why the plant in service is not at rest, and what to do.
+fn rest_text(alloc: Global, why: RestFault) -> Result<String, AllocError> {
+    match why {
+        RestFault::FrameWaits { op } => format!(in alloc;
+            "a frame of operator {op} (counted from 0) waits to be collected; let all operators tick, then repeat the change"
+        ),
+        RestFault::NotAtFrame { op } => format!(in alloc;
+            "operator {op} (counted from 0) is at another frame than operator 0; let all operators tick, then repeat the change"
+        ),
+    }
+}
+
+/// Returns why the operators do not go together under the new plant, and what to do.
+fn core_text(alloc: Global, why: ResumeFault) -> Result<String, AllocError> {
+    match why {
+        ResumeFault::NotAtFrame { op } => format!(in alloc;
+            "operator {op} (counted from 0) is at another frame; let all operators tick, then repeat the change"
+        ),
+        ResumeFault::SliceChangesDiffer { op } => format!(in alloc;
+            "a slice change waits, and not for operator {op} (counted from 0); repeat the change after its frame"
+        ),
+        ResumeFault::BeforeFirstFrame => String::from_str(
+            alloc,
+            "its first frame is later than the frame in which the plant is; keep first_frame",
+        ),
+        ResumeFault::InvalidSlice { op } => format!(in alloc;
+            "the slice in force of operator {op} (counted from 0) overlaps that of another operator; change the slices first"
+        ),
+        ResumeFault::InvalidNextSlice { op } => format!(in alloc;
+            "the next slice of operator {op} (counted from 0) overlaps that of another operator; repeat the change after its frame"
+        ),
+        ResumeFault::NoMemory => String::from_str(alloc, "memory ran out; repeat the change"),
+    }
+}
+
+/// Returns why the plant in service is not changed to a valid plant file, and what to do.
+fn change_text(alloc: Global, why: ChangeFault) -> Result<String, AllocError> {
+    match why {
+        ChangeFault::ConstantsDiffer => String::from_str(
+            alloc,
+            "its tables [plant] and [[class]] have other values; keep these tables as they are",
+        ),
+        ChangeFault::Unfinished { why } => rest_text(alloc, why),
+        ChangeFault::Restart {
+            why: RestartFault::State { op, why },
+        } => {
+            let text = state_text(alloc, why)?;
+            format!(in alloc;
+                "operator {op} of the file (counted from 0) cannot go on: {text}; change its table, or give it another name"
+            )
+        }
+        ChangeFault::Restart {
+            why: RestartFault::Core { why },
+        } => core_text(alloc, why),
+        ChangeFault::Restart {
+            why: RestartFault::RankingsMismatch | RestartFault::NoMemory,
+        } => String::from_str(alloc, "memory ran out; repeat the change"),
+    }
+}
+
+/// Returns why the plant is not changed to a plant file, and what to do. It is part of a sentence.
+fn fault_text(alloc: Global, why: &NewPlantFault) -> Result<String, AllocError> {
+    match why {
+        NewPlantFault::NotEnded => String::from_str(
+            alloc,
+            "the input ends before a line --- after the plant file; write that line",
+        ),
+        NewPlantFault::TooLong => String::from_str(
+            alloc,
+            "the plant file is longer than 1,048,576 bytes; shorten it",
+        ),
+        NewPlantFault::NotText => String::from_str(
+            alloc,
+            "the plant file is not UTF-8; save it as UTF-8",
+        ),
+        NewPlantFault::InvalidPlant { fault: _ } => String::from_str(
+            alloc,
+            "the plant file is invalid, for the reasons that follow; its lines are counted from 1",
+        ),
+        NewPlantFault::NotChanged { why } => {
+            let text = change_text(alloc, *why)?;
+            format!(in alloc; "the plant file does not fit the plant in service: {text}")
+        }
+        NewPlantFault::NoMemory => String::from_str(alloc, "memory ran out; repeat the change"),
+    }
+}
+
+/// Returns why the plant is not changed to the plant file after the line `P` of this number. Of an invalid file it says what
+/// `check` says.
+fn refusal_reason(
+    alloc: Global,
+    number: u64,
+    file: &[u8],
+    why: &NewPlantFault,
+) -> Result<String, AllocError> {
+    let text = fault_text(alloc, why)?;
+    let mut reason = format!(in alloc; "line {number}: the plant is not changed: {text}\n")?;
+    if let NewPlantFault::InvalidPlant { fault: _ } = why {
+        let file = str::from_utf8(file).unwrap_or("");
+        let more = reason_of(alloc, Word::Serve, file, INVALID_PLANT)?;
+        reason.push_str(more.as_str())?;
+    }
+    Ok(reason)
+}
+
+/// Writes the reasons of refused changes to standard error as they come.
+#[derive(Drop)]
+pub(crate) struct RefusalReasons<'a, E> {
+    reasons: &'a mut E,
+}
+
+impl<'a, E: Write> RefusalReasons<'a, E> {
+    /// Returns the reasons that are written so.
+    pub(crate) fn new(reasons: &'a mut E) -> RefusalReasons<'a, E> {
+        RefusalReasons { reasons }
+    }
+}
+
+impl<E: Write> RefusalNotes for RefusalReasons<'_, E> {
+    fn note_refused(&mut self, alloc: Global, number: u64, file: &[u8], why: &NewPlantFault) {
+        tell(self.reasons, refusal_reason(alloc, number, file, why));
+    }
+}
