@@ -101,6 +101,8 @@ def take_input(case, sign, text):
         case.data += spelled(text) + (b"\n" if sign == ">" else b"")
     elif sign == "*":
         case.data += repeated(text.replace("|", "\n")).encode()
+    elif sign == "P":
+        case.data += change_of_plant(case.plant, text)
     elif sign in VARIED:
         digits, _, text = text.replace("|", "\n").partition(" ")
         case.data += "".join(text.replace("{}", varied) for varied in VARIED[sign](digits)).encode()
@@ -115,6 +117,13 @@ def changed(plant, change):
     if found is None:
         sys.exit(f"the plant has no {old!r} to change")
     return plant[:found.start()] + (repeated(new) if sign == "*>" else new) + plant[found.end():]
+
+
+def change_of_plant(plant, changes):
+    """Returns the lines that change a plant under `resume`: the line `P`, the plant file with changes that ` ~ ` separates, and `---`."""
+    for change in changes.split(" ~ ") if changes else []:
+        plant = changed(plant, change)
+    return b"P\n" + spelled(plant) + b"---\n"
 
 
 def repeated(text):

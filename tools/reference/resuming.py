@@ -1,10 +1,11 @@
-"""Runs the command `resume`: serves from a plant file or from a snapshot, and answers the line `K` by a snapshot."""
+"""Runs the command `resume`: serves from a plant file or from a snapshot, answers the line `K` by a snapshot, and changes the plant (`P`)."""
 
 import re
 
+from .changes import NotChanged, changed_core
 from .program import IO, PLANT, Core, Fault, judged_plant, text_of
 from .saving import snapshot_of
-from .services import served_lines, split_service
+from .services import answer_of_line, invalid_line, split_service
 from .snapshots import SnapshotFault, read_snapshot
 from .states import StateFault, books_of
 
@@ -19,7 +20,47 @@ def resumed(data):
         core, plant_text, lines = snapshot_begun(data) if data.startswith(SNAPSHOT) else plant_begun(data)
     except Fault as fault:
         return fault.status, fault.last_line + "\n"
-    return 0, served_lines(core, lines, lambda core: snapshot_of(core, plant_text))
+    return 0, "".join(Service(core, plant_text).answers(lines))
+
+
+class Service:
+    """A plant in service, and the text of its plant file."""
+
+    def __init__(self, core, plant_text):
+        self.core, self.plant_text = core, plant_text
+
+    def answers(self, lines):
+        """Yields the answer to each line. A plant file, with the line `P` before it and the line `---` after it, has one answer."""
+        number = 1
+        while number <= len(lines):
+            line, length = lines[number - 1], 1
+            if line == b"P":
+                file, length = split_file(lines[number:])
+                yield self.change(number, file)
+            else:
+                yield self.snapshot(number) if line == b"K" else answer_of_line(self.core, number, line)
+            number += length
+
+    def snapshot(self, number):
+        return snapshot_of(self.core, self.plant_text) or invalid_line(number)
+
+    def change(self, number, file):
+        """Changes the plant to that of a file. A file that is not ended is None, and refused."""
+        try:
+            if file is None:
+                raise NotChanged("the plant file is not ended")
+            self.core, self.plant_text = changed_core(self.core, file)
+        except NotChanged:
+            return invalid_line(number)
+        return f"P frame {self.core.books[0].frame}\n"
+
+
+def split_file(lines):
+    """Returns the plant file that lines begin with, and how many lines it takes with those before and after it. One that is not ended is None."""
+    if b"---" not in lines:
+        return None, 1 + len(lines)
+    end = lines.index(b"---")
+    return b"".join(line + b"\n" for line in lines[:end]), end + 2
 
 
 def plant_begun(data):

@@ -24,19 +24,23 @@ def split_service(data):
     return b"".join(line + b"\n" for line in lines[:bar]), lines[bar + 1:]
 
 
-def served_lines(core, lines, snapshot_of=None):
-    """Returns what a service prints for its lines. With `snapshot_of` it answers the line `K` by that text of the core, or None."""
+def served_lines(core, lines):
+    """Returns what a service prints for its lines."""
+    return "".join(answer_of_line(core, number, line) for number, line in enumerate(lines, 1))
+
+
+def answer_of_line(core, number, line):
+    """Returns what the steps of a line output, and its number if it is invalid or a step is refused."""
     out = []
-    for number, line in enumerate(lines, 1):
-        if line == b"K" and snapshot_of is not None:
-            text = snapshot_of(core)
-            out.append(f"fault: line {number}\n" if text is None else text)
-            continue
-        try:
-            core.run(judged_script(core.plant, [line_of(line)]), lambda text: out.append(text + "\n"))
-        except Fault:
-            out.append(f"fault: line {number}\n")
+    try:
+        core.run(judged_script(core.plant, [line_of(line)]), lambda text: out.append(text + "\n"))
+    except Fault:
+        out.append(invalid_line(number))
     return "".join(out)
+
+
+def invalid_line(number):
+    return f"fault: line {number}\n"
 
 
 def line_of(line):

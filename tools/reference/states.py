@@ -39,8 +39,9 @@ def book_of(plant, row, frame, state):
         judge_flow(frame, saved)
     judge_responses(state)
     book = Book(plant, row, frame, state.share, state.next_share, kept=state.responses, inbox=state.arrivals)
+    kinds = {entry.sfid: entry.kind for entry in state.responses if entry.waits}
     for saved in state.flows:
-        saved.flow.waiting = waiting_of(saved)
+        saved.flow.waiting = waiting_of(saved.pending, kinds.get(saved.flow.sfid))
         book.flows[saved.flow.sfid] = saved.flow
     judge_shares(book)
     return book
@@ -89,12 +90,9 @@ def has_no_set(flow):
     return (flow.provisioned, flow.admitted, flow.active) == (None, None, None)
 
 
-def waiting_of(saved):
-    """Returns what waits of a flow. A flow that is being added has no set yet."""
-    flow, pending = saved.flow, saved.pending
-    if pending is None:
-        return None
-    return Waiting("DSA" if has_no_set(flow) else "DSC", pending.admitted, pending.active)
+def waiting_of(pending, kind):
+    """Returns what waits of a flow, with the kind of the response that waits for it."""
+    return None if pending is None else Waiting(kind, pending.admitted, pending.active)
 
 
 def judge_shares(book):

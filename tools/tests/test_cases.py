@@ -12,7 +12,7 @@ from tools.ci import cases
 
 SECTION = (ROOT / "CONTRIBUTING.md").read_text().split("\n### How to write a case\n")[1].split("\n## ")[0]
 # Each line that a case may have, by how it begins.
-SIGNS = {*cases.EXPECTED, *cases.VARIED, "0", "~", "alone", ">", ".", "*", "=*", "check*", "-", "silent"}
+SIGNS = {*cases.EXPECTED, *cases.VARIED, "0", "~", "alone", ">", ".", "*", "P", "=*", "check*", "-", "silent"}
 
 
 def case_of(*lines):
@@ -34,7 +34,7 @@ class Document(unittest.TestCase):
         lines = re.findall(r"^\| `(.*?)` \|", SECTION, re.MULTILINE)
         self.assertEqual({line.split(" ")[0] for line in lines}, SIGNS)
         for line in lines:
-            if not line.startswith("~"):
+            if not line.startswith(("~", "P")):
                 case_of("0 run", line)
         for line in ("~ head = 8 > head = 9", "~ head = 8 *> 9 head = 9|"):
             self.assertNotEqual(case_of("0 run", line).plant, cases.PLANT)
@@ -58,6 +58,13 @@ class Input(unittest.TestCase):
         self.assertEqual(text_of("> a", "> b", ". c"), "a\nb\nc")
         self.assertEqual(case_of("0 run", r"> \r\t\xFF\x20").data, b"\r\t\xff \n")
         self.assertEqual(case_of("2 history 'A B'").words, ["history", "A B"])
+
+    def test_changes_of_plant(self):
+        self.assertEqual(text_of("> a", "P", "> b"), f"a\nP\n{cases.PLANT}---\nb\n")
+        changed = text_of("~ head = 8 > head = 7", "P head = 7 > head = 6|x = 1 ~ [plant] *> 2 #|")
+        self.assertEqual(changed, f"P\n{cases.PLANT.replace('[plant]', '#|#|').replace('head = 8', 'head = 6|x = 1')}---\n".replace("|", "\n"))
+        self.assertEqual(case_of("0 run", r"P [plant] > \xFF\r").data[:5], b"P\n\xff\r\n")
+        self.assertEqual(case_of("0 run", "P head = 8 > head = 7").plant, cases.PLANT)
 
     def test_repeated(self):
         self.assertEqual(text_of("* 3 {8} {8+4} {0:02x}|"), "8 8 00\n9 12 01\n10 16 02\n")
