@@ -51,6 +51,7 @@ for check in DSA\ {1..9} DSA\ {13,14,15,17,18,19,20,21,22} DSC\ {1..16} DSC\ {19
     grep -q " ${check/ / check }\(:\|$\)" "$work/met" || { echo "tools/compare/handwritten_inputs does not reach $check" >&2; exit 1; }
 done
 quietly "$tools/compare/resumed_cases" 0 10
+quietly "$tools/compare/changed_cases" 0 25
 echo 'the second implementation agrees with the documents, and the generator with itself'
 
 if [ -x "$program" ]; then
@@ -59,6 +60,7 @@ if [ -x "$program" ]; then
     "$tools/compare/generated_cases" --capture 0 50
     "$tools/compare/generated_cases" --trace 0 50
     "$tools/compare/resumed_cases" 0 25 --program "$program"
+    "$tools/compare/changed_cases" 0 50 --program "$program"
     quietly "$tools/compare/threads_as_run"
     quietly "$tools/compare/handwritten_inputs" --compare
     quietly "$tools/compare/odd_spellings"
