@@ -31,6 +31,7 @@ MOST_EXPOSURE = 3.0
 WRITE_AT_ONCE = 4_096
 PAGES = ("plant_script", "plant_script-serve", "plant.toml")
 PACKAGE = "plant-script"
+NEW_MODEM = "02000000FFFF"
 
 
 def want(condition, what):
@@ -158,7 +159,7 @@ def second_channel(box):
 
 def killed(box):
     """Kills the program: the channel starts anew, without its flows. Then kills the process that copies the lines: it goes on with its state."""
-    for count, which in enumerate(("systemctl show -P MainPID plant@east", "for p in /proc/[0-9]*; do case $(tr '\\0' ' ' <$p/cmdline) in grep*) basename $p ;; esac; done"), 1):
+    for count, which in enumerate(("systemctl show -P MainPID plant@east", "for p in /proc/[0-9]*; do case $(tr '\\0' ' ' <$p/cmdline) in sed*) basename $p ;; esac; done"), 1):
         box.run(f"kill -KILL $({which})")
         box.wait_until("systemctl show -P NRestarts plant@east", lambda output, count=count: output == f"{count}\n", "no restart")
         box.wait_until("systemctl is-active plant@east", lambda output: output == "active\n", "not active")
@@ -179,6 +180,26 @@ def goes_on(box):
     send(box, "east", LINES)
     wait_for_answers(box, "east", before + state + box.ask("plant_script resume", state + "---\n" + LINES))
     return "a restart keeps the state of the channel"
+
+
+def reloaded(box):
+    """Lists a modem while the channel runs: its lines are answered then, and the flows of the others go on. A change that is refused
+    leaves the channel as it is."""
+    before, plant = answers(box, "east"), (box.folder / "etc/plant_script/east.toml").read_text()
+    request = f"M {NEW_MODEM} 0F0001180A010200010601060F0102\n"
+    send(box, "east", request)
+    box.wait_until("tail -n 1 /var/lib/plant_script/east/answers", lambda output: output.startswith("fault: line "), "an unknown modem has an answer")
+    set_plant(box, "east", re.sub(r"(modems = \[)", rf'\1"{NEW_MODEM}", ', plant, count=1))
+    box.run("systemctl reload plant@east")
+    send(box, "east", request)
+    output = box.wait_until("cat /var/lib/plant_script/east/answers", lambda output: f"R {NEW_MODEM} " in output, "a new modem has no answer")
+    want(re.search(r"\nP frame \d+\n", output.removeprefix(before)), "the answers have no change")
+    set_plant(box, "east", plant)
+    want(box.status_of("systemctl reload plant@east")[0], "a modem with a flow is removed")
+    want(shown(box, "plant@east", "ActiveState") == ["active"], "a refused change ended the channel")
+    send(box, "east", "P\n" + request)
+    box.wait_until("tail -n 1 /var/lib/plant_script/east/answers", lambda output: output.startswith(f"R {NEW_MODEM} "), "a refused change changed the plant")
+    return "a reload adds a modem, and one that is refused leaves the channel as it is"
 
 
 def stopped_at_work(box):
@@ -318,8 +339,8 @@ def trials(box, package, work):
     """Yields a line for each trial."""
     yield lintian(package)
     yield install(box, package)
-    for trial in (complete, verify_units, as_the_page_says, first_start, invalid_line, rights, second_channel, killed, goes_on, ticked, stopped_at_work, invalid_plant,
-                  full_disk, recorded, rebooted):
+    for trial in (complete, verify_units, as_the_page_says, first_start, invalid_line, rights, second_channel, killed, goes_on, reloaded, ticked,
+                  stopped_at_work, invalid_plant, full_disk, recorded, rebooted):
         yield trial(box)
     yield upgraded(box, package, work)
     yield purged(box)

@@ -3,6 +3,8 @@
 tools/ci/package_trial tries the same script under systemd with the real program. The units' exposure is tested if systemd-analyze is there.
 """
 
+import contextlib
+import fcntl
 import io
 import os
 import pathlib
@@ -10,7 +12,9 @@ import re
 import shutil
 import signal
 import subprocess
+import sys
 import tempfile
+import termios
 import time
 import unittest
 
@@ -23,14 +27,15 @@ SECONDS = 10
 # A test that waits fails after this time, once the script has an edit.
 SECONDS_OF_EDIT = 2
 MOST_EXPOSURE = 3.0
-# `check` refuses a plant with the word bad. `serve` answers each line; `die` kills it, and `slow` keeps it busy. `resume` begins with a
-# plant file or a snapshot, and answers K by a snapshot with the plant file of the tests.
+# `check` refuses a plant with the word bad. `serve` answers each line; `die` kills it, `slow` keeps it busy, and `hold` until there is a file `go`. `resume` begins with a
+# plant file or a snapshot, and answers K by a snapshot with the plant file of the tests. It answers P by the plant file on a line and the
+# line of a change, unless the file is empty or has the word refused.
 PROGRAM = r"""#!/bin/sh
 case $1 in
 check) cat >"$FOLDER/checked"; if grep -q bad "$FOLDER/checked"; then echo fault: plant 1; echo a reason >&2; exit 3; fi; echo ok ;;
 serve) while read -r line && [ "$line" != --- ]; do echo "P $line"; done
     while read -r line || [ -n "$line" ]; do
-        case $line in die) kill -9 $$ ;; slow) sleep 0.3 ;; esac
+        case $line in die) kill -9 $$ ;; slow) sleep 0.3 ;; hold) until [ -e "$FOLDER/go" ]; do sleep 0.02; done ;; esac
         echo "A $line"
     done
     echo end; exit 6 ;;
@@ -43,12 +48,18 @@ resume) bars=1
         case $line in
         K) printf 'melfjits-snapshot 1 12\na = 1\nb = 2\n---\nframe 1 0\nend 5 9\n' ;;
         half) kill -9 $$ ;;
+        slow) sleep 0.3 ;;
+        hold) until [ -e "$FOLDER/go" ]; do sleep 0.02; done ;;
+        P) file=
+            while read -r line && [ "$line" != --- ]; do file="$file$line;"; done
+            case $file in '' | *refused* | *'= cut off'*) echo fault: line 9 ;; *) printf 'C %s\nP frame 7\n' "$file" ;; esac ;;
         *) echo "A $line" ;;
         esac
     done ;;
 esac
 """
 PLANT = "a = 1\nb = 2"
+USAGE = "serve_channel PLANT, serve_channel --change PLANT PIPE, or serve_channel --keep-state"
 SNAPSHOT = "melfjits-snapshot 1 12\na = 1\nb = 2\n---\nframe 1 0\nend 5 9\n"
 
 
@@ -88,20 +99,26 @@ class Channel(unittest.TestCase):
         return process
 
     def end(self, process):
-        """Ends what a test left running."""
-        if process.poll() is None:
+        """Ends what a test left running: also the processes of a channel whose program was killed."""
+        with contextlib.suppress(ProcessLookupError):
             os.killpg(process.pid, signal.SIGKILL)
-            process.wait()
+        process.wait()
 
     def send(self, text):
         os.write(self.pipe, text.encode())
+
+    def waiting_bytes(self):
+        """Returns how many bytes wait in the pipe."""
+        return int.from_bytes(fcntl.ioctl(self.pipe, termios.FIONREAD, bytes(4)), sys.byteorder)
 
     def wait_for(self, text):
         wait_until(lambda: self.answers.exists() and self.answers.read_text() == text)
 
     def stop(self, process):
-        """Ends the channel as systemd does: SIGTERM for each of its processes. Returns the exit status."""
+        """Ends the channel as systemd does: SIGTERM for each of its processes. Returns the exit status. A program that holds goes on then."""
         os.killpg(process.pid, signal.SIGTERM)
+        time.sleep(0.05)
+        self.write("go", "")
         return process.wait(SECONDS)
 
     def refused(self, process):
@@ -154,8 +171,8 @@ class Channel(unittest.TestCase):
         self.assertEqual((status, errors), (3, "serve_channel: cannot read the plant file /nowhere/plant.toml\n"))
 
     def test_wrong_arguments_are_refused(self):
-        for words in ([], ["one", "two"]):
-            self.assertEqual(self.refused(self.start(words=words)), (2, "serve_channel: usage: serve_channel PLANT, or serve_channel --keep-state\n"))
+        for words in ([], ["one", "two"], ["--change"], ["--change", "one"], ["--keep", "one", "two"], ["--change", "one", "two", "three"]):
+            self.assertEqual(self.refused(self.start(words=words)), (2, f"serve_channel: usage: {USAGE}\n"))
 
     def test_answers_that_cannot_be_written_are_refused(self):
         self.assertEqual(self.refused(self.start(ANSWERS="/nowhere/answers"))[0], 6)
@@ -186,6 +203,24 @@ class Channel(unittest.TestCase):
             self.stop(process)
         self.assertEqual([path.read_text() for path in sorted((self.folder / "records").iterdir())],
                          ["a = 1\nb = 2\n---\none\ntwo\n", "a = 1\nb = 2\n---\nthree\n"])
+
+    def test_a_stop_records_what_is_answered(self):
+        """Stops a channel whose program holds while more lines wait than pipes hold. The lines have different lengths."""
+        (self.folder / "records").mkdir()
+        process = self.start(RECORDS=str(self.folder / "records"))
+        lines = ["hold"] + [f"{number:0{90 + number % 19}}" for number in range(4_000)]
+        self.write("lines", "\n".join(lines) + "\n")
+        client = subprocess.Popen(["sh", "-c", "cat lines >in"], cwd=self.folder)
+        wait_until(lambda: self.waiting_bytes() > 60_000)
+        time.sleep(0.2)
+        self.assertEqual(self.stop(process), 6)
+        client.kill()
+        client.wait()
+        answered = [line.removeprefix("A ") for line in self.answers.read_text().splitlines()[2:-1]]
+        self.assertTrue(1 < len(answered) < 4_001)
+        self.assertEqual(answered, lines[:len(answered)])
+        record = next((self.folder / "records").iterdir()).read_text()
+        self.assertEqual(record, "a = 1\nb = 2\n---\n" + "".join(f"{line}\n" for line in answered))
 
     def keep_state(self, result="success"):
         words = {"PATH": os.environ["PATH"], "ANSWERS": str(self.answers), "STATE": str(self.folder / "state"), "SERVICE_RESULT": result}
@@ -228,6 +263,106 @@ class Channel(unittest.TestCase):
         self.keep_state()
         self.assertFalse((self.folder / "state").exists())
 
+    def change(self, plant, pipe="in", **environment):
+        """Changes the plant as a reload does. Returns the exit status, and what is said."""
+        words = {"PATH": os.environ["PATH"], "PLANT_SCRIPT": str(self.program), "FOLDER": str(self.folder), "ANSWERS": str(self.answers),
+                 "STATE": str(self.folder / "state"), "CHANGE_SECONDS": "1", **environment}
+        command = [self.script, "--change", self.write("plant.toml", plant), self.folder / pipe]
+        done = subprocess.run(command, stdin=subprocess.DEVNULL, capture_output=True, text=True, env=words, cwd=self.folder, timeout=SECONDS, check=False)
+        self.assertEqual(done.stdout, "")
+        return done.returncode, done.stderr
+
+    def start_and_send(self, text="one\n"):
+        process = self.start_with_state()
+        self.send(text)
+        self.wait_for("P a = 1\nP b = 2\n" + "".join(f"A {line}\n" for line in text.splitlines()))
+        self.answers.write_text("")
+        return process
+
+    def test_a_reload_changes_the_plant(self):
+        process = self.start_and_send()
+        for number in ("2", "3"):
+            status, errors = self.change(f"a = {number}\n---\nbad\n")
+            self.assertEqual(status, 0)
+            self.assertIn(f"the plant is that of {self.folder}/plant.toml from frame 7 on.", errors)
+        self.send("two\n")
+        self.wait_for("C a = 2;\nP frame 7\nC a = 3;\nP frame 7\nA two\n")
+        self.assertEqual(list(self.folder.glob("state*")), [])
+        self.assertEqual(self.stop(process), 0)
+
+    def test_a_refused_change_is_reported(self):
+        self.start_and_send()
+        self.assertEqual(self.change("a = 2\n")[0], 0)
+        status, errors = self.change("refused\n")
+        self.assertEqual(status, 1)
+        self.assertIn("no answer that the plant is changed", errors)
+        self.send("two\n")
+        self.wait_for("C a = 2;\nP frame 7\nfault: line 9\nA two\n")
+
+    def test_a_change_waits_for_its_answer(self):
+        self.start_and_send()
+        os.write(self.pipe, b"slow\n" * 4)
+        self.assertEqual(self.change("a = 2\n", CHANGE_SECONDS="9")[0], 0)
+
+    def test_no_line_of_a_client_comes_into_a_plant_file(self):
+        self.start_and_send()
+        lines = "".join(f"line{number}\n" for number in range(3_000))
+        client = subprocess.Popen(["sh", "-c", 'while read -r line; do echo "$line"; done >in'], cwd=self.folder, stdin=subprocess.PIPE, text=True)
+        self.addCleanup(client.wait)
+        with client.stdin:
+            client.stdin.write(lines[:len(lines) // 2])
+            client.stdin.flush()
+            file = [f"key{number} = 1" for number in range(3_000)]
+            status = self.change("\n".join(file), CHANGE_SECONDS="8")[0]
+            client.stdin.write(lines[len(lines) // 2:])
+        self.assertEqual(status, 0)
+        wait_until(lambda: self.answers.read_text().count("A line") == 3_000)
+        answers = [line for line in self.answers.read_text().splitlines() if not line.startswith("A line")]
+        self.assertEqual(answers, ["C " + "".join(f"{line};" for line in file), "P frame 7"])
+
+    def test_an_invalid_plant_file_is_not_sent(self):
+        self.start_and_send()
+        status, errors = self.change("bad\n")
+        self.assertEqual((status, errors.splitlines()[:2]), (3, ["fault: plant 1", "a reason"]))
+        self.send("two\n")
+        self.wait_for("A two\n")
+
+    def test_a_stop_within_a_plant_file_keeps_the_state(self):
+        process = self.start_and_send()
+        self.send("hold\n")
+        self.change("".join(f"key{number} = 1\n" for number in range(20_000)), CHANGE_SECONDS="0")
+        wait_until(lambda: self.waiting_bytes() == 0)
+        time.sleep(0.2)
+        self.assertEqual(self.stop(process), 0)
+        self.assertEqual(self.answers.read_text(), f"fault: line 9\n{SNAPSHOT}")
+
+    def test_a_client_changes_no_plant(self):
+        (self.folder / "state.plant").write_text("a = 2\n")
+        self.start_and_send()
+        self.send("P\none\n")
+        self.wait_for("fault: line 9\nA one\n")
+
+    def test_a_channel_without_a_state_is_not_changed(self):
+        self.start()
+        self.send("P\none\n")
+        self.wait_for("P a = 1\nP b = 2\nA P\nA one\n")
+        for environment in ({"STATE": ""}, {"ANSWERS": ""}, {"ANSWERS": "/nowhere/answers"}, {"pipe": "program"}):
+            status, errors = self.change("a = 2\n", **environment)
+            self.assertEqual((status, errors[:57]), (2, "serve_channel: no channel runs with STATE, ANSWERS and th"))
+        self.assertEqual(self.program.read_text(), PROGRAM)
+
+    def test_a_change_is_recorded_with_its_plant_file(self):
+        (self.folder / "records").mkdir()
+        process = self.start(RECORDS=str(self.folder / "records"), STATE=str(self.folder / "state"))
+        self.send("one\n")
+        self.wait_for("P a = 1\nP b = 2\nA one\n")
+        self.assertEqual(self.change("a = 2\n")[0], 0)
+        self.send("two\n")
+        self.wait_for("P a = 1\nP b = 2\nA one\nC a = 2;\nP frame 7\nA two\n")
+        self.assertEqual(self.stop(process), 0)
+        record = next((self.folder / "records").iterdir()).read_text()
+        self.assertEqual(record, "a = 1\nb = 2\n---\none\nP\na = 2\n---\ntwo\n")
+
     def test_readiness_is_reported_once_the_plant_file_is_checked(self):
         (self.folder / "bin").mkdir()
         self.write("bin/systemd-notify", '#!/bin/sh\n[ -e "$FOLDER/checked" ] && echo "$*" >"$FOLDER/notified"\n', 0o755)
@@ -262,25 +397,44 @@ EDITS = [
     ("a_state_with_another_plant_file_is_put_aside", 'mv -- "$STATE" "$STATE.old"', "true"),
     ("no_state_is_kept_if_an_answer_follows", "*) return 0 ;; esac", "esac"),
     ("no_state_is_kept_of_a_channel_that_was_killed", '[ "${SERVICE_RESULT-success}" = success ] && ', ""),
-    ("a_stop_leaves_no_part_of_a_line", "LC_ALL=C exec grep --text --line-buffered ''", "exec cat"),
-    ("bytes_that_are_no_text_are_passed_on", "--text --line-buffered", "--line-buffered"),
-    ("lines_of_clients_that_come_and_go_are_answered", "--text --line-buffered", "--text"),
+    ("a_stop_leaves_no_part_of_a_line", 'LC_ALL=C exec stdbuf --output=L sed "$script"', "exec cat"),
+    ("lines_of_clients_that_come_and_go_are_answered", "stdbuf --output=L sed", "sed"),
     ("the_plant_file_ends_at_its_separator", "'/^---$/ { exit } ", "'"),
     ("the_plant_file_ends_at_its_separator", "plant_file && echo ---; }", "plant_file; }"),
     ("a_missing_plant_file_is_refused", "    exit 3\n", "    exit 1\n"),
     ("an_invalid_plant_file_is_refused_with_its_reason", '    exit "$status"\n', "    exit 1\n"),
     ("an_invalid_plant_file_is_refused_with_its_reason", "check >&2\n", "check >/dev/null\n"),
     ("an_invalid_plant_file_is_refused_with_its_reason", "status=${PIPESTATUS[1]}", "status=${PIPESTATUS[0]}"),
-    ("answers_that_cannot_be_written_are_refused", "|| exit 6", "|| true"),
+    ("answers_that_cannot_be_written_are_refused", '>>"$ANSWERS"; } || exit 6', '>>"$ANSWERS"; } || true'),
     ("answers_are_appended_and_a_cut_line_is_ended", "end_cut_line && exec", "exec"),
     ("answers_are_appended_and_a_cut_line_is_ended", '[ -z "$(tail -c 1 -- "$ANSWERS")" ] || ', ""),
     ("answers_are_appended_and_a_cut_line_is_ended", 'exec >>"$ANSWERS"', 'exec >"$ANSWERS"'),
     ("each_start_records_all_input", 'beginning_and_separator | tee -- "$record" && ', "beginning_and_separator && "),
-    ("each_start_records_all_input", 'tee --append -- "$record" | ', ""),
+    ("each_start_records_all_input", ' | (trap \'\' TERM && exec tee --append -- "$record")', ""),
+    ("a_stop_records_what_is_answered", ' | (trap \'\' TERM && exec tee --append -- "$record")', ""),
+    ("a_change_is_recorded_with_its_plant_file", '(copy_lines) | (trap \'\' TERM && exec tee --append -- "$record")', 'tee --append -- "$record" | (copy_lines)'),
+    ("a_reload_changes_the_plant", "{ plant_file >", "{ cat <$plant >"),
+    ("a_reload_changes_the_plant", '    rm -f -- "$change"\n    say', "    say"),
+    ("a_stop_within_a_plant_file_keeps_the_state", "end_cut_file; echo K)", "echo K)"),
+    ("a_stop_within_a_plant_file_keeps_the_state", "\\n= cut off\\n---", "\\n---"),
+    ("a_reload_changes_the_plant", "    echo P >>", "    echo p >>"),
+    ("a_reload_changes_the_plant", "from frame ${answer#P frame } on", "from frame ${answer} on"),
+    ("a_refused_change_is_reported", '--bytes="+$(($1 + 1))"', "--bytes=+1"),
+    ("a_refused_change_is_reported", "        exit 1\n", "        exit 0\n"),
+    ("a_change_waits_for_its_answer", "((tries-- > 0)) || return", "return 1"),
+    ("no_line_of_a_client_comes_into_a_plant_file", "    echo P >>\"$1\"", "    { echo P; plant_and_separator; } >>\"$1\""),
+    ("an_invalid_plant_file_is_not_sent", "    check_plant\n    {", "    {"),
+    ("a_client_changes_no_plant", '[ -z "$change" ] || rm -f -- "$change"\n', ""),
+    ("a_channel_without_a_state_is_not_changed", '[ -z "$change" ] || script=', "script="),
+    ("a_channel_without_a_state_is_not_changed", 'if [ -z "$change" ] || ', "if "),
+    ("a_channel_without_a_state_is_not_changed", '[ ! -f "${ANSWERS-}" ] || ', ""),
+    ("a_channel_without_a_state_is_not_changed", ' || [ ! -p "$1" ]', ""),
     ("each_start_records_all_input", "$(date --utc +%Y%m%dT%H%M%S.%3NZ)", "record"),
     ("the_end_of_the_program_is_the_end_of_the_script", 'exec "$program" serve', '"$program" serve'),
     ("readiness_is_reported_once_the_plant_file_is_checked", "systemd-notify --ready", "true --ready"),
-    ("wrong_arguments_are_refused", "    exit 2\n", "    exit 1\n"),
+    ("wrong_arguments_are_refused", "    exit 2\nfi\n\n# Keeps", "    exit 1\nfi\n\n# Keeps"),
+    ("wrong_arguments_are_refused", ' || [ "$1" = --change ]', ""),
+    ("wrong_arguments_are_refused", '[ "$#:${1-}" != 3:--change ]', "[ $# != 3 ]"),
 ]
 
 
