@@ -2,19 +2,21 @@
 
     tools/compare/resumed_cases FIRST COUNT                    the seeds FIRST to FIRST + COUNT - 1, by the second implementation alone
     tools/compare/resumed_cases FIRST COUNT --program PATH     the same by a built program, compared with the second implementation
+    tools/compare/resumed_cases FIRST COUNT .. --spoiled N     with N spoiled snapshots of each script, in place of 20
 
 For each seed that has a valid plant file and a script:
 
   - The output up to the cut, with a snapshot there, and the output of what is resumed from that snapshot, are together the output of the
     whole under `resume`. Both end with a snapshot, so the states are equal too. Without the snapshots it is the output under `serve`.
   - With a program, the outputs of both implementations are the same, snapshots included.
-  - Twenty snapshots are spoiled: bits and bytes are changed, numbers are other ones, fields are copied from other records, lines are cut,
+  - Snapshots are spoiled: bits and bytes are changed, numbers are other ones, fields are copied from other records, lines are cut,
     swapped and repeated. Half of them get a right last line again. With a program, both give the same status and first line of output.
     Without one, the second implementation only has to answer.
 
 Prints how many cases there were, and the first lines that spoiled snapshots gave. Exits with 1 at the first seed that differs.
 """
 
+import argparse
 import random
 import re
 import sys
@@ -206,10 +208,10 @@ def repeat_line(rng, snapshot):
     return b"\n".join(lines)
 
 
-def judge_spoiled(answers, seed, cut, snapshot):
-    """Counts by their first lines what spoiled snapshots are answered."""
+def judge_spoiled(answers, seed, cut, snapshot, times=SPOILED):
+    """Counts by their first lines what so many spoiled snapshots are answered."""
     rng, counts = random.Random(f"spoiled {seed}"), Counter()
-    for _ in range(SPOILED):
+    for _ in range(times):
         lines = ["T", *cut.after[:20], "K"]
         data = spoiled(rng, snapshot) + b"---\n" + "".join(f"{line}\n" for line in lines).encode()
         counts[kind_of(answers.of(["resume"], data, first_line))] += 1
@@ -224,7 +226,7 @@ def kind_of(answer):
 
 # Counting
 
-def compare(answers, first, count):
+def compare(answers, first, count, times):
     counts, kinds = Counter(), Counter()
     for seed in range(first, first + count):
         cut = cut_of(seed)
@@ -232,7 +234,7 @@ def compare(answers, first, count):
             counts["seeds without a plant that rests at a cut"] += 1
             continue
         try:
-            kinds += judge_spoiled(answers, seed, cut, judge_cut(answers, cut))
+            kinds += judge_spoiled(answers, seed, cut, judge_cut(answers, cut), times)
         except Differs as found:
             show(seed, *found.args)
             return 1
@@ -250,12 +252,13 @@ def show(seed, data, answer, expected):
 
 def main():
     show_help(__doc__)
-    words, program = sys.argv[1:], None
-    if words[2:3] == ["--program"] and len(words) == 4:
-        words, program = words[:2], words[3]
-    if len(words) != 2 or not all(word.isdigit() for word in words):
-        sys.exit(__doc__)
-    sys.exit(compare(Answers(program), int(words[0]), int(words[1])))
+    ask = argparse.ArgumentParser("resumed_cases", add_help=False)
+    ask.add_argument("first", type=int)
+    ask.add_argument("count", type=int)
+    ask.add_argument("--program")
+    ask.add_argument("--spoiled", type=int, default=SPOILED)
+    asked = ask.parse_args()
+    sys.exit(compare(Answers(asked.program), asked.first, asked.count, asked.spoiled))
 
 
 if __name__ == "__main__":
