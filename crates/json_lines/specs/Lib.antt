@@ -1,4 +1,5 @@
 pub mod NoteMembers
 pub mod Props
+pub mod Sources
 pub mod Writable
 pub mod Written

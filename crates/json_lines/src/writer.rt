@@ -2,6 +2,7 @@
 
 ghost use Rattle.std.specs.Prelude.{◌≡◌, ◌≤◌, [], false, None, Some, IfOk, length};
 ghost use Rattle.json_lines.specs.declared.writer.LineSource.TheVariants as sources;
+ghost use Rattle.json_lines.specs.Sources.{begun_line, with_next_check};
 
 use crate::context::{DecidingCheck, OutputContext, OutputNote, TakenLine};
 use crate::members::{put_comparison_line, put_line, put_note};
@@ -129,14 +130,20 @@ impl<'a, W: Write> JsonLines<'a, W> {
     }
 
     /// Begins a line of the script of a service. Has no effect on another source.
-    pub fn begin_line(&mut self, number: u64) {
+    pub fn begin_line(&mut self, number: u64)
+        ensures source { self.new.source ≡ begun_line number self.old.source }
+        ensures same { (self.new.held.items ≡ self.old.held.items) × (self.new.is_full ≡ self.old.is_full) }
+    {
         if let LineSource::Service(context) = &mut self.source {
             context.begin_line(number);
         }
     }
 
     /// Says which check decides the next output of a service, if one does. Has no effect on another source.
-    pub fn say_check(&mut self, check: Option<DecidingCheck>) {
+    pub fn say_check(&mut self, check: Option<DecidingCheck>)
+        ensures source { self.new.source ≡ with_next_check check self.old.source }
+        ensures same { (self.new.held.items ≡ self.old.held.items) × (self.new.is_full ≡ self.old.is_full) }
+    {
         if let LineSource::Service(context) = &mut self.source {
             context.say_check(check);
         }
