@@ -14,6 +14,3 @@ pub use context::{Comparison, DecidingCheck, OutputNote};
 pub use object::{JsonObject, write_object};
 pub use trace_notes::TraceNotes;
 pub use writer::{JsonLines, LineSource};
-
-#[cfg(test)]
-mod tests;

@@ -11,6 +11,3 @@ pub use options::{
     OptionName, OptionsFault, OutputFormat, ProgramOptions, SeparatedWords, UnknownKeyHandling,
 };
 pub use separating::separate;
-
-#[cfg(test)]
-mod tests;

@@ -1,10 +1,13 @@
-//! Tests of library calls that no run of the program shows: encodings, MAPs, and allocations that fail in the lower layers.
+//! Tests of library calls that no run of the program shows: encodings, MAPs, a journal, and allocations that
+//! fail in the lower layers.
 #![tactic(auto)]
 
 #[cfg(test)]
 mod encodings;
 #[cfg(test)]
 mod gathering;
+#[cfg(test)]
+mod journal;
 #[cfg(test)]
 mod keeping;
 #[cfg(test)]

@@ -1,6 +1,6 @@
 //! What options are separated from words, and which are refused.
 
-use crate::{OptionsFault, OutputFormat, UnknownKeyHandling, separate};
+use program_options::{OutputFormat, UnknownKeyHandling, separate};
 use std::test::Fail;
 
 #[test]
