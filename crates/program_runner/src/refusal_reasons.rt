@@ -5,8 +5,11 @@ use crate::begin_reasons::state_text;
 use command_line::Word;
 use diagnostics::reason_of;
 use live_core::{RestFault, ResumeFault};
+use operator_book::StateFault;
+use plant::{Op, OperatorName};
 use plant_restart::{ChangeFault, RestartFault};
 use resumed_service::{NewPlantFault, RefusalNotes};
+use slice_table::read_plant;
 use std::alloc::{AllocError, Global};
 use std::io::Write;
 
@@ -48,8 +51,34 @@ fn core_text(alloc: Global, why: ResumeFault) -> Result<String, AllocError> {
     }
 }
 
+/// Returns the name of an operator of a plant file by its place, or nothing if memory runs out.
+fn operator_named(alloc: Global, file: &[u8], op: Op) -> Option<OperatorName> {
+    let text = str::from_utf8(file).ok()?;
+    let plant = read_plant(alloc, text).ok()?;
+    let row = plant.rows().get(op)?;
+    Some(row.get_fields().name)
+}
+
+/// Returns why an operator of the plant file does not go on in its state, and what to do.
+fn operator_text(
+    alloc: Global,
+    file: &[u8],
+    op: Op,
+    why: StateFault,
+) -> Result<String, AllocError> {
+    let text = state_text(alloc, why)?;
+    match operator_named(alloc, file, op) {
+        Some(name) => format!(in alloc;
+            "operator {name} cannot go on: {text}; change its table, or give it another name"
+        ),
+        None => format!(in alloc;
+            "operator {op} of the file (counted from 0) cannot go on: {text}; change its table, or give it another name"
+        ),
+    }
+}
+
 /// Returns why the plant in service is not changed to a valid plant file, and what to do.
-fn change_text(alloc: Global, why: ChangeFault) -> Result<String, AllocError> {
+fn change_text(alloc: Global, file: &[u8], why: ChangeFault) -> Result<String, AllocError> {
     match why {
         ChangeFault::ConstantsDiffer => String::from_str(
             alloc,
@@ -58,12 +87,7 @@ fn change_text(alloc: Global, why: ChangeFault) -> Result<String, AllocError> {
         ChangeFault::Unfinished { why } => rest_text(alloc, why),
         ChangeFault::Restart {
             why: RestartFault::State { op, why },
-        } => {
-            let text = state_text(alloc, why)?;
-            format!(in alloc;
-                "operator {op} of the file (counted from 0) cannot go on: {text}; change its table, or give it another name"
-            )
-        }
+        } => operator_text(alloc, file, op, why),
         ChangeFault::Restart {
             why: RestartFault::Core { why },
         } => core_text(alloc, why),
@@ -74,7 +98,7 @@ fn change_text(alloc: Global, why: ChangeFault) -> Result<String, AllocError> {
 }
 
 /// Returns why the plant is not changed to a plant file, and what to do. It is part of a sentence.
-fn fault_text(alloc: Global, why: &NewPlantFault) -> Result<String, AllocError> {
+fn fault_text(alloc: Global, file: &[u8], why: &NewPlantFault) -> Result<String, AllocError> {
     match why {
         NewPlantFault::NotEnded => String::from_str(
             alloc,
@@ -93,7 +117,7 @@ fn fault_text(alloc: Global, why: &NewPlantFault) -> Result<String, AllocError> 
             "the plant file is invalid, for the reasons that follow; its lines are counted from 1",
         ),
         NewPlantFault::NotChanged { why } => {
-            let text = change_text(alloc, *why)?;
+            let text = change_text(alloc, file, *why)?;
             format!(in alloc; "the plant file does not fit the plant in service: {text}")
         }
         NewPlantFault::NoMemory => String::from_str(alloc, "memory ran out; repeat the change"),
@@ -108,7 +132,7 @@ fn refusal_reason(
     file: &[u8],
     why: &NewPlantFault,
 ) -> Result<String, AllocError> {
-    let text = fault_text(alloc, why)?;
+    let text = fault_text(alloc, file, why)?;
     let mut reason = format!(in alloc; "line {number}: the plant is not changed: {text}\n")?;
     if let NewPlantFault::InvalidPlant { fault: _ } = why {
         let file = str::from_utf8(file).unwrap_or("");
