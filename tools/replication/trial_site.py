@@ -1,5 +1,6 @@
 """Runs the channels of the trials: two replicas of each on two of the machines, a load for each, and a watch of its answers."""
 
+import contextlib
 import os
 import pathlib
 import signal
@@ -25,7 +26,7 @@ def wait_until(is_done, seconds, what):
     begun = time.monotonic()
     while not is_done():
         if time.monotonic() - begun > seconds:
-            raise Failed(f"not within {seconds} seconds: {what}")
+            raise Failed(f"not within {seconds:.0f} seconds: {what}")
         time.sleep(LOOK)
     return time.monotonic() - begun
 
@@ -144,13 +145,20 @@ class Site:
         if ended:
             raise Failed(f"a replica ended by itself: {', '.join(ended)}")
 
-    def wait_for_answers(self):
-        """Waits until each channel has answered what was published by now, and is less than half a second behind."""
+    def wait_for_answers(self, seconds=None):
+        """Waits until each channel has answered what was published by now, and is less than half a second behind. Fails after so many seconds."""
+        end = time.monotonic() + (seconds or self.asked.seconds)
         goals = {name: load.published + 1 for name, load in self.loads.items()}
         most_behind = (self.asked.ticks + self.asked.lines) * 0.5
         for name, goal in goals.items():
             load, watch = self.loads[name], self.watches[name]
-            wait_until(lambda: watch.last >= goal and load.published - watch.last < most_behind, self.asked.seconds, f"answers of {name}")
+            wait_until(lambda: watch.last >= goal and load.published - watch.last < most_behind,
+                       max(0, end - time.monotonic()), f"answers of {name}")
+
+    def do_answer_within(self, seconds):
+        """Waits until each channel answers again, for so many seconds at most."""
+        with contextlib.suppress(Failed):
+            self.wait_for_answers(seconds)
 
     def wait_for_node(self, machine):
         """Waits until the node of a machine has copies of all streams that grow."""

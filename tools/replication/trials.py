@@ -12,7 +12,8 @@ replicas on two machines, a load of script lines and ticks, and a reader of its 
     machine      the node on one machine and its replicas are killed at once
     steady       nothing is killed: prints processor time and delays, in place of a row of the table
 
-After each, what was killed is started again, and the next trial waits until it serves. At the end of a kind, what a reader got is compared
+After each, what was killed is started again, at the latest half a minute after it was killed, as a manager of services does. The next trial
+waits until it serves, and until all channels answer. At the end of a kind, what a reader got is compared
 with what the program answers to the lines of the log, by one process that was never killed. The table has for each kind how often it was
 tried, the longest pause between two answers of a channel from the fault to the end of its repair (median and worst over the channels), and
 how many answers were lost, came twice or were different.
@@ -36,7 +37,7 @@ from tools.compare.program import PROGRAM
 from . import engine
 
 PACKAGES = ("rabbitmq-server", "python3-pika", "iproute2", "util-linux")
-PARTITION_SECONDS, STEADY_SECONDS = 15, 30
+PARTITION_SECONDS, STEADY_SECONDS, REPAIR_SECONDS = 15, 30, 30
 
 
 def read_arguments():
@@ -65,13 +66,13 @@ def read_arguments():
     return asked
 
 
-# The kinds: each does the fault, waits until all channels answer again, and repairs
+# The kinds: each does the fault, waits until all channels answer again, for half a minute at most, and repairs
 
 def kill_active(site, _turn):
     killed = [site.active(name) for name in site.names]
     for replica in killed:
         replica.kill()
-    site.wait_for_answers()
+    site.do_answer_within(REPAIR_SECONDS)
     for replica in killed:
         replica.start()
 
@@ -87,7 +88,7 @@ def kill_both(site, _turn):
 def kill_node(site, turn):
     machine = site.machines[turn % len(site.machines)]
     machine.kill_node()
-    site.wait_for_answers()
+    site.do_answer_within(REPAIR_SECONDS)
     machine.start_node()
     site.wait_for_node(machine)
 
@@ -96,7 +97,7 @@ def cut_off(site, turn):
     machine = site.machines[turn % len(site.machines)]
     machine.cut(True)
     time.sleep(PARTITION_SECONDS)
-    site.wait_for_answers()
+    site.do_answer_within(REPAIR_SECONDS)
     machine.cut(False)
     site.wait_for_node(machine)
 
@@ -107,7 +108,7 @@ def kill_machine(site, turn):
     machine.kill_node()
     for replica in killed:
         replica.kill()
-    site.wait_for_answers()
+    site.do_answer_within(REPAIR_SECONDS)
     machine.start_node()
     site.wait_for_node(machine)
     for replica in killed:
