@@ -18,16 +18,16 @@ from .trial_watch import Watch, compare, delays, read_log
 PLANT = EXAMPLES / "plant_p2.toml"
 MODEMS = (b"020000000001", b"020000000002", b"020000000003")
 REPLICAS = 2
-LOOK = 0.05
+LOOK, NODE_LOOK = 0.05, 1
 
 
-def wait_until(is_done, seconds, what):
-    """Waits until something is so, and returns how long that took."""
+def wait_until(is_done, seconds, what, look=LOOK):
+    """Waits until something is so, looks at it after so many seconds each, and returns how long that took."""
     begun = time.monotonic()
     while not is_done():
         if time.monotonic() - begun > seconds:
             raise Failed(f"not within {seconds:.0f} seconds: {what}")
-        time.sleep(LOOK)
+        time.sleep(look)
     return time.monotonic() - begun
 
 
@@ -163,7 +163,8 @@ class Site:
     def wait_for_node(self, machine):
         """Waits until the node of a machine has copies of all streams that grow."""
         machine.wait_for_node()
-        wait_until(lambda: self.node_serves(machine), self.asked.seconds, f"the node of {machine.address} has all streams")
+        # (each look costs a node that has just started some work)
+        wait_until(lambda: self.node_serves(machine), self.asked.seconds, f"the node of {machine.address} has all streams", NODE_LOOK)
 
     def node_serves(self, machine):
         """Tests whether the node gives a new message of each stream from its own copy."""
