@@ -1,0 +1,6 @@
+use Rattle.std.proofs.Common.{◌≡◌, map, take}
+use Rattle.frame_numbers.specs.Numbering.{saved_flow_renumbered}
+use Rattle.frame_numbers.proofs.renumbering.renumber_flows.Given as goal
+
+abbrev pub invariant-loop-saved : goal.invariant-loop-saved
+invariant-loop-saved l = l.others.items ≡ map (saved_flow_renumbered l.units l.from l.to) (take l.saved-index l.flows)

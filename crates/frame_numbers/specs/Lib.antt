@@ -1,0 +1,4 @@
+pub mod Seen
+pub mod Renumbered
+pub mod Time
+pub mod Numbering

@@ -1,0 +1,20 @@
+//! Laws of another numbering of frames.
+
+ghost use Rattle.frame_numbers.specs.Renumbered.{RenumberingIsNotNoticed, RefusalsAreTheSame};
+ghost use Rattle.frame_numbers.specs.Time.{TimeGoesOn};
+
+/// States that an operator whose frames are numbered otherwise does the same: whatever is done, it gives the same replies, the
+/// same causes where there is no reply, and the same elements in the same order, under other frame numbers.
+pub fn renumbering_is_not_noticed()
+    ensures { RenumberingIsNotNoticed }
+{}
+
+/// States that it refuses the same actions, for the same causes.
+pub fn refusals_are_the_same()
+    ensures { RefusalsAreTheSame }
+{}
+
+/// States that where a frame has the same Alloc Start Time under another number, each later frame has, and its MAP is the same.
+pub fn time_goes_on()
+    ensures { TimeGoesOn }
+{}
