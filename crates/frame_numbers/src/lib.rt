@@ -11,6 +11,3 @@ mod renumbering;
 pub use fault::RenumberFault;
 pub use laws::{refusals_are_the_same, renumbering_is_not_noticed, time_goes_on};
 pub use renumbering::renumber;
-
-#[cfg(test)]
-mod tests;

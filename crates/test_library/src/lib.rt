@@ -1,5 +1,5 @@
-//! Tests of library calls that no run of the program shows: encodings, MAPs, a journal, and allocations that
-//! fail in the lower layers.
+//! Tests of library calls that no run of the program shows: encodings, MAPs, a journal, frame numbers, and
+//! allocations that fail in the lower layers.
 #![tactic(auto)]
 
 #[cfg(test)]
@@ -14,6 +14,8 @@ mod keeping;
 mod maps;
 #[cfg(test)]
 mod messages;
+#[cfg(test)]
+mod numbering;
 #[cfg(test)]
 mod ranks;
 #[cfg(test)]

@@ -1,6 +1,6 @@
 //! A snapshot that is typed by hand, the same under another number, and numbers that are refused.
 
-use super::*;
+use frame_numbers::{RenumberFault, renumber};
 use param_sets::Units;
 use plant::{Backoffs, Channel, Classes, Consts, ConstsFields};
 use snapshot_format::{read_snapshot, write_snapshot};
