@@ -170,7 +170,8 @@ class Site:
         """Tests whether the node gives a new message of each stream from its own copy."""
         streams = [of(name) for name in self.names for of in (lines_stream, answers_stream)]
         seen = set()
-        try:
+        # (the client rejects messages that wait while it closes, which streams refuse)
+        with contextlib.suppress(*BROKEN):
             connection = Nodes([url_of(machine.address)]).connect()
             for stream in streams:
                 Consumer(connection, stream, -1, lambda _offset, _body, stream=stream: seen.add(stream), "next")
@@ -178,8 +179,6 @@ class Site:
             while len(seen) < len(streams) and time.monotonic() < end:
                 connection.process_data_events(time_limit=0.1)
             connection.close()
-        except BROKEN:
-            return False
         return len(seen) == len(streams)
 
     # Measurements, while nothing is killed
