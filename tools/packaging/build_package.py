@@ -33,7 +33,9 @@ PROVE_LOG = "crates/plant_program/out/prove.log"
 MAINTAINER = re.compile(r"^Maintainer: (.*)$", re.MULTILINE)
 # What the rules of the package read: from the repository, to the folder in which they run.
 FILES = {"packaging/debian": "debian", "packaging/systemd": "systemd", "packaging/completions": "completions",
-         "packaging/serve_channel": "serve_channel", "packaging/tick_channel": "tick_channel",
+         "packaging/serve_channel": "serve_channel", "packaging/tick_channel": "tick_channel", "packaging/pass_reasons": "pass_reasons",
+         "tools/reference": "tools/reference", "tools/watching": "tools/watching", "tools/__init__.py": "tools/__init__.py",
+         "tools/describe_state": "tools/describe_state", "tools/watch_channel": "tools/watch_channel",
          "docs": "docs", "examples": "examples", "README.md": "README.md", "CHANGELOG.md": "CHANGELOG.md"}
 COMMANDS = {"git": "git", "dpkg-buildpackage": "dpkg-dev", "dh": "debhelper"}
 
@@ -132,7 +134,10 @@ def proof_log(root, asked, program):
 
 def copy_files(root, program, folder):
     for source, target in FILES.items():
-        (shutil.copytree if (root / source).is_dir() else shutil.copy)(root / source, folder / target)
+        if (root / source).is_dir():
+            shutil.copytree(root / source, folder / target, ignore=shutil.ignore_patterns("__pycache__"))
+        else:
+            shutil.copy(root / source, folder / target)
     shutil.copy(program, folder / "plant_script")
     (folder / "plant_script").chmod(0o755)
 

@@ -9,7 +9,7 @@ import time
 
 SUITE = "bookworm"
 MIRROR = "http://deb.debian.org/debian"
-INCLUDED = "systemd,systemd-sysv,dbus,man-db,bash-completion"
+INCLUDED = "systemd,systemd-sysv,dbus,man-db,bash-completion,python3,python3-prometheus-client"
 BOOT_SECONDS = 60
 COMMAND_SECONDS = 60
 

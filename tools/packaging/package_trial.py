@@ -29,7 +29,7 @@ COMMANDS = {"debootstrap": "debootstrap", "systemd-nspawn": "systemd-container",
 PLANT, LINES = (EXAMPLES / "isolation/run_flood.txt").read_text().split("---\n")
 MOST_EXPOSURE = 3.0
 WRITE_AT_ONCE = 4_096
-PAGES = ("plant_script", "plant_script-serve", "plant.toml")
+PAGES = ("plant_script", "plant_script-serve", "plant.toml", "describe_state")
 PACKAGE = "plant-script"
 NEW_MODEM = "02000000FFFF"
 
@@ -96,10 +96,10 @@ def complete(box):
 
 
 def verify_units(box):
-    found = box.ask("systemd-analyze verify plant@east.service plant@east.socket plant-ticker@east.service")
+    found = box.ask("systemd-analyze verify plant@east.service plant@east.socket plant-ticker@east.service plant-metrics@east.service")
     want(not found, f"systemd-analyze verify finds:\n{found}")
     exposures = []
-    for unit in ("plant@", "plant-ticker@"):
+    for unit in ("plant@", "plant-ticker@", "plant-metrics@"):
         last = box.run(f"systemd-analyze security --offline=true --no-pager /usr/lib/systemd/system/{unit}.service").splitlines()[-1]
         exposures.append(float(re.search(r"(\d+\.\d+)", last)[1]))
     want(max(exposures) < MOST_EXPOSURE, f"systemd-analyze security says {exposures}")
@@ -200,6 +200,36 @@ def reloaded(box):
     send(box, "east", "P\n" + request)
     box.wait_until("tail -n 1 /var/lib/plant_script/east/answers", lambda output: output.startswith(f"R {NEW_MODEM} "), "a refused change changed the plant")
     return "a reload adds a modem, and one that is refused leaves the channel as it is"
+
+
+def watched(box):
+    """Lets the unit of the metrics run, and asks the channel for its state in words. The channel goes on if the unit is killed."""
+    folder, file = "/var/lib/prometheus/node-exporter", "/var/lib/prometheus/node-exporter/melfjits_east.prom"
+    box.run(f"install --directory --group=_plant_script --mode=0775 {folder}")
+    box.write("/etc/plant_script/east.env", "SNAPSHOT_SECONDS=1\n")
+    box.run("systemctl enable --now plant-metrics@east")
+    box.wait_until(f"cat {file}", lambda output: 'melfjits_flows_limit{channel="east",operator="A"}' in output, "no metrics of the state")
+    send(box, "east", "T\nX\n")
+    output = box.wait_until(f"cat {file}", lambda output: 'fault="line"} 1.0' in output, "an invalid line is not counted")
+    want('melfjits_answers_total{channel="east",type="map"} 1.0' in output and 'program="' in output, f"the metrics are\n{output}")
+    want(box.run(f"stat -c '%U %a' {file}") == "_plant_script 644\n", "the file has other rights")
+    want("Operator A\n" in box.run("describe_state --channel east"), "describe_state has no operator A")
+    box.run("kill -KILL $(systemctl show -P MainPID plant-metrics@east)")
+    send(box, "east", "T\n")
+    box.wait_until("tail -n 1 /var/lib/plant_script/east/answers", lambda output: output.startswith("MAP "), "the channel waits for its metrics")
+    box.run("systemctl disable --now plant-metrics@east; rm /etc/plant_script/east.env")
+    want(box.status_of(f"test -e {file}")[0], "the file stays after a stop")
+    return "the metrics of a channel are written, its state is described, and it does not wait for that"
+
+
+def reasons(box):
+    """Reloads an invalid plant file and one that does not fit: the journal has the reasons as warnings."""
+    plant = (box.folder / "etc/plant_script/east.toml").read_text()
+    set_plant(box, "east", plant.replace("frame_us = 2000", "frame_us = 4000", 1))
+    want(box.status_of("systemctl reload plant@east")[0], "another frame_us is accepted")
+    set_plant(box, "east", plant)
+    box.wait_until("journalctl --unit plant@east --priority warning --output cat --no-pager", lambda output: "the plant is not changed" in output, "no reason in the journal")
+    return "the reasons of a refused change are warnings in the journal"
 
 
 def stopped_at_work(box):
@@ -318,7 +348,7 @@ def purged(box):
     want(not left, f"left after the removal:\n{left}")
     want(answers(box, "east"), "the answers are gone after the removal")
     box.run(f"dpkg --purge {PACKAGE}")
-    left = box.run("find / -xdev '(' -path '*plant[-_]script*' -o -path '*/plant@*' -o -path '*/plant-ticker@*' ')' ! -path '/proc/*' ! -path '/var/log/*' ! -path '/var/cache/man/*'").split()
+    left = box.run("find / -xdev '(' -path '*plant[-_]script*' -o -path '*/plant@*' -o -path '*/plant-ticker@*' -o -path '*/plant-metrics@*' -o -name 'describe_state*' -o -name '__pycache__' -path '*plant*' ')' ! -path '/proc/*' ! -path '/var/log/*' ! -path '/var/cache/man/*'").split()
     owners = ["/etc/plant_script", "/etc/plant_script/bad.toml", "/etc/plant_script/east.toml", "/etc/plant_script/west.toml",
               "/etc/systemd/system/plant@east.service.d", "/etc/systemd/system/plant@east.service.d/record.conf"]
     want(sorted(left) == owners, f"left after the purge: {left}")
@@ -339,7 +369,7 @@ def trials(box, package, work):
     """Yields a line for each trial."""
     yield lintian(package)
     yield install(box, package)
-    for trial in (complete, verify_units, as_the_page_says, first_start, invalid_line, rights, second_channel, killed, goes_on, reloaded, ticked,
+    for trial in (complete, verify_units, as_the_page_says, first_start, invalid_line, rights, second_channel, killed, goes_on, reloaded, reasons, watched, ticked,
                   stopped_at_work, invalid_plant, full_disk, recorded, rebooted):
         yield trial(box)
     yield upgraded(box, package, work)

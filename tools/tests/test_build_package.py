@@ -27,7 +27,16 @@ usr/share/doc/plant-script/changelog.gz usr/share/doc/plant-script/copyright usr
 usr/share/doc/plant-script/examples/every_key/check.out usr/share/doc/plant-script/examples/every_key/check.txt
 usr/share/doc/plant-script/examples/plant_p2.toml usr/share/fish/vendor_completions.d/plant_script.fish
 usr/share/lintian/overrides/plant-script usr/share/man/man1/plant_script-serve.1.gz usr/share/man/man1/plant_script.1.gz
-usr/share/man/man5/plant.toml.5.gz usr/share/zsh/vendor-completions/_plant_script""".split()
+usr/share/man/man5/plant.toml.5.gz usr/share/zsh/vendor-completions/_plant_script
+usr/lib/systemd/system/plant-metrics@.service usr/libexec/plant_script/pass_reasons usr/libexec/plant_script/watch_channel
+usr/bin/describe_state usr/share/man/man1/describe_state.1.gz""".split()
+# The tools that are packed are those of the repository.
+TOOLS = ["tools/__init__.py", "tools/describe_state", "tools/watch_channel"] + [
+    str(path.relative_to(ROOT)) for folder in ("reference", "watching") for path in (ROOT / "tools" / folder).glob("*.py")]
+PACKED += [f"usr/lib/plant_script/{name}" for name in TOOLS]
+EXECUTABLE = {"usr/bin/plant_script", "usr/lib/plant_script/tools/describe_state", "usr/lib/plant_script/tools/watch_channel"} | {
+    f"usr/libexec/plant_script/{name}" for name in ("serve_channel", "tick_channel", "pass_reasons")}
+LINKS = {"usr/bin/describe_state": "../lib/plant_script/tools/describe_state", "usr/libexec/plant_script/watch_channel": "../../lib/plant_script/tools/watch_channel"}
 MISSING = sorted({package for command, package in TOOL.COMMANDS.items() if not shutil.which(command)})
 VERSION = "0.1~20261124.0930.g"
 
@@ -134,14 +143,15 @@ class Package(unittest.TestCase):
         with tarfile.open(self.top / "files.tar") as tar:
             members = {entry.name.removeprefix("./"): entry for entry in tar if not entry.isdir() or entry.name == "./etc/plant_script"}
             self.assertEqual(sorted(members), sorted(PACKED))
-            self.assertEqual({name for name, entry in members.items() if entry.mode & 0o111 and entry.isfile()}, {"usr/bin/plant_script", "usr/libexec/plant_script/serve_channel", "usr/libexec/plant_script/tick_channel"})
+            self.assertEqual({name for name, entry in members.items() if entry.mode & 0o111 and entry.isfile()}, EXECUTABLE)
+            self.assertEqual({name: entry.linkname for name, entry in members.items() if entry.issym()}, LINKS)
             self.assertEqual(tar.extractfile(members["usr/bin/plant_script"]).read(), self.program.read_bytes())
 
     def test_the_tarball_has_the_same_files(self):
         self.assertRegex(self.tarball.name, r"^plant-script-0\.1~.*-1-amd64\.tar\.gz$")
         prefix = self.tarball.name.removesuffix("-amd64.tar.gz") + "/"
         with tarfile.open(self.tarball) as tar:
-            self.assertEqual(sorted(entry.name.removeprefix(prefix) for entry in tar if entry.isfile()), sorted(name for name in PACKED if name != "etc/plant_script"))
+            self.assertEqual(sorted(entry.name.removeprefix(prefix) for entry in tar if not entry.isdir()), sorted(name for name in PACKED if name != "etc/plant_script"))
             self.assertEqual({(entry.uid, entry.gid) for entry in tar}, {(0, 0)})
 
     def test_build_txt_and_sums(self):
@@ -155,6 +165,14 @@ class Package(unittest.TestCase):
     def test_is_the_same_each_time(self):
         again = TOOL.build(ROOT, self.top / "second", self.program, True, 1, self.log)
         self.assertEqual({name: path.read_bytes() for name, path in self.files.items()}, {path.name: path.read_bytes() for path in again})
+
+    def test_its_tools_run_from_where_they_are_installed(self):
+        subprocess.run(["dpkg-deb", "--extract", self.package, self.top / "installed"], check=True)
+        for name in ("usr/bin/describe_state", "usr/libexec/plant_script/watch_channel"):
+            done = subprocess.run([self.top / "installed" / name, "--help"], cwd="/", capture_output=True, text=True, check=False)
+            self.assertEqual((done.returncode, done.stderr), (0, ""))
+            self.assertIn("--json" if "describe" in name else "CHANNEL PLANT PIPE", done.stdout)
+        self.assertEqual(list((self.top / "installed").rglob("__pycache__")), [])
 
     def test_has_no_path_of_the_machine(self):
         subprocess.run(["dpkg-deb", "--raw-extract", self.package, self.top / "tree"], check=True)

@@ -26,6 +26,7 @@ from tools.prose.markdown import COMMANDS
 
 SECTIONS = ["NAME", "SYNOPSIS", "DESCRIPTION", "COMMANDS", "OPTIONS", "EXIT STATUS", "INPUT", "OUTPUT", "EXAMPLES", "FILES", "SEE ALSO"]
 # The page of a file has no sections of a command.
+SECTIONS_OF_TOOL = [name for name in SECTIONS if name not in ("COMMANDS", "INPUT")]
 SECTIONS_OF_FILE = ["NAME", "SYNOPSIS", "DESCRIPTION", "EXAMPLES", "FILES", "SEE ALSO"]
 # Characters that pandoc spells.
 SPELLED = {"aq": "'", "dq": '"', "ga": "`", "ha": "^", "rs": "\\", "ti": "~", "at": "@"}
@@ -68,7 +69,7 @@ class Pages(unittest.TestCase):
 
     def test_sections(self):
         for name in NAMES:
-            wanted = SECTIONS_OF_FILE if name.endswith(".5") else SECTIONS
+            wanted = SECTIONS_OF_FILE if name.endswith(".5") else SECTIONS_OF_TOOL if name == "describe_state.1" else SECTIONS
             self.assertEqual(re.findall("^.SH (.*)$", (ROOT / "docs/man" / name).read_text(), re.MULTILINE), wanted)
 
     def part_of_page(self, name, part):
@@ -91,6 +92,7 @@ class Pages(unittest.TestCase):
     def test_statuses(self):
         self.assertEqual(self.terms("plant_script.1", "EXIT STATUS"), ["0", "2", "3", "4", "5", "6", "7", "125", "126", "127"])
         self.assertEqual(self.terms("plant_script-serve.1", "EXIT STATUS"), ["0", "3", "5", "6"])
+        self.assertEqual(self.terms("describe_state.1", "EXIT STATUS"), ["0", "1", "2", "3", "6"])
 
     def test_keys(self):
         page = (ROOT / "docs/man/plant.toml.5").read_text()
@@ -116,15 +118,16 @@ class Check(unittest.TestCase):
 
     def test_sources(self):
         older = "is older than its sources"
-        self.assertEqual(self.changed("docs/FORMATS.md", "| `resends` | 0 to 255 | 3 |", "| `resends` | 0 to 255 | 4 |"), [None, None, older])
-        self.assertEqual(self.changed("docs/FORMATS.md", "| `T` | for each operator", "| `T` | for every operator"), [older, older, None])
-        self.assertEqual(self.changed("CHANGELOG.md", "\n## ", "\n## 9.9 (2026-11-22 to 2026-11-22)\n\n## "), [older] * 3)
+        self.assertEqual(self.changed("docs/FORMATS.md", "| `resends` | 0 to 255 | 3 |", "| `resends` | 0 to 255 | 4 |"), [None, None, older, None])
+        self.assertEqual(self.changed("docs/FORMATS.md", "| `T` | for each operator", "| `T` | for every operator"), [older, older, None, None])
+        self.assertEqual(self.changed("CHANGELOG.md", "\n## ", "\n## 9.9 (2026-11-22 to 2026-11-22)\n\n## "), [older] * 4)
+        self.assertEqual(self.changed("docs/OPERATING.md", "## State in words\n", "## State in words\n\nText.\n"), [None, None, None, older])
         summary = read_help(ROOT)[1]["trace"].summary
-        self.assertEqual(self.changed(SOURCE, f'"{summary}"', '"Trace"'), [older, None, None])
+        self.assertEqual(self.changed(SOURCE, f'"{summary}"', '"Trace"'), [older, None, None, None])
 
     def test_pages(self):
-        self.assertEqual(self.changed("docs/man/plant.toml.5", "is TOML", "is JSON"), [None, None, "was changed by hand"])
-        self.assertEqual(self.changed("docs/man/plant.toml.5", "Built by", "Made by"), [None, None, "has no head of tools/man_pages"])
+        self.assertEqual(self.changed("docs/man/plant.toml.5", "is TOML", "is JSON"), [None, None, "was changed by hand", None])
+        self.assertEqual(self.changed("docs/man/plant.toml.5", "Built by", "Made by"), [None, None, "has no head of tools/man_pages", None])
         with tempfile.TemporaryDirectory() as folder:
             root = copied(folder)
             (root / "docs/man/plant_script.1").unlink()

@@ -29,7 +29,7 @@ SECONDS_OF_EDIT = 2
 MOST_EXPOSURE = 3.0
 # `check` refuses a plant with the word bad. `serve` answers each line; `die` kills it, `slow` keeps it busy, and `hold` until there is a file `go`. `resume` begins with a
 # plant file or a snapshot, and answers K by a snapshot with the plant file of the tests. It answers P by the plant file on a line and the
-# line of a change, unless the file is empty or has the word refused.
+# line of a change, unless the file is empty or has the word refused. A line `noise` gives 4,000 reasons. `serve` gives one at its end.
 PROGRAM = r"""#!/bin/sh
 case $1 in
 check) cat >"$FOLDER/checked"; if grep -q bad "$FOLDER/checked"; then echo fault: plant 1; echo a reason >&2; exit 3; fi; echo ok ;;
@@ -38,7 +38,7 @@ serve) while read -r line && [ "$line" != --- ]; do echo "P $line"; done
         case $line in die) kill -9 $$ ;; slow) sleep 0.3 ;; hold) until [ -e "$FOLDER/go" ]; do sleep 0.02; done ;; esac
         echo "A $line"
     done
-    echo end; exit 6 ;;
+    echo end; echo a last reason >&2; exit 6 ;;
 resume) bars=1
     while read -r line; do
         case $line in melfjits-snapshot*) bars=2 ;; ---) bars=$((bars - 1)); [ $bars != 0 ] || break ;; esac
@@ -48,6 +48,7 @@ resume) bars=1
         case $line in
         K) printf 'melfjits-snapshot 1 12\na = 1\nb = 2\n---\nframe 1 0\nend 5 9\n' ;;
         half) kill -9 $$ ;;
+        noise) number=0; while [ $number -lt 4000 ]; do echo "line 9: the plant is not changed: $number" >&2; number=$((number + 1)); done ;;
         slow) sleep 0.3 ;;
         hold) until [ -e "$FOLDER/go" ]; do sleep 0.02; done ;;
         P) file=
@@ -92,7 +93,8 @@ class Channel(unittest.TestCase):
     def start(self, plant=PLANT, words=None, **environment):
         environment = {"PATH": os.environ["PATH"], "PLANT_SCRIPT": str(self.program), "FOLDER": str(self.folder), "ANSWERS": str(self.answers), **environment}
         words = [self.write("plant.toml", plant)] if words is None else words
-        process = subprocess.Popen([self.script, *words], stdin=self.pipe, stdout=subprocess.PIPE, stderr=subprocess.PIPE, text=True, env=environment, start_new_session=True)
+        # (SIGPIPE is ignored, as in the unit)
+        process = subprocess.Popen([self.script, *words], stdin=self.pipe, stdout=subprocess.PIPE, stderr=subprocess.PIPE, text=True, env=environment, start_new_session=True, restore_signals=False)
         self.addCleanup(process.stdout.close)
         self.addCleanup(process.stderr.close)
         self.addCleanup(self.end, process)
@@ -143,6 +145,7 @@ class Channel(unittest.TestCase):
         process = self.start()
         self.send("slow\none\ntwo\n")
         self.wait_for("P a = 1\nP b = 2\n")
+        wait_until(lambda: self.waiting_bytes() == 0)
         time.sleep(0.1)
         self.assertEqual(self.stop(process), 6)
         self.assertEqual(self.answers.read_text(), "P a = 1\nP b = 2\nA slow\nA one\nA two\nend\n")
@@ -363,6 +366,65 @@ class Channel(unittest.TestCase):
         record = next((self.folder / "records").iterdir()).read_text()
         self.assertEqual(record, "a = 1\nb = 2\n---\none\nP\na = 2\n---\ntwo\n")
 
+    JOURNAL = {"JOURNAL_STREAM": "8:1", "PASS_REASONS": str(ROOT / "packaging/pass_reasons")}
+
+    def start_with_journal(self, **environment):
+        """Starts a channel whose standard error is the journal's, and waits for its first answer."""
+        process = self.start(**self.JOURNAL, **environment)
+        self.send("one\n")
+        self.wait_for("P a = 1\nP b = 2\nA one\n")
+        self.answers.write_text("")
+        return process
+
+    def test_reasons_have_priorities_in_the_journal(self):
+        process = self.start_with_journal()
+        self.assertEqual(self.stop(process), 6)
+        self.assertEqual(process.stderr.read(), "ok\n<3>a last reason\n")
+        status, errors = self.refused(self.start(plant="bad", **self.JOURNAL))
+        self.assertEqual((status, errors.splitlines()[:2]), (3, ["<3>fault: plant 1", "<3>a reason"]))
+        self.assertIn("<3>serve_channel: the plant file ", errors)
+
+    def test_a_refused_reload_is_a_warning(self):
+        self.start_and_send()
+        self.assertEqual(self.change("bad\n", **self.JOURNAL)[1].splitlines()[:2], ["<4>fault: plant 1", "<4>a reason"])
+        self.assertIn("<4>serve_channel: no answer", self.change("refused\n", **self.JOURNAL)[1])
+        self.assertIn("<6>serve_channel: the plant is that of ", self.change("a = 2\n", **self.JOURNAL)[1])
+
+    def test_reasons_are_held_back(self):
+        process = self.start_with_journal(STATE=str(self.folder / "state"), REASONS_PER_SECOND="3")
+        self.send("noise\ntwo\n")
+        self.wait_for("A two\n")
+        self.assertEqual(self.stop(process), 0)
+        lines = process.stderr.read().splitlines()
+        self.assertEqual(lines[1:4], [f"<4>line 9: the plant is not changed: {number}" for number in range(3)])
+        self.assertEqual(lines[4][:14], "<4>held back: ")
+        held = [int(line.split()[2]) for line in lines if line.startswith("<4>held back: ")]
+        self.assertEqual(len(lines) - 1 - len(held) + sum(held), 4_000)
+
+    def test_a_journal_that_takes_nothing_stops_no_line(self):
+        self.start_with_journal(STATE=str(self.folder / "state"), REASONS_PER_SECOND="1000000")
+        self.send("noise\ntwo\n")
+        self.wait_for("A two\n")
+
+    def test_the_channel_goes_on_without_the_process_that_passes_reasons(self):
+        process = self.start_with_journal(STATE=str(self.folder / "state"))
+
+        def passing():
+            children = pathlib.Path(f"/proc/{process.pid}/task/{process.pid}/children").read_text().split()
+            return [int(child) for child in children if "pass_reasons" in pathlib.Path(f"/proc/{child}/cmdline").read_text()]
+
+        wait_until(lambda: len(passing()) == 1)
+        os.kill(passing()[0], signal.SIGKILL)
+        self.send("noise\ntwo\n")
+        self.wait_for("A two\n")
+        self.assertEqual(self.stop(process), 0)
+
+    def test_without_that_script_reasons_are_passed_as_they_are(self):
+        process = self.start(JOURNAL_STREAM="8:1", PASS_REASONS="/nowhere/pass_reasons")
+        self.wait_for("P a = 1\nP b = 2\n")
+        self.assertEqual(self.stop(process), 6)
+        self.assertEqual(process.stderr.read(), "ok\na last reason\n")
+
     def test_readiness_is_reported_once_the_plant_file_is_checked(self):
         (self.folder / "bin").mkdir()
         self.write("bin/systemd-notify", '#!/bin/sh\n[ -e "$FOLDER/checked" ] && echo "$*" >"$FOLDER/notified"\n', 0o755)
@@ -378,8 +440,9 @@ class Channel(unittest.TestCase):
 class Units(unittest.TestCase):
     @unittest.skipUnless(shutil.which("systemd-analyze"), "systemd-analyze is not installed: the exposure of the unit was not tested")
     def test_exposure(self):
-        done = subprocess.run(["systemd-analyze", "security", "--offline=true", "--no-pager", UNITS / "plant@.service"], capture_output=True, text=True, check=True)
-        self.assertLess(float(re.search(r"Overall exposure level .*?: (\d+\.\d+)", done.stdout)[1]), MOST_EXPOSURE)
+        for name in ("plant@", "plant-ticker@", "plant-metrics@"):
+            done = subprocess.run(["systemd-analyze", "security", "--offline=true", "--no-pager", UNITS / f"{name}.service"], capture_output=True, text=True, check=True)
+            self.assertLess(float(re.search(r"Overall exposure level .*?: (\d+\.\d+)", done.stdout)[1]), MOST_EXPOSURE)
 
     def test_an_invalid_plant_file_is_not_tried_again(self):
         self.assertRegex((UNITS / "plant@.service").read_text(), r"(?m)^RestartPreventExitStatus=2 3$")
@@ -403,7 +466,7 @@ EDITS = [
     ("the_plant_file_ends_at_its_separator", "plant_file && echo ---; }", "plant_file; }"),
     ("a_missing_plant_file_is_refused", "    exit 3\n", "    exit 1\n"),
     ("an_invalid_plant_file_is_refused_with_its_reason", '    exit "$status"\n', "    exit 1\n"),
-    ("an_invalid_plant_file_is_refused_with_its_reason", "check >&2\n", "check >/dev/null\n"),
+    ("an_invalid_plant_file_is_refused_with_its_reason", "check 2>&1 | ", "check 2>/dev/null | "),
     ("an_invalid_plant_file_is_refused_with_its_reason", "status=${PIPESTATUS[1]}", "status=${PIPESTATUS[0]}"),
     ("answers_that_cannot_be_written_are_refused", '>>"$ANSWERS"; } || exit 6', '>>"$ANSWERS"; } || true'),
     ("answers_are_appended_and_a_cut_line_is_ended", "end_cut_line && exec", "exec"),
@@ -423,7 +486,7 @@ EDITS = [
     ("a_refused_change_is_reported", "        exit 1\n", "        exit 0\n"),
     ("a_change_waits_for_its_answer", "((tries-- > 0)) || return", "return 1"),
     ("no_line_of_a_client_comes_into_a_plant_file", "    echo P >>\"$1\"", "    { echo P; plant_and_separator; } >>\"$1\""),
-    ("an_invalid_plant_file_is_not_sent", "    check_plant\n    {", "    {"),
+    ("an_invalid_plant_file_is_not_sent", "    check_plant 4\n    {", "    {"),
     ("a_client_changes_no_plant", '[ -z "$change" ] || rm -f -- "$change"\n', ""),
     ("a_channel_without_a_state_is_not_changed", '[ -z "$change" ] || script=', "script="),
     ("a_channel_without_a_state_is_not_changed", 'if [ -z "$change" ] || ', "if "),
@@ -432,6 +495,16 @@ EDITS = [
     ("each_start_records_all_input", "$(date --utc +%Y%m%dT%H%M%S.%3NZ)", "record"),
     ("the_end_of_the_program_is_the_end_of_the_script", 'exec "$program" serve', '"$program" serve'),
     ("readiness_is_reported_once_the_plant_file_is_checked", "systemd-notify --ready", "true --ready"),
+    ("reasons_have_priorities_in_the_journal", "trap - TERM && give_input) 2> >(pass_on)", "trap - TERM && give_input)"),
+    ("reasons_have_priorities_in_the_journal", "/^ok\\$/!s", "s"),
+    ("reasons_have_priorities_in_the_journal", 'check_plant 3\n', 'check_plant 4\n'),
+    ("a_refused_reload_is_a_warning", "    check_plant 4\n", "    check_plant 3\n"),
+    ("a_refused_reload_is_a_warning", "${JOURNAL_STREAM:+<$1>}serve_channel", "serve_channel"),
+    ("reasons_are_held_back", "end_cut_file; echo K) 2> >(pass_on)", "end_cut_file; echo K)"),
+    ("reasons_are_held_back", '"${REASONS_PER_SECOND-}"', '""'),
+    ("a_journal_that_takes_nothing_stops_no_line", "end_cut_file; echo K) 2> >(pass_on)", "end_cut_file; echo K) 2> >(exec cat >&2)"),
+    ("the_channel_goes_on_without_the_process_that_passes_reasons", '        exec "$pass_reasons"', '        "$pass_reasons"'),
+    ("without_that_script_reasons_are_passed_as_they_are", ' && [ -x "$pass_reasons" ]', ""),
     ("wrong_arguments_are_refused", "    exit 2\nfi\n\n# Keeps", "    exit 1\nfi\n\n# Keeps"),
     ("wrong_arguments_are_refused", ' || [ "$1" = --change ]', ""),
     ("wrong_arguments_are_refused", '[ "$#:${1-}" != 3:--change ]', "[ $# != 3 ]"),

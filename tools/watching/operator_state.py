@@ -1,0 +1,83 @@
+"""Reads the state of each operator from a snapshot: numbers, next to the limits of the operator's row."""
+
+from dataclasses import dataclass
+
+from tools.reference.book import Share, all_committed
+from tools.reference.coverage import MetFault
+from tools.reference.plant import read_plant
+from tools.reference.snapshots import read_snapshot
+from tools.reference.states import books_of
+
+# Each flow is in one of these: sets await an acknowledgement; or the greatest set that it has; or it has none.
+FLOW_STATES = ("pending", "active", "admitted", "provisioned", "null")
+
+
+class Unreadable(Exception):
+    """A text is not a snapshot, or its states are not those of its plant file."""
+
+
+@dataclass(frozen=True)
+class OperatorState:
+    """What a snapshot says of an operator. A limit is that of the plant file; slice and budget are those in force."""
+    name: str
+    slice: Share
+    next_frame: int | None
+    next_slice: Share | None
+    flows: dict
+    flows_limit: int
+    committed_minislots: int
+    committed_elements: int
+    elements_limit: int
+    responses: dict
+    responses_limit: int
+    inbox: int
+    inbox_limit: int
+    backlog_minislots: int
+
+
+@dataclass(frozen=True)
+class ChannelState:
+    """The state of a channel before a frame, and the operator of each modem."""
+    frame: int
+    operators: tuple
+    operator_of: dict
+
+
+def flow_state(flow):
+    if flow.waiting is not None:
+        return "pending"
+    sets = {"active": flow.active, "admitted": flow.admitted, "provisioned": flow.provisioned}
+    return next((name for name, one in sets.items() if one is not None), "null")
+
+
+def operator_state(book):
+    row, minislots_and_elements = book.row, all_committed(book)
+    states = [flow_state(flow) for flow in book.flows.values()]
+    awaiting = sum(entry.waits for entry in book.kept)
+    next_frame, next_slice = book.next_share or (None, None)
+    return OperatorState(
+        name=row.name, slice=book.share, next_frame=next_frame, next_slice=next_slice,
+        flows={name: states.count(name) for name in FLOW_STATES}, flows_limit=row.flows,
+        committed_minislots=minislots_and_elements[0], committed_elements=minislots_and_elements[1], elements_limit=row.elements,
+        responses={"awaiting": awaiting, "retained": len(book.kept) - awaiting}, responses_limit=row.transactions,
+        inbox=len(book.inbox), inbox_limit=row.inbox, backlog_minislots=sum(flow.backlog for flow in book.flows.values()))
+
+
+def operators_of_modems(plant_text):
+    """Returns the operator of each modem of a plant file."""
+    try:
+        plant = read_plant(plant_text.decode())
+    except (MetFault, ValueError) as fault:
+        raise Unreadable(f"the plant file cannot be read: {fault}") from fault
+    return {modem: row.name for row in plant.rows for modem in row.modems}
+
+
+def read_state(data):
+    """Returns the state of a channel from the bytes of a snapshot."""
+    try:
+        saved = read_snapshot(data)
+        plant = read_plant(saved.plant_text.decode())
+        books = books_of(plant, saved)
+    except (MetFault, ValueError) as fault:
+        raise Unreadable(f"the snapshot cannot be read: {' '.join(map(str, fault.args))}") from fault
+    return ChannelState(saved.frame, tuple(map(operator_state, books)), {modem: row.name for row in plant.rows for modem in row.modems})
