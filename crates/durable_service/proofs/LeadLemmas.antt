@@ -1,0 +1,96 @@
+-- What a journal leads to.
+use Rattle.std.proofs.Common.{◌≡◌, ℕ, ◌+◌, List, [], ◌++◌, length, Option, Vec, sym, ap, subst, ◌∙◌, arith, length-append}
+use Rattle.std.specs.declared.alloc.Global.{Global}
+use Rattle.std.proofs.lemmas.List.{length-map}
+use Rattle.plant_restart.specs.Restarted.{IsRestarted}
+use Rattle.snapshot_format.specs.States.{states_of}
+use Rattle.line_service.proofs.StepLemmas.{reachable_on}
+use Rattle.line_journal.specs.Found.{texts}
+use Rattle.plant.specs.declared.plant.PlantFields.{PlantFields}
+use Rattle.run_model.specs.Starts.{Start}
+use Rattle.run_model.specs.declared.step.Step.{Step}
+use Rattle.run_model.specs.declared.step.Out.{Out}
+use Rattle.run_model.specs.IsStateAfter.{CoreView}
+use Rattle.live_core.specs.After.{IsAfterFrom, BehindEachRun, IsReachableFromStart}
+use Rattle.snapshot_format.specs.declared.saved.Snapshot.{Snapshot}
+use Rattle.line_journal.specs.Journal.{JournalContent, with_lines, fresh}
+use Rattle.line_service.specs.Service.{all_done, all_told}
+use Rattle.durable_service.specs.Durable.{SaysState, saved_start, AreLinesDone, LineIsDone, LinesAreDone, LeadsTo, IsLeading}
+use Rattle.durable_service.proofs.DoneLemmas.{none_done, done_joined}
+
+-- a batch more
+pub leads_on : (plant : PlantFields) (old new : CoreView) (count later : ℕ) (lines : List (List ℕ)) (text : List ℕ) (before after : Option JournalContent)
+    → BehindEachRun old (λ p start steps shown. AreLinesDone p start steps shown (count + 1) lines new text)
+    → after ≡ with_lines lines before → later ≡ count + length lines → IsLeading before plant old count → IsLeading after plant new later
+leads_on plant old new count later lines text before after done is counted leading =
+    let was = leading.stored in
+    let led = leading.leads in
+    let start = saved_start plant led.saved in
+    let number : count + 1 ≡ led.before + 1 + length was.lines = omega (arith, led.count_is) in
+    let more = subst (λ (n : ℕ). AreLinesDone plant start (all_done led.done.answers) (all_told led.done.answers) n lines new text) number
+    (done plant start (all_done led.done.answers) (all_told led.done.answers) led.done.after) in
+    record {
+      stored = record { snapshot = was.snapshot; lines = was.lines ++ lines };
+      stands_for = is ∙ ap (λ (o : Option JournalContent). with_lines lines o) leading.stands_for;
+      leads = record {
+        before = led.before;
+        saved = led.saved;
+        state = led.state;
+        text = led.text ++ text;
+        done = done_joined plant start [] [] (led.before + 1) was.lines lines old new led.text text led.done more;
+        count_is = omega (arith, counted, led.count_is, length-append was.lines lines);
+      };
+    }
+
+-- a state that takes the place of lines
+pub leads_anew : (plant : PlantFields) (saved : Snapshot) (live : CoreView) (count : ℕ) (snapshot : List (List ℕ)) (content : Option JournalContent) → SaysState snapshot count plant saved
+    → IsAfterFrom plant (saved_start plant saved) [] [] live → content ≡ fresh snapshot → IsLeading content plant live count
+leads_anew plant saved live count snapshot content says after is = record {
+  stored = record { snapshot = snapshot; lines = [] };
+  stands_for = is;
+  leads = record {
+    before = count;
+    saved = saved;
+    state = says;
+    text = [];
+    done = none_done plant (saved_start plant saved) [] [] (count + 1) live after;
+    count_is = omega arith;
+  };
+}
+
+-- ---- cores that some run leads to
+
+pub restarted_reached : (plant : PlantFields) (saved : Snapshot) (live : CoreView) → IsRestarted plant saved.frame (states_of saved) live → IsReachableFromStart live
+restarted_reached plant saved live is =
+    let start = saved_start plant saved in
+    (start, [], [], subst (λ (p : PlantFields). IsAfterFrom p start [] [] live) (sym (ap (λ (v : CoreView). v.plant) is.is_started)) is.reached)
+
+pub line_reached : (old new : CoreView) (number : ℕ) (line text added : List ℕ) → IsReachableFromStart old
+    → BehindEachRun old (λ plant start before shown. LineIsDone plant start before shown number line new text added) → IsReachableFromStart new
+line_reached old new number line text added was done =
+    reachable_on old new was (λ plant start before shown after.
+    let is = done plant start before shown after in
+    (before ++ is.answered.done, shown ++ is.answered.told, is.is.after))
+
+-- ---- a saved state, and the lines since
+
+pub leads_from : (plant : PlantFields) (saved : Snapshot) (first live : CoreView) (before count : ℕ) (lines : List (Vec ℕ Global)) (old new : List ℕ)
+    → IsRestarted plant saved.frame (states_of saved) first
+    → BehindEachRun first (λ p start steps shown. LinesAreDone p start steps shown (before + 1) (texts lines) live old new) → count ≡ before + length lines
+    → (content : JournalContent) → SaysState content.snapshot before plant saved → content.lines ≡ texts lines → LeadsTo content plant live count
+leads_from plant saved first live before count lines old new restarted done counted content says same =
+    let now = done plant (saved_start plant saved) [] [] restarted.reached in
+    record {
+      before = before;
+      saved = saved;
+      state = says;
+      text = now.text;
+      done = subst (λ (ls : List (List ℕ)). AreLinesDone plant (saved_start plant saved) [] [] (before + 1) ls live now.text) (sym same) now.done;
+      count_is = omega (arith, counted, ap (λ (ls : List (List ℕ)). length ls) same, length-map lines (λ (v : Vec ℕ Global). v.items));
+    }
+
+-- the text alone
+pub text_alone : (plant : PlantFields) (start : Start) (before : List Step) (shown : List Out) (number : ℕ) (lines : List (List ℕ)) (live : CoreView) (old new : List ℕ)
+    → old ≡ [] → LinesAreDone plant start before shown number lines live old new → AreLinesDone plant start before shown number lines live new
+text_alone plant start before shown number lines live old new none done =
+    subst (λ (t : List ℕ). AreLinesDone plant start before shown number lines live t) (sym (done.added ∙ ap (λ (t : List ℕ). t ++ done.text) none)) done.done

@@ -1,0 +1,3 @@
+pub mod DoneLemmas
+pub mod ListLemmas
+pub mod LeadLemmas

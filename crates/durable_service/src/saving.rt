@@ -1,0 +1,148 @@
+//! A saved state in the journal, in place of the lines before it.
+
+ghost use Rattle.std.specs.Prelude.{◌≡◌, ◌<◌, ◌⊎◌, [], Some, Err, IfOk, OnOk};
+ghost use Rattle.plant.specs.declared.plant.PlantFields.{PlantFields};
+ghost use Rattle.live_core.specs.After.{IsAfterFrom, IsReachableFromStart};
+ghost use Rattle.live_core.specs.LiveView.{live_view};
+ghost use Rattle.snapshot_format.specs.declared.saved.Snapshot.{Snapshot};
+ghost use Rattle.snapshot_format.specs.Text.{text_of_snapshot};
+ghost use Rattle.plant_restart.specs.Saving.{IsCoreSnapshot};
+ghost use Rattle.line_journal.specs.Device.{LeavesOnly};
+ghost use Rattle.line_journal.specs.Found.{texts};
+ghost use Rattle.line_journal.specs.Journal.{JournalContent, journal_content, fresh, IsJournalSettled, IsBeforeOrAfter};
+ghost use Rattle.durable_service.specs.declared.fault.DurableFault.TheVariants as faults;
+ghost use Rattle.durable_service.specs.Durable.{joined_text, saved_start, SaysState, StandsForState, IsLeading, IsKeptState};
+
+use crate::fault::{DurableFault, JournalStateFault};
+use crate::lines::{join_lines, snapshot_lines, split_lines};
+use crate::opening::DurableState;
+use crate::reading::{SavedState, StartState, plant_of_file, start_of};
+use line_journal::{Device, Journal, SnapshotLines, begin};
+use lists::Listed;
+use live_core::LiveCore;
+use plant_restart::{SaveFault, save};
+use snapshot_format::{Snapshot, write_snapshot};
+use std::alloc::Global;
+use tlv24::Bytes;
+
+/// Holds the state of a service, as lines and as it is read from them.
+#[derive(Drop)]
+pub struct KeptState {
+    pub start: StartState,
+    pub snapshot: SnapshotLines,
+}
+
+/// Returns the lines of a snapshot's text.
+fn lines_of_snapshot(alloc: Global, saved: &Snapshot) -> Result<Vec<Vec<u8>>, JournalStateFault>
+    ensures { IfOk result (λ lines. joined_text (texts lines.items) ≡ text_of_snapshot saved.now) }
+{
+    let mut text = Vec::new(alloc);
+    match write_snapshot(alloc, &mut text, saved) {
+        Ok(()) => {}
+        Err(_error) => return Err(JournalStateFault::NoMemory),
+    }
+    let lines = split_lines(alloc, text.as_slice())?;
+    if join_lines(alloc, lines.as_slice())?.as_slice() != text.as_slice() {
+        return Err(JournalStateFault::NotKept);
+    }
+    Ok(lines)
+}
+
+/// Returns the state of a core.
+fn state_of_core(
+    alloc: Global,
+    core: &LiveCore,
+    file: &Bytes,
+) -> Result<Snapshot, JournalStateFault>
+    ensures { IfOk result (λ saved. IsCoreSnapshot (live_view core.now) file.now saved) }
+{
+    match save(alloc, core, file.copy(alloc)?) {
+        Ok(saved) => Ok(saved),
+        Err(SaveFault::Unfinished { why }) => Err(JournalStateFault::Unfinished { why }),
+        Err(SaveFault::NoMemory) => Err(JournalStateFault::NoMemory),
+    }
+}
+
+/// Begins a journal with a plant file, in place of whatever the file has: no operator is saved, so each is opened before the plant's
+/// first frame.
+pub fn begin_state<D: Device>(
+    alloc: Global,
+    device: &mut D,
+    file: Bytes,
+) -> Result<SavedState, DurableFault>
+    ensures found { IfOk result (λ state. StandsForState (journal_content (D.seen device.new)) 0 state.start.plant state.start.saved []) }
+    ensures settled { IfOk result (λ state. IsJournalSettled D.seen D.may_leave device.new state.gate) }
+    ensures new { IfOk result (λ state. (state.start.count ≡ 0) × (state.lines.items ≡ [])) }
+
+    // A crash at any moment leaves what it might have left before, or a journal that has no line.
+    ensures any_moment { LeavesOnly D.moment D.left_since device.old device.new (λ c. D.may_leave device.old c
+        ⊎ ((stored : JournalContent) × (journal_content c ≡ Some stored) × (stored.lines ≡ []))) }
+
+    // It does not give up by itself.
+    ensures disk { result ≡ Err faults.Disk → D.faults device.old < D.faults device.new }
+{
+    let plant = plant_of_file(alloc, file.as_slice())?;
+    let saved = Snapshot {
+        plant: file,
+        frame: plant.consts().get_fields().channel.first_frame,
+        operators: Listed::new(alloc),
+    };
+    let lines = lines_of_snapshot(alloc, &saved)?;
+    let start = start_of(alloc, 0, lines.as_slice())?;
+    let snapshot = snapshot_lines(alloc, 0, lines.as_slice())?;
+    let gate = begin(alloc, device, &snapshot)?;
+    Ok(SavedState {
+        start,
+        lines: Vec::new(alloc),
+        gate,
+    })
+}
+
+/// Returns the state of a service that is to take the place of the lines before it, or that its core does not rest. What is returned was
+/// read back from its lines.
+pub fn state_to_keep(alloc: Global, service: &DurableState) -> Result<KeptState, JournalStateFault>
+    ensures { IfOk result (λ kept. IsKeptState (live_view service.now.core) service.now.file service.now.count kept.snapshot
+        kept.start.plant kept.start.saved) }
+{
+    let saved = state_of_core(alloc, &service.core, &service.file)?;
+    let lines = lines_of_snapshot(alloc, &saved)?;
+    Ok(KeptState {
+        start: start_of(alloc, service.count, lines.as_slice())?,
+        snapshot: snapshot_lines(alloc, service.count, lines.as_slice())?,
+    })
+}
+
+/// Puts a state in the journal, in the place of the state that was saved and of all lines since, and goes on with a core in that state.
+/// At `Err` the file has the old state with its lines or the new one: end, and open the state again.
+pub fn put_snapshot<D: Device>(
+    alloc: Global,
+    journal: &mut Journal<D>,
+    service: &mut DurableState,
+    snapshot: &SnapshotLines,
+    core: LiveCore,
+) -> Result<(), DurableFault>
+    requires settled { IsJournalSettled D.seen D.may_leave journal.old.device journal.old.gate }
+    requires reached { IsReachableFromStart (live_view service.old.core) }
+    requires core { IsReachableFromStart (live_view core) }
+
+    // The state is on the disk.
+    ensures acknowledged { OnOk result (IsJournalSettled D.seen D.may_leave journal.new.device journal.new.gate
+        × (journal_content (D.seen journal.new.device) ≡ fresh snapshot.now)) }
+    // And it leads to the core.
+    ensures leads { OnOk result ((plant : PlantFields) (saved : Snapshot) → SaysState snapshot.now service.old.count plant saved
+        → IsAfterFrom plant (saved_start plant saved) [] [] (live_view core)
+        → IsLeading (journal_content (D.seen journal.new.device)) plant (live_view service.new.core) service.new.count) }
+    ensures core { OnOk result (service.new.core ≡ core) }
+    ensures same { (service.new.count ≡ service.old.count) × (service.new.file ≡ service.old.file) }
+
+    // A crash at any moment leaves the old state with all its lines, or the new one with none.
+    ensures any_moment { LeavesOnly D.moment D.left_since journal.old.device journal.new.device
+        (IsBeforeOrAfter (journal_content (D.seen journal.old.device)) (fresh snapshot.now)) }
+
+    // It does not give up by itself.
+    ensures disk { result ≡ Err faults.Disk → D.faults journal.old.device < D.faults journal.new.device }
+{
+    journal.replace_snapshot(alloc, snapshot)?;
+    service.core = core;
+    Ok(())
+}
