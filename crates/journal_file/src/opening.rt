@@ -12,7 +12,6 @@ use std::alloc::{AllocError, Global};
 use std::fs::{File, OpenOptions, TryLockError, metadata};
 use std::io;
 use std::io::Read;
-use std::os::fd::AsRawFd;
 use std::os::unix::fs::OpenOptionsExt;
 
 /// Says why the file of a journal was not opened.
@@ -81,24 +80,22 @@ fn open_folder(rt: &HostRuntime, folder: &str) -> Result<JournalFolder, JournalO
     })
 }
 
-/// Opens the file in a folder, or makes it, syncs both, and drops the system's copies of the file's pages: a sync of an earlier
-/// process that failed may have left them other than the disk has them.
-fn open_settled(folder: &JournalFolder) -> io::Result<File> {
-    let file = open_or_make(&folder.rt, folder.journal_path.as_str())?;
-    file.sync_all()?;
-    let advised = libc::posix_fadvise(file.as_raw_fd(), 0, 0, libc::POSIX_FADV_DONTNEED);
-    if advised != 0 {
-        return Err(io::Error::from_raw_os_error(advised));
-    }
-    folder.folder.sync_all()?;
-    Ok(file)
+/// Reads the file in a folder, and makes it, empty, if it is missing.
+fn read_journal(folder: &JournalFolder, alloc: Global) -> io::Result<Vec<u8>> {
+    let mut file = open_or_make(&folder.rt, folder.journal_path.as_str())?;
+    let mut bytes = Vec::new(alloc);
+    file.read_to_end(&mut bytes)?;
+    Ok(bytes)
 }
 
 impl JournalFile {
     /// Opens the file of a journal in a folder, and makes it, empty, if it is missing. It stays locked until it is dropped:
     /// until then another opening returns `InUse`.
+    ///
+    /// What was read is written anew, to a file that takes its place: a sync of an earlier process that failed may have left the
+    /// system's copy of the file other than the disk has it.
     pub fn open(rt: &HostRuntime, folder: &str) -> Result<JournalFile, JournalOpenFault>
-        // It was synced, and this was read of it.
+        // This was read of it, and synced.
         ensures opened { IfOk result (λ f. calls_made f ≡ calls_at_opening f) }
         // So a crash leaves what a read returns.
         ensures durable { IfOk result (λ f. Only (seen_bytes f) (MayLeave (calls_made f))) }
@@ -106,9 +103,12 @@ impl JournalFile {
         let alloc = rt.alloc();
         let part = JournalPart::Journal;
         let folder = open_folder(rt, folder)?;
-        let mut file = open_settled(&folder).map_err(|error| JournalOpenFault::Io { part, error })?;
-        let mut bytes = Vec::new(alloc);
-        file.read_to_end(&mut bytes)
+        let bytes = read_journal(&folder, alloc).map_err(|error| JournalOpenFault::Io {
+            part,
+            error,
+        })?;
+        let file = folder
+            .replace_file(&bytes)
             .map_err(|error| JournalOpenFault::Io { part, error })?;
         let log = Log::new().and(&FileCall::Open, &bytes);
         Ok(JournalFile {
