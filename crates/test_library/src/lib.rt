@@ -1,5 +1,5 @@
-//! Tests of library calls that no run of the program shows: encodings, MAPs, a journal, frame numbers, and
-//! allocations that fail in the lower layers.
+//! Tests of library calls that no run of the program shows: encodings, MAPs, a journal, frame numbers, and failed allocations in
+//! lower layers.
 #![tactic(auto)]
 
 #[cfg(test)]
