@@ -5,7 +5,7 @@ the machine's load.
 
 A snapshot has 32 operators or fewer, each with 16 modems, so many flows and 256 cached responses. A run that ends after the snapshot reads it,
 and one with a line `K` writes it too. The snapshot that is written has to be the one that was read. The time of a start with the plant file
-alone is taken off the reading. A run with twenty lines `P` changes the plant twenty times, each time to a file with another limit of flows.
+alone is taken off the reading. A run with twenty lines `P` changes the plant twenty times, each time to a file with another limit of elements.
 """
 
 import argparse
@@ -26,14 +26,14 @@ def address(op, number=0):
     return f"{op * MODEMS + number:012X}"
 
 
-def plant_of(operators, flows):
+def plant_of(operators, flows, elements=4):
     """Returns a plant file whose operators have a slice, some modems, and room for as many flows."""
     head = f"[plant]\nframe_minislots = 4096\nhead = 8\nframe_us = 2000\nbytes_per_minislot = 16\nshort_max = 4\nchannel = 1\nucd_count = 1\nhold = 60000\n"
     rows = [head]
     for op in range(operators):
         first, modems = 1 + op * 1024, ", ".join(f'"{address(op, number)}"' for number in range(MODEMS))
         rows.append(f'[[operator]]\nname = "Op{op}"\nslice = [{8 + op * LENGTH}, {LENGTH}]\nsfids = [{first}, {first + 1023}]\n'
-                    f"sids = [{1 + op * 200}, {200 + op * 200}]\nflows = {flows}\ntransactions = {RESPONSES}\ninbox = 256\nbudget = {LENGTH}\nelements = 4\n"
+                    f"sids = [{1 + op * 200}, {200 + op * 200}]\nflows = {flows}\ntransactions = {RESPONSES}\ninbox = 256\nbudget = {LENGTH}\nelements = {elements}\n"
                     f'policy = "strict"\nmodems = [{modems}]\n')
     return "\n".join(rows)
 
@@ -51,8 +51,8 @@ def snapshot_of(operators, flows):
 
 
 def changes_of(operators, flows):
-    """Returns lines that change the plant of a snapshot to files with one flow more and one flow less in turn."""
-    return "".join(f"P\n{plant_of(operators, flows + 1 - turn % 2)}---\n" for turn in range(CHANGES))
+    """Returns lines that change the plant of a snapshot to files with another limit of elements in turn."""
+    return "".join(f"P\n{plant_of(operators, flows, 5 - turn % 2)}---\n" for turn in range(CHANGES))
 
 
 def seconds(program, data):

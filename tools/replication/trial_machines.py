@@ -110,18 +110,27 @@ class Machine:
         self.node.kill()
         self.node.wait()
 
+    def is_up(self):
+        """Tests whether the node accepts connections. Fails if the node has ended."""
+        if self.node.poll() is not None:
+            raise Failed(f"the node of {self.address} ended with status {self.node.returncode}: see {self.folder}/output")
+        try:
+            with socket.create_connection((self.address, PORT), timeout=1):
+                return True
+        except OSError:
+            return False
+
+    def is_up_within(self, seconds):
+        """Waits until the node accepts connections, for so many seconds at most. Returns whether it does."""
+        end = time.monotonic() + seconds
+        while not (is_up := self.is_up()) and time.monotonic() < end:
+            time.sleep(0.1)
+        return is_up
+
     def wait_for_node(self):
         """Waits until the node accepts connections."""
-        end = time.monotonic() + NODE_SECONDS
-        while time.monotonic() < end:
-            if self.node.poll() is not None:
-                raise Failed(f"the node of {self.address} ended with status {self.node.returncode}: see {self.folder}/output")
-            try:
-                with socket.create_connection((self.address, PORT), timeout=1):
-                    return
-            except OSError:
-                time.sleep(0.1)
-        raise Failed(f"the node of {self.address} is not up after {NODE_SECONDS} seconds")
+        if not self.is_up_within(NODE_SECONDS):
+            raise Failed(f"the node of {self.address} is not up after {NODE_SECONDS} seconds")
 
 
 def start_cluster(folder, count=3):

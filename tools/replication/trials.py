@@ -13,7 +13,8 @@ replicas on two machines, a load of script lines and ticks, and a reader of its 
     steady       nothing is killed: prints processor time and delays, in place of a row of the table
 
 After each, what was killed is started again, at the latest half a minute after it was killed, as a manager of services does. The next trial
-waits until it serves, and until all channels answer. At the end of a kind, what a reader got is compared
+waits until it serves, and until all channels answer. A node that was cut off, and is not up half a minute later, is killed and started: this
+happens with RabbitMQ 3.10. At the end of a kind, what a reader got is compared
 with what the program answers to the lines of the log, by one process that was never killed. The table has for each kind how often it was
 tried, the longest pause between two answers of a channel from the fault to the end of its repair (median and worst over the channels), and
 how many answers were lost, came twice or were different.
@@ -99,6 +100,10 @@ def cut_off(site, turn):
     time.sleep(PARTITION_SECONDS)
     site.do_answer_within(REPAIR_SECONDS)
     machine.cut(False)
+    if not machine.is_up_within(REPAIR_SECONDS):
+        print(f"the node of {machine.address} did not come back by itself: it is killed and started", file=sys.stderr, flush=True)
+        machine.kill_node()
+        machine.start_node()
     site.wait_for_node(machine)
 
 
