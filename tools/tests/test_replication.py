@@ -8,11 +8,13 @@ import pathlib
 import random
 import sys
 import tempfile
+import types
 import unittest
 import zlib
 
 from tools import EXAMPLES, ROOT
 from tools.reference.answers import reference_answer
+from tools.replication import engine
 from tools.replication.answers import Batch, Claim, Malformed, Reader, parse_message
 from tools.replication.trial_load import random_line
 from tools.replication.numbering import Position, lines_of
@@ -428,6 +430,41 @@ class Plots(unittest.TestCase):
             self.assertEqual((reader.answered, [it.last + 1 for it in found][:-1]), (count, [it.first for it in found][1:]), seed)
             deposed, dropped = deposed + plot.deposed, dropped + reader.deposed + reader.repeated + reader.early
         self.assertGreater(min(deposed, dropped), 100)
+
+
+class StillLoop:
+    """An event loop in which nothing happens but a timer."""
+
+    def __init__(self):
+        self.timers = []
+
+    def call_later(self, seconds, callback):
+        self.timers.append((seconds, callback))
+        return callback
+
+    def start(self):
+        if self.timers:
+            self.timers.pop()[1]()
+
+    def stop(self):
+        pass
+
+    def remove_timeout(self, _timer):
+        pass
+
+
+class PublisherTimeout(unittest.TestCase):
+    def test_a_lost_confirmation_ends_the_wait(self):
+        """The engine takes a message and confirms nothing: publishing fails after a time, and the next node is tried first."""
+        nodes = engine.Nodes(["one", "two"])
+        publisher = engine.Publisher(nodes, "east.lines")
+        loop, sent, closed = StillLoop(), [], []
+        publisher.connection = types.SimpleNamespace(ioloop=loop, close=lambda: closed.append(True))
+        publisher.channel = types.SimpleNamespace(basic_publish=lambda *words, **_more: sent.append(words))
+        with self.assertRaises(TimeoutError):
+            publisher.publish(b"T\n")
+        self.assertEqual(sent, [("east.lines", "", b"T\n")])
+        self.assertEqual((closed, publisher.channel, nodes.urls), ([True], None, ["two", "one"]))
 
 
 if __name__ == "__main__":
