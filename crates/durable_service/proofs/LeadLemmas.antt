@@ -1,7 +1,8 @@
 -- What a journal leads to.
-use Rattle.std.proofs.Common.{◌≡◌, ℕ, ◌+◌, List, [], ◌++◌, length, Option, Vec, sym, ap, subst, ◌∙◌, arith, length-append}
+use Rattle.std.proofs.Common.{◌≡◌, ◌⊎◌, inl, inr, ⊎_elim, ℕ, ◌+◌, ◌==◌, true, List, [], ◌++◌, length, Option, Vec, sym, ap, subst, ◌∙◌, arith, length-append}
 use Rattle.std.specs.declared.alloc.Global.{Global}
-use Rattle.std.proofs.lemmas.List.{length-map}
+use Rattle.std.proofs.lemmas.Bool.Decides.{nat_tests}
+use Rattle.std.proofs.lemmas.List.{length-map, nil_from_length}
 use Rattle.plant_restart.specs.Restarted.{IsRestarted}
 use Rattle.snapshot_format.specs.States.{states_of}
 use Rattle.line_service.proofs.StepLemmas.{reachable_on}
@@ -13,9 +14,10 @@ use Rattle.run_model.specs.declared.step.Out.{Out}
 use Rattle.run_model.specs.IsStateAfter.{CoreView}
 use Rattle.live_core.specs.After.{IsAfterFrom, BehindEachRun, IsReachableFromStart}
 use Rattle.snapshot_format.specs.declared.saved.Snapshot.{Snapshot}
-use Rattle.line_journal.specs.Journal.{JournalContent, with_lines, fresh}
+use Rattle.line_journal.specs.Device.{LeavesOnly}
+use Rattle.line_journal.specs.Journal.{JournalContent, journal_content, with_lines, fresh}
 use Rattle.line_service.specs.Service.{all_done, all_told}
-use Rattle.durable_service.specs.Durable.{SaysState, saved_start, AreLinesDone, LineIsDone, LinesAreDone, LeadsTo, IsLeading}
+use Rattle.durable_service.specs.Durable.{SaysState, saved_start, AreLinesDone, LineIsDone, LinesAreDone, LeadsTo, IsLeading, IsOpeningState, IsBegunWith}
 use Rattle.durable_service.proofs.DoneLemmas.{none_done, done_joined}
 
 -- a batch more
@@ -94,3 +96,25 @@ pub text_alone : (plant : PlantFields) (start : Start) (before : List Step) (sho
     → old ≡ [] → LinesAreDone plant start before shown number lines live old new → AreLinesDone plant start before shown number lines live new
 text_alone plant start before shown number lines live old new none done =
     subst (λ (t : List ℕ). AreLinesDone plant start before shown number lines live t) (sym (done.added ∙ ap (λ (t : List ℕ). t ++ done.text) none)) done.done
+
+-- ---- a journal that opens a plant
+
+pub opening_state : (file : List ℕ) (plant : PlantFields) (saved : Snapshot) → saved.plant ≡ file → saved.frame ≡ plant.consts.channel.first_frame
+    → (length saved.operators == 0) ≡ true → IsOpeningState file plant saved
+opening_state file plant saved file_is frame_is none = record {
+  file_is = file_is;
+  frame_is = frame_is;
+  none_saved = nil_from_length saved.operators (grind (arith, nat_tests, none));
+}
+
+pub begun_with : (file : List ℕ) (plant : PlantFields) (saved : Snapshot) (snapshot : List (List ℕ)) → SaysState snapshot 0 plant saved → IsOpeningState file plant saved
+    → (c : List ℕ) → journal_content c ≡ fresh snapshot → IsBegunWith file (journal_content c)
+begun_with file plant saved snapshot says opens c is = record { plant = plant; saved = saved; stands = record { snapshot = snapshot; stands_for = is; says = says }; opens = opens }
+
+pub left_at_most : {D : Type 0} (moment : D → ℕ) (left_since : D → ℕ → List ℕ → Type 0) (old new : D) (P Q : List ℕ → Type 0) → LeavesOnly moment left_since old new P
+    → ((c : List ℕ) → P c → Q c) → LeavesOnly moment left_since old new Q
+left_at_most moment left_since old new P Q only to = record {
+  later = only.later;
+  each = λ c left. to c (only.each c left);
+  before = λ t c le left. ⊎_elim (λ was. inl was) (λ now. inr (to c now)) (only.before t c le left);
+}

@@ -41,6 +41,12 @@ pub record SaysState (snapshot : List (List ℕ)) (count : ℕ) (plant : PlantFi
 abbrev pub saved_start : PlantFields → Snapshot → Start
 saved_start plant saved = start_by_name plant saved.frame (states_of saved)
 
+-- no operator is saved, before the plant's first frame: the plant of this file is opened
+pub record IsOpeningState (file : List ℕ) (plant : PlantFields) (saved : Snapshot) : Type 0 where
+  pub file_is : saved.plant ≡ file
+  pub frame_is : saved.frame ≡ plant.consts.channel.first_frame
+  pub none_saved : saved.operators ≡ []
+
 -- ---- lines that are done
 
 -- After these steps and outputs all of these lines are answered, for none of them memory ran out, this is the core then, and this the text
@@ -87,6 +93,13 @@ pub record StandsForState (content : Option JournalContent) (count : ℕ) (plant
   pub snapshot : List (List ℕ)
   pub stands_for : content ≡ Some (record { snapshot = snapshot; lines = lines })
   pub says : SaysState snapshot count plant saved
+
+-- the file stands for a journal that was begun with this plant file, and has no line
+pub record IsBegunWith (file : List ℕ) (content : Option JournalContent) : Type 0 where
+  pub plant : PlantFields
+  pub saved : Snapshot
+  pub stands : StandsForState content 0 plant saved []
+  pub opens : IsOpeningState file plant saved
 
 -- ---- a state that is to be kept
 

@@ -1,6 +1,6 @@
 //! Lines that are put in the journal before they are answered.
 
-ghost use Rattle.std.specs.Prelude.{◌≡◌, ◌<◌, ◌+◌, Err, IfOk, OnOk};
+ghost use Rattle.std.specs.Prelude.{◌≡◌, ◌<◌, ◌+◌, length, Err, IfOk, OnOk};
 ghost use Rattle.plant.specs.declared.plant.PlantFields.{PlantFields};
 ghost use Rattle.live_core.specs.After.{BehindEachRun, IsReachableFromStart};
 ghost use Rattle.live_core.specs.LiveView.{live_view};
@@ -47,6 +47,8 @@ pub fn do_batch<D: Device>(
     ensures done { IfOk result (λ text. BehindEachRun (live_view service.old.core) (λ plant start before shown. AreLinesDone plant start before shown
         (service.old.count + 1) (texts lines.now) (live_view service.new.core) text.items)) }
     ensures reached { OnOk result (IsReachableFromStart (live_view service.new.core)) }
+    ensures count { OnOk result (service.new.count ≡ service.old.count + length lines.now) }
+    ensures same_file { service.new.file ≡ service.old.file }
     // The journal still leads to the core.
     ensures leads { OnOk result ((plant : PlantFields)
         → IsLeading (journal_content (D.seen journal.old.device)) plant (live_view service.old.core) service.old.count

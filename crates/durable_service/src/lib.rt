@@ -12,8 +12,6 @@ mod lines;
 mod opening;
 mod reading;
 mod saving;
-#[cfg(test)]
-mod tests;
 
 pub use batches::do_batch;
 pub use fault::{DurableFault, JournalStateFault, LineFailure};

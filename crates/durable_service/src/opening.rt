@@ -1,6 +1,6 @@
 //! A service that goes on from a saved state.
 
-ghost use Rattle.std.specs.Prelude.{◌≡◌, OnOk};
+ghost use Rattle.std.specs.Prelude.{◌≡◌, ◌+◌, length, OnOk};
 ghost use Rattle.plant.specs.declared.plant.PlantFields.{PlantFields};
 ghost use Rattle.live_core.specs.After.{IsReachableFromStart};
 ghost use Rattle.live_core.specs.LiveView.{live_view};
@@ -42,6 +42,7 @@ pub fn redo_lines(
         → SaysState content.snapshot service.old.count plant saved → content.lines ≡ texts lines.now
         → IsRestarted plant saved.frame (states_of saved) (live_view service.old.core)
         → LeadsTo content plant (live_view service.new.core) service.new.count) }
+    ensures count { OnOk result (service.new.count ≡ service.old.count + length lines.now) }
     ensures same { service.new.file ≡ service.old.file }
 {
     let mut text = Vec::new(alloc);

@@ -1,17 +1,17 @@
 //! A saved state in the journal, in place of the lines before it.
 
-ghost use Rattle.std.specs.Prelude.{◌≡◌, ◌<◌, ◌⊎◌, [], Some, Err, IfOk, OnOk};
+ghost use Rattle.std.specs.Prelude.{◌≡◌, ◌<◌, ◌⊎◌, [], Err, IsTrue, IfOk, OnOk};
 ghost use Rattle.plant.specs.declared.plant.PlantFields.{PlantFields};
-ghost use Rattle.live_core.specs.After.{IsAfterFrom, IsReachableFromStart};
+ghost use Rattle.live_core.specs.After.{IsAfterFrom};
 ghost use Rattle.live_core.specs.LiveView.{live_view};
 ghost use Rattle.snapshot_format.specs.declared.saved.Snapshot.{Snapshot};
 ghost use Rattle.snapshot_format.specs.Text.{text_of_snapshot};
 ghost use Rattle.plant_restart.specs.Saving.{IsCoreSnapshot};
 ghost use Rattle.line_journal.specs.Device.{LeavesOnly};
 ghost use Rattle.line_journal.specs.Found.{texts};
-ghost use Rattle.line_journal.specs.Journal.{JournalContent, journal_content, fresh, IsJournalSettled, IsBeforeOrAfter};
+ghost use Rattle.line_journal.specs.Journal.{journal_content, fresh, IsJournalSettled, IsBeforeOrAfter};
 ghost use Rattle.durable_service.specs.declared.fault.DurableFault.TheVariants as faults;
-ghost use Rattle.durable_service.specs.Durable.{joined_text, saved_start, SaysState, StandsForState, IsLeading, IsKeptState};
+ghost use Rattle.durable_service.specs.Durable.{joined_text, saved_start, SaysState, StandsForState, IsOpeningState, IsBegunWith, IsLeading, IsKeptState};
 
 use crate::fault::{DurableFault, JournalStateFault};
 use crate::lines::{join_lines, snapshot_lines, split_lines};
@@ -63,6 +63,20 @@ fn state_of_core(
     }
 }
 
+/// Returns whether the state is that of a plant file before any line.
+#[tactic(auto, using(crate::proofs::LeadLemmas::opening_state))]
+fn is_opening(start: &StartState, file: &[u8]) -> bool
+    ensures { IsTrue result → IsOpeningState file.now start.now.plant start.now.saved }
+{
+    if start.saved.plant.as_slice() != file {
+        return false;
+    }
+    if start.saved.frame != start.plant.consts().get_fields().channel.first_frame {
+        return false;
+    }
+    start.saved.operators.is_empty()
+}
+
 /// Begins a journal with a plant file, in place of whatever the file has: no operator is saved, so each is opened before the plant's
 /// first frame.
 pub fn begin_state<D: Device>(
@@ -73,23 +87,28 @@ pub fn begin_state<D: Device>(
     ensures found { IfOk result (λ state. StandsForState (journal_content (D.seen device.new)) 0 state.start.plant state.start.saved []) }
     ensures settled { IfOk result (λ state. IsJournalSettled D.seen D.may_leave device.new state.gate) }
     ensures new { IfOk result (λ state. (state.start.count ≡ 0) × (state.lines.items ≡ [])) }
+    ensures opening { IfOk result (λ state. IsOpeningState file state.start.plant state.start.saved) }
 
-    // A crash at any moment leaves what it might have left before, or a journal that has no line.
+    // A crash at any moment leaves what it might have left before, or a journal that opens the plant and has no line.
     ensures any_moment { LeavesOnly D.moment D.left_since device.old device.new (λ c. D.may_leave device.old c
-        ⊎ ((stored : JournalContent) × (journal_content c ≡ Some stored) × (stored.lines ≡ []))) }
+        ⊎ IsBegunWith file (journal_content c)) }
 
     // It does not give up by itself.
     ensures disk { result ≡ Err faults.Disk → D.faults device.old < D.faults device.new }
 {
     let plant = plant_of_file(alloc, file.as_slice())?;
     let saved = Snapshot {
-        plant: file,
+        plant: file.copy(alloc)?,
         frame: plant.consts().get_fields().channel.first_frame,
         operators: Listed::new(alloc),
     };
     let lines = lines_of_snapshot(alloc, &saved)?;
-    let start = start_of(alloc, 0, lines.as_slice())?;
-    let snapshot = snapshot_lines(alloc, 0, lines.as_slice())?;
+    let lines = lines.as_slice();
+    let start = start_of(alloc, 0, lines)?;
+    if !is_opening(&start, file.as_slice()) {
+        return Err(DurableFault::from(JournalStateFault::NotKept));
+    }
+    let snapshot = snapshot_lines(alloc, 0, lines)?;
     let gate = begin(alloc, device, &snapshot)?;
     Ok(SavedState {
         start,
@@ -112,28 +131,24 @@ pub fn state_to_keep(alloc: Global, service: &DurableState) -> Result<KeptState,
     })
 }
 
-/// Puts a state in the journal, in the place of the state that was saved and of all lines since, and goes on with a core in that state.
-/// At `Err` the file has the old state with its lines or the new one: end, and open the state again.
+/// Puts the state of a service in the journal, in the place of the state that was saved and of all lines since. Its core has to be one that was
+/// restored from these lines, so that the journal leads to it. At `Err` the file has the old state with its lines or the new one: end,
+/// and open the state again.
 pub fn put_snapshot<D: Device>(
     alloc: Global,
     journal: &mut Journal<D>,
-    service: &mut DurableState,
+    service: &DurableState,
     snapshot: &SnapshotLines,
-    core: LiveCore,
 ) -> Result<(), DurableFault>
     requires settled { IsJournalSettled D.seen D.may_leave journal.old.device journal.old.gate }
-    requires reached { IsReachableFromStart (live_view service.old.core) }
-    requires core { IsReachableFromStart (live_view core) }
 
     // The state is on the disk.
     ensures acknowledged { OnOk result (IsJournalSettled D.seen D.may_leave journal.new.device journal.new.gate
         × (journal_content (D.seen journal.new.device) ≡ fresh snapshot.now)) }
     // And it leads to the core.
-    ensures leads { OnOk result ((plant : PlantFields) (saved : Snapshot) → SaysState snapshot.now service.old.count plant saved
-        → IsAfterFrom plant (saved_start plant saved) [] [] (live_view core)
-        → IsLeading (journal_content (D.seen journal.new.device)) plant (live_view service.new.core) service.new.count) }
-    ensures core { OnOk result (service.new.core ≡ core) }
-    ensures same { (service.new.count ≡ service.old.count) × (service.new.file ≡ service.old.file) }
+    ensures leads { OnOk result ((plant : PlantFields) (saved : Snapshot) → SaysState snapshot.now service.now.count plant saved
+        → IsAfterFrom plant (saved_start plant saved) [] [] (live_view service.now.core)
+        → IsLeading (journal_content (D.seen journal.new.device)) plant (live_view service.now.core) service.now.count) }
 
     // A crash at any moment leaves the old state with all its lines, or the new one with none.
     ensures any_moment { LeavesOnly D.moment D.left_since journal.old.device journal.new.device
@@ -143,6 +158,5 @@ pub fn put_snapshot<D: Device>(
     ensures disk { result ≡ Err faults.Disk → D.faults journal.old.device < D.faults journal.new.device }
 {
     journal.replace_snapshot(alloc, snapshot)?;
-    service.core = core;
     Ok(())
 }

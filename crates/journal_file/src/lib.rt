@@ -15,8 +15,6 @@ mod file;
 mod folder;
 mod mirror;
 mod opening;
-#[cfg(test)]
-mod tests;
 
 pub use calls::FileCall;
 pub use file::JournalFile;

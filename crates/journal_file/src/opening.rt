@@ -40,6 +40,15 @@ impl From<AllocError> for JournalOpenFault {
     }
 }
 
+/// Returns why a file was not opened, where a call failed on this part.
+fn open_fault(part: JournalPart, error: io::Error) -> JournalOpenFault
+{
+    match error.kind() {
+        io::ErrorKind::OutOfMemory => JournalOpenFault::NoMemory,
+        _ => JournalOpenFault::Io { part, error },
+    }
+}
+
 /// Opens a file for reading and writing, and makes it if it is missing.
 fn open_or_make(rt: &HostRuntime, path: &str) -> io::Result<File> {
     OpenOptions::new()
@@ -53,7 +62,7 @@ fn open_or_make(rt: &HostRuntime, path: &str) -> io::Result<File> {
 /// Takes the lock of a folder, without waiting for it.
 fn take_lock(rt: &HostRuntime, path: &str) -> Result<File, JournalOpenFault> {
     let part = JournalPart::Lock;
-    let lock = open_or_make(rt, path).map_err(|error| JournalOpenFault::Io { part, error })?;
+    let lock = open_or_make(rt, path).map_err(|error| open_fault(part, error))?;
     match lock.try_lock() {
         Ok(()) => Ok(lock),
         Err(TryLockError::WouldBlock) => Err(JournalOpenFault::InUse),
@@ -69,7 +78,7 @@ fn open_folder(rt: &HostRuntime, folder: &str) -> Result<JournalFolder, JournalO
         Ok(found) if found.is_dir() => {}
         _ => return Err(JournalOpenFault::NotAFolder),
     }
-    let handle = File::open(rt, folder).map_err(|error| JournalOpenFault::Io { part, error })?;
+    let handle = File::open(rt, folder).map_err(|error| open_fault(part, error))?;
     let lock = take_lock(rt, format!(in alloc; "{folder}/lock")?.as_str())?;
     Ok(JournalFolder {
         rt: rt.clone()?,
@@ -103,13 +112,10 @@ impl JournalFile {
         let alloc = rt.alloc();
         let part = JournalPart::Journal;
         let folder = open_folder(rt, folder)?;
-        let bytes = read_journal(&folder, alloc).map_err(|error| JournalOpenFault::Io {
-            part,
-            error,
-        })?;
+        let bytes = read_journal(&folder, alloc).map_err(|error| open_fault(part, error))?;
         let file = folder
             .replace_file(&bytes)
-            .map_err(|error| JournalOpenFault::Io { part, error })?;
+            .map_err(|error| open_fault(part, error))?;
         let log = Log::new().and(&FileCall::Open, &bytes);
         Ok(JournalFile {
             alloc,

@@ -1,4 +1,6 @@
-use crate::{JournalFile, JournalOpenFault};
+//! The file of a journal in a folder of the system.
+
+use journal_file::{JournalFile, JournalOpenFault};
 use line_journal::{Batch, Device, Journal, SnapshotLines, begin, recover};
 use std::fs;
 use std::test::Fail;

@@ -1,0 +1,153 @@
+-- What a journal has at any moment.
+use Rattle.std.proofs.Common.{◌≡◌, ◌⊎◌, ◌≤◌, inl, inr, ⊎_elim, ℕ, ◌+◌, List, [], ◌++◌, length, Option, Some, None, Vec, refl, sym, ap, subst, ◌∙◌, arith, length-append}
+use Rattle.std.specs.declared.alloc.Global.{Global}
+use Rattle.std.proofs.lemmas.List.{length-map}
+use Rattle.line_journal.specs.Found.{texts}
+use Rattle.plant.specs.declared.plant.PlantFields.{PlantFields}
+use Rattle.run_model.specs.IsStateAfter.{CoreView}
+use Rattle.snapshot_format.specs.declared.saved.Snapshot.{Snapshot}
+use Rattle.line_journal.specs.Device.{LeavesOnly, Only, Elapses}
+use Rattle.line_journal.specs.Journal.{JournalContent, journal_content, with_lines, fresh, IsBeforeOrAfter}
+use Rattle.durable_service.specs.Durable.{SaysState, StandsForState, IsLeading, IsBegunWith}
+use Rattle.state_service.specs.Serving.{LeadsHere, HasLines, HasNoFewer, LosesNoLine}
+
+-- more lines
+pub lines_added : (least : ℕ) (content later : Option JournalContent) (lines : List (List ℕ)) → HasNoFewer least content → later ≡ with_lines lines content → HasNoFewer least later
+lines_added least content later lines keeps is =
+    let has = keeps.has in
+    let stands = has.stands in
+    record {
+      count = keeps.count + length lines;
+      has = record {
+        before = has.before;
+        plant = has.plant;
+        saved = has.saved;
+        lines = has.lines ++ lines;
+        stands = record { snapshot = stands.snapshot; stands_for = is ∙ ap (λ (o : Option JournalContent). with_lines lines o) stands.stands_for; says = stands.says };
+        count_is = omega (arith, has.count_is, length-append has.lines lines);
+      };
+      enough = omega (arith, keeps.enough);
+    }
+
+-- a state that takes the place of lines
+pub state_put : (least count : ℕ) (plant : PlantFields) (saved : Snapshot) (snapshot : List (List ℕ)) (content : Option JournalContent) → least ≤ count → SaysState snapshot count plant saved
+    → content ≡ fresh snapshot → HasNoFewer least content
+state_put least count plant saved snapshot content le says is = record {
+  count = count;
+  has = record {
+    before = count;
+    plant = plant;
+    saved = saved;
+    lines = [];
+    stands = record { snapshot = snapshot; stands_for = is; says = says };
+    count_is = omega arith;
+  };
+  enough = le;
+}
+
+-- the one or the other
+pub before_or_after : (least : ℕ) (before later : Option JournalContent) → HasNoFewer least before → HasNoFewer least later → (c : List ℕ) → IsBeforeOrAfter before later c
+    → HasNoFewer least (journal_content c)
+before_or_after least before later one other c is =
+    ⊎_elim (λ same. subst (λ (o : Option JournalContent). HasNoFewer least o) (sym same) one) (λ same. subst (λ (o : Option JournalContent). HasNoFewer least o) (sym same) other) is
+
+-- a journal that leads to a core
+pub leading_has : (content : Option JournalContent) (live : CoreView) (count : ℕ) → LeadsHere content live count → HasLines content count
+leading_has content live count (plant, leading) =
+    let leads = leading.leads in
+    record {
+      before = leads.before;
+      plant = plant;
+      saved = leads.saved;
+      lines = leading.stored.lines;
+      stands = record { snapshot = leading.stored.snapshot; stands_for = leading.stands_for; says = leads.state };
+      count_is = leads.count_is;
+    }
+
+-- the lines of a journal with those before its state
+pub stands_has : (content : Option JournalContent) (count : ℕ) (plant : PlantFields) (saved : Snapshot) (lines : List (Vec ℕ Global)) → StandsForState content count plant saved (texts lines)
+    → HasLines content (count + length lines)
+stands_has content count plant saved lines stands = record {
+  before = count;
+  plant = plant;
+  saved = saved;
+  lines = texts lines;
+  stands = stands;
+  count_is = omega (arith, length-map lines (λ (v : Vec ℕ Global). v.items));
+}
+
+-- ---- moments
+
+module _ {D : Type 0} (moment : D → ℕ) (left_since : D → ℕ → List ℕ → Type 0) where
+  -- what a crash leaves has the one, and so the other
+  pub weaker : (old new : D) (P Q : List ℕ → Type 0) → LeavesOnly moment left_since old new P → ((c : List ℕ) → P c → Q c) → LeavesOnly moment left_since old new Q
+  weaker old new P Q only to = record {
+    later = only.later;
+    each = λ c left. to c (only.each c left);
+    before = λ t c le left. ⊎_elim (λ was. inl was) (λ now. inr (to c now)) (only.before t c le left);
+  }
+
+  -- no call
+  pub at_rest : (device : D) (P : List ℕ → Type 0) → ((c : List ℕ) → left_since device (moment device) c → P c) → LeavesOnly moment left_since device device P
+  at_rest device P here = record {
+    later = omega arith;
+    each = here;
+    before = λ t c le left. inl left;
+  }
+
+  -- no call on a file that is on the disk
+  pub nothing_lost : (device : D) (seen : D → List ℕ) (may_leave : D → List ℕ → Type 0) (least : ℕ) → ((c : List ℕ) → left_since device (moment device) c → may_leave device c)
+      → Only (seen device) (may_leave device) → HasNoFewer least (journal_content (seen device)) → LeavesOnly moment left_since device device (λ c. HasNoFewer least (journal_content c))
+  nothing_lost device seen may_leave least now only has =
+      at_rest device (λ c. HasNoFewer least (journal_content c)) (λ c left. subst (λ (d : List ℕ). HasNoFewer least (journal_content d)) (sym (only c (now c left))) has)
+
+  -- a call that adds no outcome
+  pub none_added : (may_leave : D → List ℕ → Type 0) (old new : D) (P : List ℕ → Type 0) → ((c : List ℕ) → left_since old (moment old) c → may_leave old c) → ((c : List ℕ) → may_leave old c → P c)
+      → Elapses (moment old) (moment new) (left_since old) (left_since new) (may_leave new) → ((c : List ℕ) → may_leave new c → may_leave old c) → LeavesOnly moment left_since old new P
+  none_added may_leave old new P now here time same = record {
+    later = time.later;
+    each = λ c left. ⊎_elim (λ past. here c (now c past)) (λ is. here c (same c is)) (time.nothing_else (moment old) c (omega arith) left);
+    before = λ t c le left. ⊎_elim (λ past. inl past) (λ is. inr (here c (same c is))) (time.nothing_else t c le left);
+  }
+
+  -- so a journal with these lines loses none
+  pub loses_none : (old new : D) (content : Option JournalContent) (count : ℕ) (plant : PlantFields) (saved : Snapshot) (lines : List (Vec ℕ Global)) → StandsForState content count plant saved (texts lines)
+      → LeavesOnly moment left_since old new (λ c. HasNoFewer (count + length lines) (journal_content c)) → LeavesOnly moment left_since old new (λ c. LosesNoLine content (journal_content c))
+  loses_none old new content count plant saved lines stands only =
+      weaker old new (λ c. HasNoFewer (count + length lines) (journal_content c)) (λ c. LosesNoLine content (journal_content c)) only
+      (λ c has. record { least = count + length lines; had = inl (stands_has content count plant saved lines stands); has = has })
+
+  -- a state that is put in the place of lines
+  pub put_moments : (old new : D) (before : Option JournalContent) (snapshot : List (List ℕ)) (least count : ℕ) (plant : PlantFields) (saved : Snapshot) → HasNoFewer least before → least ≤ count
+      → SaysState snapshot count plant saved → LeavesOnly moment left_since old new (IsBeforeOrAfter before (fresh snapshot))
+      → LeavesOnly moment left_since old new (λ c. HasNoFewer least (journal_content c))
+  put_moments old new before snapshot least count plant saved has le says only =
+      weaker old new (IsBeforeOrAfter before (fresh snapshot)) (λ c. HasNoFewer least (journal_content c)) only
+      (before_or_after least before (fresh snapshot) has (state_put least count plant saved snapshot (fresh snapshot) le says refl))
+
+  -- one call, and then more
+  pub joined : (old mid new : D) (P : List ℕ → Type 0) → LeavesOnly moment left_since old mid P → LeavesOnly moment left_since mid new P → LeavesOnly moment left_since old new P
+  joined old mid new P so_far more = record {
+    later = omega (arith, so_far.later, more.later);
+    each = λ c left. ⊎_elim (so_far.each c) (λ p. p) (more.before (moment old) c so_far.later left);
+    before = λ t c le left. ⊎_elim (so_far.before t c le) (λ p. inr p) (more.before t c (omega (arith, le, so_far.later)) left);
+  }
+
+  -- a batch
+  pub batch_moments : (old new : D) (before : Option JournalContent) (lines : List (List ℕ)) (least : ℕ) → HasNoFewer least before
+      → LeavesOnly moment left_since old new (IsBeforeOrAfter before (with_lines lines before)) → LeavesOnly moment left_since old new (λ c. HasNoFewer least (journal_content c))
+  batch_moments old new before lines least has only =
+      weaker old new (IsBeforeOrAfter before (with_lines lines before)) (λ c. HasNoFewer least (journal_content c)) only
+      (before_or_after least before (with_lines lines before) has (lines_added least before (with_lines lines before) lines has refl))
+
+-- a journal is begun
+pub begun_loses_none : (bytes file : List ℕ) (content : Option JournalContent) → bytes ≡ [] → IsBegunWith file content → LosesNoLine (journal_content bytes) content
+begun_loses_none bytes file content none begun = record {
+  least = 0;
+  had = inr (ap (λ (b : List ℕ). journal_content b) none, refl);
+  has = record {
+    count = 0;
+    has = record { before = 0; plant = begun.plant; saved = begun.saved; lines = []; stands = begun.stands; count_is = refl };
+    enough = omega arith;
+  };
+}

@@ -1,0 +1,4 @@
+pub mod ReadLemmas
+pub mod ServeLemmas
+pub mod KeepLemmas
+pub mod BeginLemmas

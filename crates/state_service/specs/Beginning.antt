@@ -1,0 +1,72 @@
+-- What a service with a journal begins with (implementation-specific).
+use Rattle.std.specs.Prelude.{◌≡◌, ◌≢◌, ◌⊎◌, ℕ, ◌+◌, List, [], Option, Ok}
+use Rattle.std.specs.Io.KnownBytes.{Appends}
+use Rattle.toml.specs.Parse.{parse_document}
+use Rattle.slice_table.specs.ReadPlant.{text_plant}
+use Rattle.plant.specs.declared.plant.PlantFields.{PlantFields}
+use Rattle.run_model.specs.IsStateAfter.{CoreView}
+use Rattle.snapshot_format.specs.declared.saved.Snapshot.{Snapshot}
+use Rattle.snapshot_format.specs.States.{states_of}
+use Rattle.plant_restart.specs.Restarted.{IsRestarted}
+use Rattle.plant_restart.specs.Changing.{IsChangeOf}
+use Rattle.line_service.specs.Bytes.{WhereKnown}
+use Rattle.line_journal.specs.Journal.{JournalContent, journal_content}
+use Rattle.durable_service.specs.Durable.{IsBegunWith, StandsForState}
+use Rattle.state_service.specs.declared.periods.PeriodEnd.{PeriodEnd}
+use Rattle.state_service.specs.declared.periods.PeriodEnd.TheVariants.{Ended}
+use Rattle.state_service.specs.Serving.{LeadsHere, LosesNoLine, IsRestFrame, greeting}
+use Rattle.state_service.specs.Periods.{IsAfterPeriod, IsDueOf, LeadsAtEnd}
+
+-- the journal of a file of these bytes, which is begun if there is no byte
+abbrev pub IsFoundIn : List ℕ → List ℕ → Option JournalContent → Type 0
+IsFoundIn bytes file content = (bytes ≢ [] → content ≡ journal_content bytes) × (bytes ≡ [] → IsBegunWith file content)
+
+-- the plant stays, or it is changed to that of the plant file
+abbrev pub IsUnderFile : List ℕ → CoreView → CoreView → Type 0
+IsUnderFile file led first = (first ≡ led) ⊎ ((plant : PlantFields) × (text_plant (parse_document file) ≡ Ok plant) × IsChangeOf led plant first)
+
+-- a core is restored from the state of a journal, before which so many lines were done, and these lines are since
+pub record IsRestoredFrom (content : Option JournalContent) (count : ℕ) (lines : List (List ℕ)) (live : CoreView) : Type 0 where
+  pub plant : PlantFields
+  pub saved : Snapshot
+  pub stands : StandsForState content count plant saved lines
+  pub restored : IsRestarted plant saved.frame (states_of saved) live
+
+-- a service from the core to which a journal leads, under the plant file: after the greeting, lines are done up to the end of the input or
+-- until a state is to be saved
+pub record IsServiceSoFar (found : Option JournalContent) (file : List ℕ) (end : PeriodEnd) (input rest part : List ℕ) (live : CoreView) (now : ℕ) (old new : Option (List ℕ)) : Type 0 where
+  pub led : CoreView
+  pub count : ℕ
+  pub leads : LeadsHere found led count
+  pub first : CoreView
+  pub is_under : IsUnderFile file led first
+  pub frame : Option ℕ
+  pub is_frame : IsRestFrame first frame
+  pub mid : Option (List ℕ)
+  pub greeted : Appends old mid (greeting (count + 1) frame)
+  pub so_far : IsAfterPeriod end first count input rest part live now mid new
+
+-- such a service up to the end of a period, of a core that is not kept: a state that is due is that of the core, and otherwise the journal
+-- leads to it
+pub record IsServedTo (found content : Option JournalContent) (given file : List ℕ) (count : ℕ) (end : PeriodEnd) (part : List ℕ) (known rest old new : Option (List ℕ)) : Type 0 where
+  pub live : CoreView
+  pub due : IsDueOf live file count end
+  pub leads : LeadsAtEnd end content live count
+  pub serves : WhereKnown known rest (λ input left. IsServiceSoFar found given end input left part live count old new)
+
+-- a service of all lines of an input, at whose end the journal leads to the core that has done them
+pub record IsServiceOn (found : Option JournalContent) (file input : List ℕ) (content : Option JournalContent) (old new : Option (List ℕ)) : Type 0 where
+  pub live : CoreView
+  pub now : ℕ
+  pub serves : IsServiceSoFar found file Ended input [] [] live now old new
+  pub leads : LeadsHere content live now
+
+-- a service that begins with a file of these bytes
+pub record IsStateService (bytes file input : List ℕ) (content : Option JournalContent) (old new : Option (List ℕ)) : Type 0 where
+  pub found : Option JournalContent
+  pub is_found : IsFoundIn bytes file found
+  pub serves : IsServiceOn found file input content old new
+
+-- what a crash leaves is as before, or it has a state and no fewer lines
+abbrev pub IsUnharmed : List ℕ → Option JournalContent → Type 0
+IsUnharmed bytes content = (content ≡ journal_content bytes) ⊎ LosesNoLine (journal_content bytes) content

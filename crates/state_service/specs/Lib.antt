@@ -1,0 +1,4 @@
+pub mod Taking
+pub mod Serving
+pub mod Periods
+pub mod Beginning

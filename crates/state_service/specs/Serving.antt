@@ -1,0 +1,111 @@
+-- A service whose lines are in a journal before they are answered (implementation-specific).
+use Rattle.std.specs.Prelude.{◌≡◌, ◌≤◌, ◌⊎◌, ℕ, ◌+◌, List, [], ◌∷◌, ◌++◌, length, Option, Some, None, codes}
+use Rattle.std.specs.Fmt.{decimal}
+use Rattle.std.specs.Io.KnownBytes.{Appends}
+use Rattle.plant.specs.declared.plant.PlantFields.{PlantFields}
+use Rattle.run_model.specs.IsStateAfter.{CoreView}
+use Rattle.live_core.specs.After.{BehindEachRun}
+use Rattle.live_core.specs.Resting.{Rests}
+use Rattle.snapshot_format.specs.declared.saved.Snapshot.{Snapshot}
+use Rattle.snapshot_format.specs.States.{states_of}
+use Rattle.plant_restart.specs.Restarted.{IsRestarted}
+use Rattle.line_journal.specs.Journal.{JournalContent}
+use Rattle.durable_service.specs.Durable.{AreLinesDone, IsKeptState, IsLeading, StandsForState}
+use Rattle.state_service.specs.Taking.{AreTaken, AreAllTaken}
+
+-- ---- what a service has done
+
+pub data Event : Type 0 where
+  -- lines are done, and this text answers them
+  Done : (lines : List (List ℕ)) (text : List ℕ) → Event
+  -- the state was saved, and the core goes on from it
+  Saved : Event
+
+-- the lines that were done, where the latest event comes first
+abbrev pub lines_done : List Event → List (List ℕ)
+lines_done [] = []
+lines_done (Done lines text ∷ before) = lines_done before ++ lines
+lines_done (Saved ∷ before) = lines_done before
+
+-- the text that answers them
+abbrev pub text_told : List Event → List ℕ
+text_told [] = []
+text_told (Done lines text ∷ before) = text_told before ++ text
+text_told (Saved ∷ before) = text_told before
+
+-- a core is in the state that was read of what is kept of another one
+pub record GoesOnFromState (old live : CoreView) : Type 0 where
+  pub file : List ℕ
+  pub count : ℕ
+  pub snapshot : List (List ℕ)
+  pub plant : PlantFields
+  pub read : Snapshot
+  pub kept : IsKeptState old file count snapshot plant read
+  pub is_restarted : IsRestarted plant read.frame (states_of read) live
+
+-- after so many lines, and these events, the first core has become this one
+abbrev pub LeadOn : CoreView → ℕ → List Event → CoreView → Type 0
+LeadOn first count [] live = live ≡ first
+LeadOn first count (Done lines text ∷ before) live = (old : CoreView) × LeadOn first count before old
+    × BehindEachRun old (λ plant start steps shown. AreLinesDone plant start steps shown (count + length (lines_done before) + 1) lines live text)
+LeadOn first count (Saved ∷ before) live = (old : CoreView) × LeadOn first count before old × GoesOnFromState old live
+
+-- ---- a service that goes on from a core
+
+-- these lines of the input are done and answered, and of the next one this part is read
+pub record IsServing (first : CoreView) (count : ℕ) (input rest part : List ℕ) (live : CoreView) (now : ℕ) (old new : Option (List ℕ)) : Type 0 where
+  pub events : List Event
+  pub lead : LeadOn first count events live
+  pub count_is : now ≡ count + length (lines_done events)
+  pub taken : AreTaken input rest (lines_done events) part
+  pub written : Appends old new (text_told events)
+
+-- all lines of the input are done and answered
+pub record HasServed (first : CoreView) (count : ℕ) (input : List ℕ) (live : CoreView) (now : ℕ) (old new : Option (List ℕ)) : Type 0 where
+  pub events : List Event
+  pub lead : LeadOn first count events live
+  pub count_is : now ≡ count + length (lines_done events)
+  pub taken : AreAllTaken input (lines_done events)
+  pub written : Appends old new (text_told events)
+
+-- ---- what the journal has
+
+-- the journal leads to this core, and so many lines are done then
+abbrev pub LeadsHere : Option JournalContent → CoreView → ℕ → Type 0
+LeadsHere content live count = (plant : PlantFields) × IsLeading content plant live count
+
+-- the journal has a state and the lines since, so many with those before the state
+pub record HasLines (content : Option JournalContent) (count : ℕ) : Type 0 where
+  pub before : ℕ
+  pub plant : PlantFields
+  pub saved : Snapshot
+  pub lines : List (List ℕ)
+  pub stands : StandsForState content before plant saved lines
+  pub count_is : count ≡ before + length lines
+
+-- it has a state, and no fewer lines than these
+pub record HasNoFewer (least : ℕ) (content : Option JournalContent) : Type 0 where
+  pub count : ℕ
+  pub has : HasLines content count
+  pub enough : least ≤ count
+
+-- it is as before, or it has a state and no fewer lines than before
+pub record LosesNoLine (before after : Option JournalContent) : Type 0 where
+  pub least : ℕ
+  pub had : HasLines before least ⊎ ((before ≡ None) × (least ≡ 0))
+  pub has : HasNoFewer least after
+
+-- ---- the first line of the output
+
+-- the frame before which a core rests, if it does
+abbrev pub IsRestFrame : CoreView → Option ℕ → Type 0
+IsRestFrame live (Some frame) = Rests live frame
+IsRestFrame live None = (frame : ℕ) → Rests live frame → ⊥
+
+abbrev pub frame_text : Option ℕ → List ℕ
+frame_text None = []
+frame_text (Some frame) = codes " frame " ++ decimal frame
+
+-- the line that says with which line a service goes on, and before which frame
+abbrev pub greeting : ℕ → Option ℕ → List ℕ
+greeting number frame = codes "S line " ++ (decimal number ++ (frame_text frame ++ 10 ∷ []))

@@ -1,0 +1,34 @@
+-- Lines that are taken of an input, to be put in a journal (implementation-specific).
+use Rattle.std.specs.Prelude.{◌≡◌, ℕ, List, [], ◌∷◌, ◌++◌, map, take}
+use Rattle.script_format.specs.Lines.{lines_of, parts_from}
+use Rattle.state_service.specs.declared.reading.BatchEnd.{BatchEnd}
+use Rattle.state_service.specs.declared.reading.BatchEnd.TheVariants.{Open, Ended}
+
+-- what is kept of a line: of one that is too long so many bytes that it stays too long
+abbrev pub kept_line : List ℕ → List ℕ
+kept_line line = take 4097 line
+
+-- what follows the last line feed is a line, unless it is nothing
+abbrev pub line_at_end : List ℕ → List (List ℕ)
+line_at_end [] = []
+line_at_end (b ∷ bytes) = (b ∷ bytes) ∷ []
+
+-- these lines of an input are taken, and of the next one this part; the rest of the input is left
+pub record AreTaken (input rest : List ℕ) (taken : List (List ℕ)) (part : List ℕ) : Type 0 where
+  pub whole : List (List ℕ)
+  pub begun : List ℕ
+  pub lines_are : lines_of input ≡ whole ++ parts_from 10 begun rest
+  pub taken_are : taken ≡ map kept_line whole
+  pub part_is : part ≡ kept_line begun
+
+-- these are all lines of an input
+pub record AreAllTaken (input : List ℕ) (taken : List (List ℕ)) : Type 0 where
+  pub whole : List (List ℕ)
+  pub last : List ℕ
+  pub lines_are : lines_of input ≡ whole ++ last ∷ []
+  pub taken_are : taken ≡ map kept_line (whole ++ line_at_end last)
+
+-- a batch is read: some of the input is left, or nothing
+abbrev pub IsAfterBatch : BatchEnd → List ℕ → List ℕ → List (List ℕ) → List ℕ → Type 0
+IsAfterBatch Open input rest taken part = AreTaken input rest taken part
+IsAfterBatch Ended input rest taken part = AreAllTaken input taken

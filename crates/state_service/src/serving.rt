@@ -1,0 +1,233 @@
+//! A service that begins anew from its saved state now and then.
+
+ghost use Rattle.std.specs.Prelude.{◌≡◌, ◌≤◌, ◌+◌, [], Ok, ℕ, List, Option, length, IfOk, OnOk, IfSome};
+ghost use Rattle.run_model.specs.IsStateAfter.{CoreView};
+ghost use Rattle.toml.specs.Parse.{parse_document};
+ghost use Rattle.slice_table.specs.ReadPlant.{text_plant};
+ghost use Rattle.line_journal.specs.Device.{LeavesOnly};
+ghost use Rattle.line_journal.specs.Found.{texts};
+ghost use Rattle.line_journal.specs.Journal.{JournalContent, journal_content, IsJournalSettled};
+ghost use Rattle.durable_service.specs.Durable.{StandsForState, IsKeptState};
+ghost use Rattle.state_service.specs.declared.periods.PeriodEnd.TheVariants.{Due};
+ghost use Rattle.state_service.specs.Beginning.{IsServedTo, IsServiceOn};
+ghost use Rattle.state_service.specs.Serving.{HasNoFewer, LosesNoLine};
+
+use crate::fault::StateServiceFault;
+use crate::periods::{PeriodEnd, serve_period};
+use crate::starting::{GivenPlant, StartedService, start_service};
+use durable_service::{DurableState, KeptState, SavedState, StartState, put_snapshot};
+use grant_policy::{RankInput, Ranking, rank_by};
+use line_journal::{Device, Journal};
+use plant_restart::restore;
+use std::alloc::Global;
+use std::io;
+use std::io::{Read, Write};
+use tlv24::Bytes;
+
+/// Holds how a period ended, with the plant file and the number of lines that are done then.
+#[derive(Drop)]
+struct ServedPeriod {
+    file: Bytes,
+    count: u64,
+    end: PeriodEnd,
+}
+
+/// Puts a state that is due in the place of the lines since the last one, and serves lines with a core in that state until another one
+/// is due.
+///
+/// The core and its rankings are made here, since a function that makes them may not hand them out.
+fn serve_kept<D: Device, R: Read, W: Write>(
+    alloc: Global,
+    journal: &mut Journal<D>,
+    kept: KeptState,
+    file: Bytes,
+    count: u64,
+    part: &mut Vec<u8>,
+    period: u64,
+    reader: &mut R,
+    writer: &mut W,
+) -> Result<ServedPeriod, StateServiceFault>
+    requires settled { IsJournalSettled D.seen D.may_leave journal.old.device journal.old.gate }
+    requires kept { (live : CoreView) × IsKeptState live file count kept.snapshot kept.start.plant kept.start.saved }
+    ensures settled { OnOk result (IsJournalSettled D.seen D.may_leave journal.new.device journal.new.gate) }
+    ensures count { IfOk result (λ served. count ≤ served.count) }
+    ensures on { IfOk result (λ served. (found : Option JournalContent) (given : List ℕ) (known written : Option (List ℕ))
+        → IsServedTo found (journal_content (D.seen journal.old.device)) given file count (Due kept) part.old.items
+        known (R.remaining reader.old) written (W.contents writer.old)
+        → IsServedTo found (journal_content (D.seen journal.new.device)) given served.file served.count served.end part.new.items
+        known (R.remaining reader.new) written (W.contents writer.new)) }
+    ensures any_moment { (least : ℕ) → least ≤ count → HasNoFewer least (journal_content (D.seen journal.old.device))
+        → LeavesOnly D.moment D.left_since journal.old.device journal.new.device (λ c. HasNoFewer least (journal_content c)) }
+    ensures no_fewer { (least : ℕ) → least ≤ count → HasNoFewer least (journal_content (D.seen journal.old.device))
+        → OnOk result (HasNoFewer least (journal_content (D.seen journal.new.device))) }
+{
+    let KeptState { start, snapshot } = kept;
+    let mut rankings = Vec::new(alloc);
+    for row in start.plant.rows() {
+        let policy = row.get_fields().policy;
+        let Ok(rank) = Box::new(alloc, move |input: RankInput| -> u8 {
+            rank_by(policy, &input)
+        }) else {
+            return Err(StateServiceFault::NoMemory);
+        };
+        let ranking = Ranking::new(row.get_fields().policy, rank);
+        if rankings.push(ranking).is_err() {
+            return Err(StateServiceFault::NoMemory);
+        }
+    }
+    let StartState {
+        count: _,
+        plant,
+        saved,
+    } = start;
+    let core = match restore(alloc, plant, &saved, rankings) {
+        Ok(core) => core,
+        Err(why) => return Err(StateServiceFault::NotRestored { why }),
+    };
+    let mut service = DurableState { core, file, count };
+    put_snapshot(alloc, journal, &service, &snapshot)?;
+    let end = serve_period(
+        alloc,
+        journal,
+        &mut service,
+        part,
+        period,
+        reader,
+        writer,
+    )?;
+    Ok(ServedPeriod {
+        file: service.file,
+        count: service.count,
+        end,
+    })
+}
+
+/// Restores the state of a journal, does its lines again, and serves the first lines of the input under the plant file, until a state is
+/// due.
+///
+/// The cores and their rankings are made here, since a function that makes them may not hand them out.
+fn serve_first<D: Device, R: Read, W: Write>(
+    alloc: Global,
+    journal: &mut Journal<D>,
+    state: SavedState,
+    given: GivenPlant,
+    part: &mut Vec<u8>,
+    period: u64,
+    reader: &mut R,
+    writer: &mut W,
+) -> Result<ServedPeriod, StateServiceFault>
+    requires found { StandsForState (journal_content (D.seen journal.old.device)) state.start.count state.start.plant state.start.saved
+        (texts state.lines.items) }
+    requires settled { IsJournalSettled D.seen D.may_leave journal.old.device state.gate }
+    requires given { text_plant (parse_document given.file.items) ≡ Ok given.plant }
+    requires part { part.old.items ≡ [] }
+    ensures settled { OnOk result (IsJournalSettled D.seen D.may_leave journal.new.device journal.new.gate) }
+    ensures count { IfOk result (λ served. state.start.count + length state.lines.items ≤ served.count) }
+    ensures on { IfOk result (λ served. IsServedTo (journal_content (D.seen journal.old.device)) (journal_content (D.seen journal.new.device))
+        given.file.items served.file served.count served.end part.new.items
+        (R.remaining reader.old) (R.remaining reader.new) (W.contents writer.old) (W.contents writer.new)) }
+    ensures any_moment { (least : ℕ) → HasNoFewer least (journal_content (D.seen journal.old.device))
+        → LeavesOnly D.moment D.left_since journal.old.device journal.new.device (λ c. HasNoFewer least (journal_content c)) }
+    ensures no_fewer { (least : ℕ) → HasNoFewer least (journal_content (D.seen journal.old.device))
+        → OnOk result (HasNoFewer least (journal_content (D.seen journal.new.device))) }
+{
+    let SavedState { start, lines, gate } = state;
+    journal.gate = gate;
+    let mut rankings = Vec::new(alloc);
+    for row in start.plant.rows() {
+        let policy = row.get_fields().policy;
+        let Ok(rank) = Box::new(alloc, move |input: RankInput| -> u8 {
+            rank_by(policy, &input)
+        }) else {
+            return Err(StateServiceFault::NoMemory);
+        };
+        let ranking = Ranking::new(row.get_fields().policy, rank);
+        if rankings.push(ranking).is_err() {
+            return Err(StateServiceFault::NoMemory);
+        }
+    }
+    let mut given_rankings = Vec::new(alloc);
+    for row in given.plant.rows() {
+        let policy = row.get_fields().policy;
+        let Ok(rank) = Box::new(alloc, move |input: RankInput| -> u8 {
+            rank_by(policy, &input)
+        }) else {
+            return Err(StateServiceFault::NoMemory);
+        };
+        let ranking = Ranking::new(row.get_fields().policy, rank);
+        if given_rankings.push(ranking).is_err() {
+            return Err(StateServiceFault::NoMemory);
+        }
+    }
+    let StartState {
+        count,
+        plant,
+        saved,
+    } = start;
+    let core = match restore(alloc, plant, &saved, rankings) {
+        Ok(core) => core,
+        Err(why) => return Err(StateServiceFault::NotRestored { why }),
+    };
+    let restored = DurableState {
+        core,
+        file: saved.plant,
+        count,
+    };
+    let StartedService { service, end } = start_service(
+        alloc,
+        journal,
+        restored,
+        lines.as_slice(),
+        given,
+        given_rankings,
+        part,
+        period,
+        reader,
+        writer,
+    )?;
+    Ok(ServedPeriod {
+        file: service.file,
+        count: service.count,
+        end,
+    })
+}
+
+/// Serves the lines of an input from the state of a journal, under a plant file. A state that is due takes the place of the lines since the
+/// last one.
+pub(crate) fn serve_restored<D: Device, R: Read, W: Write>(
+    alloc: Global,
+    journal: &mut Journal<D>,
+    state: SavedState,
+    given: GivenPlant,
+    period: u64,
+    reader: &mut R,
+    writer: &mut W,
+) -> Result<(), StateServiceFault>
+    requires found { StandsForState (journal_content (D.seen journal.old.device)) state.start.count state.start.plant state.start.saved
+        (texts state.lines.items) }
+    requires settled { IsJournalSettled D.seen D.may_leave journal.old.device state.gate }
+    requires given { text_plant (parse_document given.file.items) ≡ Ok given.plant }
+    ensures served { OnOk result (IfSome (R.remaining reader.old) (λ input. IsServiceOn (journal_content (D.seen journal.old.device))
+        given.file.items input (journal_content (D.seen journal.new.device)) (W.contents writer.old) (W.contents writer.new))) }
+    ensures settled { OnOk result (IsJournalSettled D.seen D.may_leave journal.new.device journal.new.gate) }
+    ensures any_moment { LeavesOnly D.moment D.left_since journal.old.device journal.new.device
+        (λ c. LosesNoLine (journal_content (D.seen journal.old.device)) (journal_content c)) }
+{
+    let mut part = Vec::new(alloc);
+    let mut served = serve_first(
+        alloc, journal, state, given, &mut part, period, reader, writer,
+    )?;
+    for _ in 0..u64::MAX {
+        let ServedPeriod { file, count, end } = served;
+        let kept = match end {
+            PeriodEnd::Ended => return Ok(()),
+            PeriodEnd::Due { kept } => kept,
+        };
+        served = serve_kept(
+            alloc, journal, kept, file, count, &mut part, period, reader, writer,
+        )?;
+    }
+    Err(StateServiceFault::from(io::Error::from(
+        io::ErrorKind::Other,
+    )))
+}
