@@ -21,7 +21,7 @@ from tools.reference.answers import reference_answer
 PLANT = (EXAMPLES / "plant_p2.toml").read_text()
 # What is expected, by its sign: the field of a case that keeps it, and the text before and after that of the line.
 EXPECTED = {"=": ("output", "", "\n"), "x": ("digits", "", ""), "check": ("checks", "  check ", "\n"), "!": ("errors", "", "\n")}
-OPTIONS = ("--input", "--json", "--strict", "--version")
+OPTIONS = ("--input", "--json", "--strict", "--version", "--state", "--snapshot-every")
 SPELLED = {b"r": b"\r", b"t": b"\t"}
 # A number that is counted up, by how much where that is not 1, and how it is written.
 COUNTED = re.compile(r"\{([0-9]+)(?:\+([0-9]+))?(?::([0-9a-zA-Z]+))?\}")

@@ -69,7 +69,7 @@ fn main(rt: HostRuntime) -> ExitCode {
     } else {
         None
     };
-    exit_code(run(&rt, note, &mut reasons))
+    exit_code(run(&rt, &rt, note, &mut reasons))
 }
 
 /// Returns the words of the command line, the program's name first.
@@ -81,29 +81,31 @@ fn words_of(rt: &(impl Env + AllocGlobal)) -> io::Result<Vec<String>> {
     Ok(words)
 }
 
-/// Returns whether reasons are written as they come. Those of other commands are written at the end, and not if the reader of the
-/// output has gone.
+/// Returns whether reasons are written as they come: those of `resume`, and of `serve` with the option `--state`. Those of other
+/// commands are written at the end, and not if the reader of the output has gone.
 fn reports_at_once(words: &[&str]) -> bool {
     match words {
-        [word, ..] => *word == "resume",
-        [] => false,
+        ["resume", ..] => true,
+        _ => words.contains(&"--state"),
     }
 }
 
 /// Runs the program over its words. Returns the status.
 fn run_words<'a, R: Read, W: Write, E: Write>(
-    rt: &(impl Files + AllocGlobal + Threads + Wait + Sync),
+    rt: &(impl Files + Threads + Wait + Sync),
+    host: &HostRuntime,
     words: &'a [&'a str],
     reader: &mut R,
     writer: &mut W,
     reasons: &mut E,
 ) -> u8 {
-    run_with_options(rt, rt.alloc(), words, reader, writer, reasons, Ending::Ends)
+    run_with_options(rt, host, words, reader, writer, reasons, Ending::Ends)
 }
 
 /// Returns the status that the program answers to its words.
 fn run<N: Write>(
     rt: &(impl Env + Files + Input + Print + AllocGlobal + Threads + Wait + Sync),
+    host: &HostRuntime,
     note: Option<&mut N>,
     reasons: &mut impl Write,
 ) -> io::Result<u8> {
@@ -124,10 +126,10 @@ fn run<N: Write>(
     let mut writer = BufWriter::new(rt.alloc(), left)?;
     let words = behind_name(texts.as_slice());
     if reports_at_once(words) {
-        return Ok(run_words(rt, words, &mut reader, &mut writer, reasons));
+        return Ok(run_words(rt, host, words, &mut reader, &mut writer, reasons));
     }
     let mut told = Vec::new(rt.alloc());
-    let status = run_words(rt, words, &mut reader, &mut writer, &mut told);
+    let status = run_words(rt, host, words, &mut reader, &mut writer, &mut told);
     if !writer.get_ref().is_left {
         let _lost = reasons.write_all(told.as_slice());
     }

@@ -1,7 +1,7 @@
 -- Words without an option.
 use Rattle.std.proofs.Common.{◌≡◌, ◌+◌, ℕ, List, [], ◌∷◌, false, refl, ap, arith}
 use Rattle.program_options.specs.declared.options.OptionName.{OptionName}
-use Rattle.program_options.specs.declared.options.OptionName.TheVariants.{Input, Json, Strict}
+use Rattle.program_options.specs.declared.options.OptionName.TheVariants.{Input, Json, Strict, State, SnapshotEvery}
 use Rattle.program_options.specs.declared.options.WordKind.{WordKind}
 use Rattle.program_options.specs.declared.options.WordKind.TheVariants.{Hyphens, Named, Other}
 use Rattle.program_options.specs.Options.{word_kind, has_value, left_after, words_left, count_after, option_count}
@@ -18,6 +18,8 @@ behind Hyphens w words none more = refl
 behind (Named Input) w words none more = absurd (named _ (none Input))
 behind (Named Json) w words none more = absurd (named _ (none Json))
 behind (Named Strict) w words none more = absurd (named _ (none Strict))
+behind (Named State) w words none more = absurd (named _ (none State))
+behind (Named SnapshotEvery) w words none more = absurd (named _ (none SnapshotEvery))
 behind Other w words none more = ap (λ left. w ∷ left) (more none)
 
 -- of words without an option all are left

@@ -1,29 +1,18 @@
 -- One word more of those that options are separated from.
-use Rattle.std.proofs.Common.{◌≡◌, ◌≤◌, ◌<◌, ◌+◌, ◌++◌, ℕ, suc, cond, List, [], ◌∷◌, Some, None, false, refl, sym, ◌∙◌, ap, arith, Bor, length, take, drop, ◌-◌, subst, slice_index_or, option_map, option_to_list, Result, Ok, Err, IfErr}
+use Rattle.std.proofs.Common.{◌≡◌, ◌≤◌, ◌<◌, ◌+◌, ◌++◌, ℕ, suc, Bool, true, cond, List, [], ◌∷◌, false, refl, sym, ◌∙◌, ap, arith, Bor, length, take, drop, ◌-◌, subst, slice_index_or, Result, Ok, Err, IfErr}
 use Rattle.std.proofs.Math.Numerals.{add-one}
 use Rattle.std.proofs.Math.Seq.{take-length}
 use Rattle.std.specs.Result.{IsErrAnd}
 use Rattle.std.proofs.lemmas.List.{drop_more, append_assoc, append-nil, map-append, drop-map, drop-drop, length-map, length-drop}
 use Rattle.clap.specs.Walk.{texts}
 use Rattle.program_options.specs.declared.options.OptionName.{OptionName}
-use Rattle.program_options.specs.declared.options.OptionName.TheVariants.{Input, Json, Strict}
-use Rattle.program_options.specs.declared.options.OutputFormat.TheVariants.{Plain, JsonLines}
-use Rattle.program_options.specs.declared.options.UnknownKeyHandling.TheVariants.{Warn, Refuse}
+use Rattle.program_options.specs.declared.options.ProgramOptions.{ProgramOptions}
 use Rattle.program_options.specs.declared.options.WordKind.TheVariants.{Hyphens, Named, Other}
 use Rattle.program_options.specs.declared.options.SeparatedWords.{SeparatedWords}
-use Rattle.program_options.specs.Options.{word_kind, has_value, is_same_option, words_left, files_named, option_count, input_count, json_count, strict_count}
-use Rattle.program_options.specs.Separating.{IsSoFar}
+use Rattle.program_options.specs.Options.{word_kind, has_value, is_same_option, words_left, values_named, option_count, is_found, found_count, found_values, with_option}
+use Rattle.program_options.specs.Separating.{IsSoFar, HasNoValue}
 
 -- ---- counting
-
-flag_counted : (x t m : ℕ) → x ≡ t + 1 → 0 + x ≡ m → 1 + t ≡ m
-flag_counted x t m here all = omega arith
-
-counted_once : (n m : ℕ) → n + 1 ≡ m → 1 ≤ m
-counted_once n m is = omega arith
-
-counted_twice : (x t m : ℕ) → x ≡ t + 1 → 1 + x ≡ m → 2 ≤ m
-counted_twice x t m here all = omega arith
 
 none_there : 1 ≤ 0 → ⊥
 none_there some = omega arith
@@ -40,159 +29,179 @@ one_or_more n = omega arith
 all_more : (n m : ℕ) → n + 1 ≤ m → suc n + 1 ≤ suc m
 all_more n m is = omega arith
 
--- ---- a flag
+-- ---- the options with one more
 
-left_flag : (name : OptionName) (w : List ℕ) (ws : List (List ℕ)) → word_kind w ≡ Named name → has_value (Named name) ≡ false
-    → words_left false (w ∷ ws) ≡ words_left false ws
-left_flag name w ws is flag = rw (is, flag)
+-- a name is the same as itself
+same_name : (name : OptionName) → is_same_option name name ≡ true
+same_name name = grind arith
 
-files_flag : (name : OptionName) (w : List ℕ) (ws : List (List ℕ)) → word_kind w ≡ Named name → has_value (Named name) ≡ false
-    → files_named false (w ∷ ws) ≡ files_named false ws
-files_flag name w ws is flag = rw (is, flag)
+-- an option that was not there is there once, and the others are there as often as before
+counted_more : (options : ProgramOptions) (name other : OptionName) (value : Bor (List ℕ))
+    → found_count (with_option options name value) other ≡ cond (is_same_option other name) 1 (found_count options other)
+counted_more options name other value = grind arith
 
-times_flag : (o name : OptionName) (w : List ℕ) (ws : List (List ℕ)) → word_kind w ≡ Named name → has_value (Named name) ≡ false
-    → option_count o false (w ∷ ws) ≡ cond (is_same_option o name) (option_count o false ws + 1) (option_count o false ws)
-times_flag o name w ws is flag = rw (is, flag)
+-- its value is the only one
+abbrev own_value : OptionName → Bor (List ℕ) → List (List ℕ)
+own_value name value = take (cond (has_value (Named name)) 1 0) (value.now ∷ [])
 
--- ---- no option
+valued_more : (options : ProgramOptions) (name other : OptionName) (value : Bor (List ℕ))
+    → found_values (with_option options name value) other ≡ cond (is_same_option other name) (own_value name value) (found_values options other)
+valued_more options name other value = grind arith
+
+-- what is not there is there no time, and has no value
+not_counted : (options : ProgramOptions) (name other : OptionName) → is_found options name ≡ false → is_same_option other name ≡ true
+    → found_count options other ≡ 0
+not_counted options name other none same = grind arith
+
+not_valued : (options : ProgramOptions) (name other : OptionName) → is_found options name ≡ false → is_same_option other name ≡ true
+    → found_values options other ≡ []
+not_valued options name other none same = grind arith
+
+count_step : (same : Bool) (old new now later all : ℕ) → new ≡ cond same 1 old → now ≡ cond same (later + 1) later → (same ≡ true → old ≡ 0)
+    → old + now ≡ all → new + later ≡ all
+count_step true old new now later all is here none so = omega (arith, is, here, none refl, so)
+count_step false old new now later all is here none so = omega (arith, is, here, so)
+
+value_step : (same : Bool) (old new own now later all : List (List ℕ)) → new ≡ cond same own old → now ≡ cond same (own ++ later) later
+    → (same ≡ true → old ≡ []) → old ++ now ≡ all → new ++ later ≡ all
+value_step true old new own now later all is here none so = ap (λ l. l ++ later) is ∙ (sym here ∙ rw (none refl) at so)
+value_step false old new own now later all is here none so = ap (λ l. l ++ later) is ∙ (ap (λ l. old ++ l) (sym here) ∙ so)
+
+counted_twice : (n t m : ℕ) (name : OptionName) → n ≡ cond (is_same_option name name) (t + 1) t → 1 + n ≡ m → 2 ≤ m
+counted_twice n t m name here all = omega (arith, here ∙ ap (λ same. cond same (t + 1) t) (same_name name), all)
+
+-- ---- words that are no option
 
 left_other : (w : List ℕ) (ws : List (List ℕ)) → word_kind w ≡ Other → words_left false (w ∷ ws) ≡ w ∷ words_left false ws
 left_other w ws is = rw is
 
-files_other : (w : List ℕ) (ws : List (List ℕ)) → word_kind w ≡ Other → files_named false (w ∷ ws) ≡ files_named false ws
-files_other w ws is = rw is
+values_other : (o : OptionName) (w : List ℕ) (ws : List (List ℕ)) → word_kind w ≡ Other → values_named o false (w ∷ ws) ≡ values_named o false ws
+values_other o w ws is = rw is
 
-times_other : (o : OptionName) (w : List ℕ) (ws : List (List ℕ)) → word_kind w ≡ Other → option_count o false (w ∷ ws) ≡ option_count o false ws
-times_other o w ws is = rw is
+count_other : (o : OptionName) (w : List ℕ) (ws : List (List ℕ)) → word_kind w ≡ Other → option_count o false (w ∷ ws) ≡ option_count o false ws
+count_other o w ws is = rw is
 
 left_hyphens : (w : List ℕ) (ws : List (List ℕ)) → word_kind w ≡ Hyphens → words_left false (w ∷ ws) ≡ w ∷ ws
 left_hyphens w ws is = rw is
 
-files_hyphens : (w : List ℕ) (ws : List (List ℕ)) → word_kind w ≡ Hyphens → files_named false (w ∷ ws) ≡ []
-files_hyphens w ws is = rw is
+values_hyphens : (o : OptionName) (w : List ℕ) (ws : List (List ℕ)) → word_kind w ≡ Hyphens → values_named o false (w ∷ ws) ≡ []
+values_hyphens o w ws is = rw is
 
-times_hyphens : (o : OptionName) (w : List ℕ) (ws : List (List ℕ)) → word_kind w ≡ Hyphens → option_count o false (w ∷ ws) ≡ 0
-times_hyphens o w ws is = rw is
+count_hyphens : (o : OptionName) (w : List ℕ) (ws : List (List ℕ)) → word_kind w ≡ Hyphens → option_count o false (w ∷ ws) ≡ 0
+count_hyphens o w ws is = rw is
 
--- ---- `--input` and its file
+-- ---- what the words give from an option on
 
-left_file : (w v : List ℕ) (ws : List (List ℕ)) → word_kind w ≡ Named Input → words_left false (w ∷ v ∷ ws) ≡ words_left false ws
-left_file w v ws is = rw is
+last_counted : (name : OptionName) (w : List ℕ) → word_kind w ≡ Named name → option_count name false (w ∷ []) ≡ 1
+last_counted name w is = rw (is, same_name name)
 
-files_file : (w v : List ℕ) (ws : List (List ℕ)) → word_kind w ≡ Named Input → files_named false (w ∷ v ∷ ws) ≡ v ∷ files_named false ws
-files_file w v ws is = rw is
+counted_once : (n t m : ℕ) → t ≡ 1 → n + t ≡ m → 1 ≤ m
+counted_once n t m one all = omega (arith, one, all)
 
-times_file : (o : OptionName) (w v : List ℕ) (ws : List (List ℕ)) → word_kind w ≡ Named Input
-    → option_count o false (w ∷ v ∷ ws) ≡ cond (is_same_option o Input) (option_count o false ws + 1) (option_count o false ws)
-times_file o w v ws is = rw is
+-- the first of these words is this option, with this value after it if it has one, and these words follow
+abbrev pub GivesOption : OptionName → Bor (List ℕ) → List (List ℕ) → List (List ℕ) → Type 0
+GivesOption name value words rest = (words_left false words ≡ words_left false rest)
+    × ((other : OptionName) → values_named other false words ≡ cond (is_same_option other name) (own_value name value ++ values_named other false rest) (values_named other false rest))
+    × ((other : OptionName) → option_count other false words ≡ cond (is_same_option other name) (option_count other false rest + 1) (option_count other false rest))
+
+given_flag : (name : OptionName) (value : Bor (List ℕ)) (w : List ℕ) (ws : List (List ℕ)) → word_kind w ≡ Named name → has_value (Named name) ≡ false
+    → GivesOption name value (w ∷ ws) ws
+given_flag name value w ws is flag = (rw (is, flag), λ other. rw (is, flag), λ other. rw (is, flag))
+
+given_value : (name : OptionName) (w : List ℕ) (v : Bor (List ℕ)) (ws : List (List ℕ)) → word_kind w ≡ Named name → has_value (Named name) ≡ true
+    → GivesOption name v (w ∷ v.now ∷ ws) ws
+given_value name w v ws is valued = (rw (is, valued), λ other. rw (is, valued), λ other. rw (is, valued))
 
 -- ---- what is taken
 
--- the words before, with one more
-passed : (all before : List (List ℕ)) (w : List ℕ) (ws : List (List ℕ)) → all ≡ before ++ w ∷ ws → all ≡ (before ++ w ∷ []) ++ ws
-passed all before w ws is = is ∙ sym (append_assoc before (w ∷ []) ws)
+-- the words before, with more
+passed : (all before front ws : List (List ℕ)) → all ≡ before ++ (front ++ ws) → all ≡ (before ++ front) ++ ws
+passed all before front ws is = is ∙ sym (append_assoc before front ws)
 
-module _ (all : List (List ℕ)) (w : List ℕ) (ws : List (List ℕ)) (found : SeparatedWords) (so : IsSoFar all (w ∷ ws) found) where
-  pub json_taken : word_kind w ≡ Named Json → found.options.output ≡ Plain
-      → IsSoFar all ws (record found { options = record found.options { output = JsonLines } })
-  json_taken is plain = record {
-    before = so.before ++ w ∷ [];
-    all_are = passed all so.before w ws so.all_are;
-    words_are = ap (λ left. texts found.words.items ++ left) (sym (left_flag Json w ws is refl)) ∙ so.words_are;
-    files_are = ap (λ left. option_to_list (option_map (λ file. file.now) found.options.input) ++ left) (sym (files_flag Json w ws is refl)) ∙ so.files_are;
-    input_is = ap (λ n. input_count found.options.input + n) (sym (times_flag Input Json w ws is refl)) ∙ so.input_is;
-    json_is = flag_counted _ _ _ (times_flag Json Json w ws is refl) (rw plain at so.json_is);
-    strict_is = ap (λ n. strict_count found.options.unknown_keys + n) (sym (times_flag Strict Json w ws is refl)) ∙ so.strict_is;
+module _ (all : List (List ℕ)) (found : SeparatedWords) where
+  -- an option that was not there is taken
+  option_taken : (front rest : List (List ℕ)) (name : OptionName) (value : Bor (List ℕ)) → IsSoFar all (front ++ rest) found
+      → is_found found.options name ≡ false → GivesOption name value (front ++ rest) rest
+      → IsSoFar all rest (record found { options = with_option found.options name value })
+  option_taken front rest name value so none gives = record {
+    before = so.before ++ front;
+    all_are = passed all so.before front rest so.all_are;
+    words_are = ap (λ left. texts found.words.items ++ left) (sym gives.0) ∙ so.words_are;
+    values_are = λ other. value_step (is_same_option other name) _ _ _ _ _ _ (valued_more found.options name other value) (gives.1 other)
+        (not_valued found.options name other none) (so.values_are other);
+    counts_are = λ other. count_step (is_same_option other name) _ _ _ _ _ (counted_more found.options name other value) (gives.2 other)
+        (not_counted found.options name other none) (so.counts_are other);
   }
 
-  pub strict_taken : word_kind w ≡ Named Strict → found.options.unknown_keys ≡ Warn
-      → IsSoFar all ws (record found { options = record found.options { unknown_keys = Refuse } })
-  strict_taken is warn = record {
-    before = so.before ++ w ∷ [];
-    all_are = passed all so.before w ws so.all_are;
-    words_are = ap (λ left. texts found.words.items ++ left) (sym (left_flag Strict w ws is refl)) ∙ so.words_are;
-    files_are = ap (λ left. option_to_list (option_map (λ file. file.now) found.options.input) ++ left) (sym (files_flag Strict w ws is refl)) ∙ so.files_are;
-    input_is = ap (λ n. input_count found.options.input + n) (sym (times_flag Input Strict w ws is refl)) ∙ so.input_is;
-    json_is = ap (λ n. json_count found.options.output + n) (sym (times_flag Json Strict w ws is refl)) ∙ so.json_is;
-    strict_is = flag_counted _ _ _ (times_flag Strict Strict w ws is refl) (rw warn at so.strict_is);
+  pub flag_taken : (w : List ℕ) (ws : List (List ℕ)) (name : OptionName) (value : Bor (List ℕ)) → IsSoFar all (w ∷ ws) found
+      → word_kind w ≡ Named name → has_value (Named name) ≡ false → is_found found.options name ≡ false
+      → IsSoFar all ws (record found { options = with_option found.options name value })
+  flag_taken w ws name value so is flag none = option_taken (w ∷ []) ws name value so none (given_flag name value w ws is flag)
+
+  pub value_taken : (w : List ℕ) (after : List (Bor (List ℕ))) (d : Bor (List ℕ)) (name : OptionName) → 1 ≤ length after
+      → IsSoFar all (w ∷ texts after) found → word_kind w ≡ Named name → has_value (Named name) ≡ true → is_found found.options name ≡ false
+      → IsSoFar all (drop 2 (w ∷ texts after)) (record found { options = with_option found.options name (slice_index_or after 0 d) })
+  value_taken w [] d name some so is valued none = absurd (none_there some)
+  value_taken w (v ∷ vs) d name some so is valued none = option_taken (w ∷ v.now ∷ []) (texts vs) name v so none (given_value name w v (texts vs) is valued)
+
+  -- a word of an option that is there
+  pub there_twice : (w : List ℕ) (ws rest : List (List ℕ)) (name : OptionName) (value : Bor (List ℕ)) → IsSoFar all (w ∷ ws) found
+      → GivesOption name value (w ∷ ws) rest → is_found found.options name ≡ true → 2 ≤ option_count name false all
+  there_twice w ws rest name value so gives there = counted_twice _ _ _ name (gives.2 name) (rw there at (so.counts_are name))
+
+  pub flag_twice : (w : List ℕ) (ws : List (List ℕ)) (name : OptionName) (value : Bor (List ℕ)) → IsSoFar all (w ∷ ws) found → word_kind w ≡ Named name
+      → has_value (Named name) ≡ false → is_found found.options name ≡ true → 2 ≤ option_count name false all
+  flag_twice w ws name value so is flag there = there_twice w ws ws name value so (given_flag name value w ws is flag) there
+
+  pub value_twice : (w : List ℕ) (after : List (Bor (List ℕ))) (name : OptionName) → 1 ≤ length after → IsSoFar all (w ∷ texts after) found
+      → word_kind w ≡ Named name → has_value (Named name) ≡ true → is_found found.options name ≡ true → 2 ≤ option_count name false all
+  value_twice w [] name some so is valued there = absurd (none_there some)
+  value_twice w (v ∷ vs) name some so is valued there = there_twice w (v.now ∷ texts vs) (texts vs) name v so (given_value name w v (texts vs) is valued) there
+
+  -- no word has the value
+  pub no_value : (w : List ℕ) (after : List (Bor (List ℕ))) (name : OptionName) → length after < 1 → IsSoFar all (w ∷ texts after) found
+      → word_kind w ≡ Named name → has_value (Named name) ≡ true → HasNoValue all name
+  no_value w [] name few so is valued = record {
+    before = so.before;
+    last = w;
+    all_are = so.all_are;
+    is_option = is;
+    is_valued = valued;
+    is_there = counted_once _ _ _ (last_counted name w is) (so.counts_are name);
   }
+  no_value w (v ∷ vs) name few so is valued = absurd (one_there _ few)
 
   -- ---- other words
 
-  pub other_taken : (words : List (Bor (List ℕ))) → word_kind w ≡ Other → texts words ≡ texts found.words.items ++ w ∷ [] → (new : SeparatedWords)
-      → new.options ≡ found.options → new.words.items ≡ words → IsSoFar all ws new
-  other_taken words is kept new same items = record {
+  pub other_taken : (w : List ℕ) (ws : List (List ℕ)) (words : List (Bor (List ℕ))) → IsSoFar all (w ∷ ws) found → word_kind w ≡ Other
+      → texts words ≡ texts found.words.items ++ w ∷ [] → (new : SeparatedWords) → new.options ≡ found.options → new.words.items ≡ words → IsSoFar all ws new
+  other_taken w ws words so is kept new same items = record {
     before = so.before ++ w ∷ [];
-    all_are = passed all so.before w ws so.all_are;
+    all_are = passed all so.before (w ∷ []) ws so.all_are;
     words_are = ap (λ items. texts items ++ words_left false ws) items ∙ (ap (λ left. left ++ words_left false ws) kept
         ∙ (append_assoc (texts found.words.items) (w ∷ []) (words_left false ws)
         ∙ (ap (λ left. texts found.words.items ++ left) (sym (left_other w ws is)) ∙ so.words_are)));
-    files_are = ap (λ options. option_to_list (option_map (λ file. file.now) options.input) ++ files_named false ws) same
-        ∙ (ap (λ left. option_to_list (option_map (λ file. file.now) found.options.input) ++ left) (sym (files_other w ws is)) ∙ so.files_are);
-    input_is = ap (λ options. input_count options.input + option_count Input false ws) same
-        ∙ (ap (λ n. input_count found.options.input + n) (sym (times_other Input w ws is)) ∙ so.input_is);
-    json_is = ap (λ options. json_count options.output + option_count Json false ws) same
-        ∙ (ap (λ n. json_count found.options.output + n) (sym (times_other Json w ws is)) ∙ so.json_is);
-    strict_is = ap (λ options. strict_count options.unknown_keys + option_count Strict false ws) same
-        ∙ (ap (λ n. strict_count found.options.unknown_keys + n) (sym (times_other Strict w ws is)) ∙ so.strict_is);
+    values_are = λ other. ap (λ options. found_values options other ++ values_named other false ws) same
+        ∙ (ap (λ l. found_values found.options other ++ l) (sym (values_other other w ws is)) ∙ so.values_are other);
+    counts_are = λ other. ap (λ options. found_count options other + option_count other false ws) same
+        ∙ (ap (λ n. found_count found.options other + n) (sym (count_other other w ws is)) ∙ so.counts_are other);
   }
 
-  pub all_taken : word_kind w ≡ Hyphens → (new : SeparatedWords) → new.options ≡ found.options
+  pub all_taken : (w : List ℕ) (ws : List (List ℕ)) → IsSoFar all (w ∷ ws) found → word_kind w ≡ Hyphens → (new : SeparatedWords) → new.options ≡ found.options
       → texts new.words.items ≡ texts found.words.items ++ w ∷ ws → IsSoFar all [] new
-  all_taken is new same kept = record {
+  all_taken w ws so is new same kept = record {
     before = all;
     all_are = sym (append-nil all);
     words_are = append-nil (texts new.words.items) ∙ (kept ∙ (ap (λ left. texts found.words.items ++ left) (sym (left_hyphens w ws is)) ∙ so.words_are));
-    files_are = ap (λ options. option_to_list (option_map (λ file. file.now) options.input) ++ []) same
-        ∙ (ap (λ left. option_to_list (option_map (λ file. file.now) found.options.input) ++ left) (sym (files_hyphens w ws is)) ∙ so.files_are);
-    input_is = ap (λ options. input_count options.input + 0) same
-        ∙ (ap (λ n. input_count found.options.input + n) (sym (times_hyphens Input w ws is)) ∙ so.input_is);
-    json_is = ap (λ options. json_count options.output + 0) same
-        ∙ (ap (λ n. json_count found.options.output + n) (sym (times_hyphens Json w ws is)) ∙ so.json_is);
-    strict_is = ap (λ options. strict_count options.unknown_keys + 0) same
-        ∙ (ap (λ n. strict_count found.options.unknown_keys + n) (sym (times_hyphens Strict w ws is)) ∙ so.strict_is);
+    values_are = λ other. ap (λ options. found_values options other ++ []) same
+        ∙ (ap (λ l. found_values found.options other ++ l) (sym (values_hyphens other w ws is)) ∙ so.values_are other);
+    counts_are = λ other. ap (λ options. found_count options other + 0) same
+        ∙ (ap (λ n. found_count found.options other + n) (sym (count_hyphens other w ws is)) ∙ so.counts_are other);
   }
-
--- ---- `--input`
-
-file_step : (all : List (List ℕ)) (w : List ℕ) (v : Bor (List ℕ)) (ws : List (List ℕ)) (found : SeparatedWords) → IsSoFar all (w ∷ v.now ∷ ws) found
-    → word_kind w ≡ Named Input → found.options.input ≡ None
-    → IsSoFar all ws (record found { options = record found.options { input = Some v } })
-file_step all w v ws found so is none = record {
-  before = so.before ++ w ∷ v.now ∷ [];
-  all_are = so.all_are ∙ sym (append_assoc so.before (w ∷ v.now ∷ []) ws);
-  words_are = ap (λ left. texts found.words.items ++ left) (sym (left_file w v.now ws is)) ∙ so.words_are;
-  files_are = sym (files_file w v.now ws is) ∙ rw none at so.files_are;
-  input_is = flag_counted _ _ _ (times_file Input w v.now ws is) (rw none at so.input_is);
-  json_is = ap (λ n. json_count found.options.output + n) (sym (times_file Json w v.now ws is)) ∙ so.json_is;
-  strict_is = ap (λ n. strict_count found.options.unknown_keys + n) (sym (times_file Strict w v.now ws is)) ∙ so.strict_is;
-}
-
-pub file_taken : (all : List (List ℕ)) (w : List ℕ) (after : List (Bor (List ℕ))) (d : Bor (List ℕ)) (found : SeparatedWords) → 1 ≤ length after
-    → word_kind w ≡ Named Input → found.options.input ≡ None → IsSoFar all (w ∷ texts after) found
-    → IsSoFar all (drop 2 (w ∷ texts after)) (record found { options = record found.options { input = Some (slice_index_or after 0 d) } })
-file_taken all w [] d found some is none so = absurd (none_there some)
-file_taken all w (v ∷ vs) d found some is none so = file_step all w v (texts vs) found so is none
 
 pub two_words : (w : List ℕ) (after : List (Bor (List ℕ))) → 1 ≤ length after → 2 ≤ length (w ∷ texts after)
 two_words w [] some = absurd (none_there some)
 two_words w (v ∷ vs) some = two_or_more (length (texts vs))
-
--- no word has the file
-pub no_file : (all : List (List ℕ)) (w : List ℕ) (after : List (Bor (List ℕ))) (found : SeparatedWords) → length after < 1 → word_kind w ≡ Named Input
-    → IsSoFar all (w ∷ texts after) found
-    → (before : List (List ℕ)) × (last : List ℕ) × (all ≡ before ++ last ∷ []) × (word_kind last ≡ Named Input) × (1 ≤ option_count Input false all)
-no_file all w [] found few is so =
-    let e : option_count Input false (w ∷ []) ≡ 1 = rw is in
-    (so.before, w, so.all_are, is, counted_once _ _ (ap (λ n. input_count found.options.input + n) (sym e) ∙ so.input_is))
-no_file all w (v ∷ vs) found few is so = absurd (one_there _ few)
-
--- a second file
-pub second_file : (all : List (List ℕ)) (w : List ℕ) (after : List (Bor (List ℕ))) (found : SeparatedWords) (other : Bor (List ℕ)) → 1 ≤ length after
-    → word_kind w ≡ Named Input → found.options.input ≡ Some other → IsSoFar all (w ∷ texts after) found → 2 ≤ option_count Input false all
-second_file all w [] found other some is other_is so = absurd (none_there some)
-second_file all w (v ∷ vs) found other some is other_is so =
-    counted_twice _ _ _ (times_file Input w v.now (texts vs) is) (rw other_is at so.input_is)
 
 -- a word and those after it, pushed
 pub kept_all : (old : List (Bor (List ℕ))) (w : Bor (List ℕ)) (ws middle new : List (Bor (List ℕ))) → middle ≡ old ++ w ∷ [] → new ≡ middle ++ ws
@@ -211,11 +220,11 @@ none_left (v ∷ vs) = none_left vs
 none_after : (w : List ℕ) (after : List (Bor (List ℕ))) → drop (length after + 1) (w ∷ texts after) ≡ []
 none_after w after = one_more (length after) w (texts after) ∙ none_left after
 
-pub all_taken_after : (all : List (List ℕ)) (w : List ℕ) (after : List (Bor (List ℕ))) (found : SeparatedWords) (so : IsSoFar all (w ∷ texts after) found)
+pub all_taken_after : (all : List (List ℕ)) (w : List ℕ) (after : List (Bor (List ℕ))) (found : SeparatedWords) → IsSoFar all (w ∷ texts after) found
     → word_kind w ≡ Hyphens → (new : SeparatedWords) → new.options ≡ found.options
     → texts new.words.items ≡ texts found.words.items ++ w ∷ texts after → IsSoFar all (drop (length after + 1) (w ∷ texts after)) new
 all_taken_after all w after found so is new same kept =
-    subst (λ left. IsSoFar all left new) (sym (none_after w after)) (all_taken all w (texts after) found so is new same kept)
+    subst (λ left. IsSoFar all left new) (sym (none_after w after)) (all_taken all found w (texts after) so is new same kept)
 
 pub all_words : (w : List ℕ) (after : List (Bor (List ℕ))) → length after + 1 ≤ length (w ∷ texts after)
 all_words w [] = one_or_more 0

@@ -1,5 +1,5 @@
-//! The options of the program, which are separated from its words before these are read: `--input FILE`, `--json` and
-//! `--strict`. Without an option the words are as they were.
+//! The options of the program, which are separated from its words before these are read: `--input FILE`, `--json`, `--strict`,
+//! `--state FOLDER` and `--snapshot-every N`. Without an option the words are as they were.
 #![tactic(auto)]
 
 mod laws;

@@ -15,6 +15,10 @@ pub enum OptionName {
     Json,
     /// Refuses unknown keys.
     Strict,
+    /// Keeps a journal in a folder.
+    State,
+    /// Saves the state after so many lines.
+    SnapshotEvery,
 }
 
 impl OptionName {
@@ -24,6 +28,8 @@ impl OptionName {
             OptionName::Input => "--input",
             OptionName::Json => "--json",
             OptionName::Strict => "--strict",
+            OptionName::State => "--state",
+            OptionName::SnapshotEvery => "--snapshot-every",
         }
     }
 }
@@ -61,6 +67,10 @@ pub struct ProgramOptions<'a> {
     pub output: OutputFormat,
     /// What unknown keys are.
     pub unknown_keys: UnknownKeyHandling,
+    /// The folder of a journal.
+    pub state: Option<&'a str>,
+    /// After how many lines the state is saved, as it is written.
+    pub snapshot_every: Option<&'a str>,
 }
 
 /// The options of a command line, and the words without them.
@@ -80,12 +90,29 @@ pub enum OptionsFault {
         /// The option.
         option: OptionName,
     },
-    /// The last word is `--input`, and no file follows.
-    NoFile,
+    /// The last word is an option with a value, and no value follows.
+    NoValue {
+        /// The option.
+        option: OptionName,
+    },
     /// The command does not have the option.
     NotOf {
         /// The option.
         option: OptionName,
+    },
+    /// An option is there without one that it needs.
+    Without {
+        /// The option.
+        option: OptionName,
+        /// The option that it needs.
+        needed: OptionName,
+    },
+    /// Two options are there that do not go together.
+    Together {
+        /// The option.
+        option: OptionName,
+        /// The other option.
+        other: OptionName,
     },
     /// The process is out of memory, whatever the command line is.
     NoMemory,

@@ -1,16 +1,16 @@
 -- What is written for words without an option.
-use Rattle.std.proofs.Common.{◌≡◌, ◌≢◌, ◌≤◌, [], ℕ, List, Bool, true, false, MatchBool, Option, Some, None, IfSome, refl, sym, subst, ◌∙◌, arith, inl, inr}
+use Rattle.std.proofs.Common.{◌≡◌, ◌≢◌, ◌≤◌, [], ℕ, List, Bool, true, false, MatchBool, cond, is_some, Option, Some, None, IfSome, refl, sym, subst, ◌∙◌, arith, inl, inr}
 use Rattle.std.specs.Io.KnownBytes.{Appends}
 use Rattle.clap.specs.Walk.{texts}
-use Rattle.program_options.specs.declared.options.OptionName.TheVariants.{Input, Json, Strict}
+use Rattle.program_options.specs.declared.options.OptionName.TheVariants.{Input, Json, Strict, State}
 use Rattle.program_options.specs.declared.options.OutputFormat.{OutputFormat}
 use Rattle.program_options.specs.declared.options.OutputFormat.TheVariants.{Plain, JsonLines}
 use Rattle.program_options.specs.declared.options.UnknownKeyHandling.{UnknownKeyHandling}
 use Rattle.program_options.specs.declared.options.UnknownKeyHandling.TheVariants.{Warn, Refuse}
 use Rattle.program_options.specs.declared.options.SeparatedWords.{SeparatedWords}
 use Rattle.program_options.specs.declared.options.OptionsFault.{OptionsFault}
-use Rattle.program_options.specs.declared.options.OptionsFault.TheVariants.{Twice, NoFile, NotOf, NoMemory}
-use Rattle.program_options.specs.Options.{input_count, json_count, strict_count}
+use Rattle.program_options.specs.declared.options.OptionsFault.TheVariants.{Twice, NoValue, NotOf, Without, Together, NoMemory}
+use Rattle.program_options.specs.Options.{is_json, is_strict}
 use Rattle.program_options.specs.Separating.{IsSeparatedFrom, HasOptionsFault}
 use Rattle.program_options.proofs.NoOption.{all_left}
 use Rattle.plant_script.specs.Run.{memory_line}
@@ -30,30 +30,33 @@ not_two n none some = omega arith
 -- words without an option have no fault but a failed allocation
 no_fault : (words : List (List ℕ)) (fault : OptionsFault) → HasNoOption words → HasOptionsFault words fault → fault ≡ NoMemory
 no_fault words (Twice option) none has = absurd (not_two _ (none option) has)
-no_fault words NoFile none (before, last, all, kind, there) = absurd (not_one _ (none Input) there)
+no_fault words (NoValue option) none has = absurd (not_one _ (none option) has.is_there)
 no_fault words (NotOf option) none has = absurd (not_one _ (none option) has.is_there)
+no_fault words (Without option needed) none has = absurd (not_one _ (none option) has.1)
+no_fault words (Together option other) none has = absurd (not_one _ (none option) has.1)
 no_fault words NoMemory none has = refl
 
 -- ---- no fault
 
-plain : (output : OutputFormat) → json_count output ≡ 0 → output ≡ Plain
+plain : (output : OutputFormat) → cond (is_json output) 1 0 ≡ 0 → output ≡ Plain
 plain Plain is = refl
 plain JsonLines is = absurd (omega (arith, is))
 
-warned : (unknown : UnknownKeyHandling) → strict_count unknown ≡ 0 → unknown ≡ Warn
+warned : (unknown : UnknownKeyHandling) → cond (is_strict unknown) 1 0 ≡ 0 → unknown ≡ Warn
 warned Warn is = refl
 warned Refuse is = absurd (omega (arith, is))
 
-no_file : {X : Type 0} (input : Option X) → input_count input ≡ 0 → input ≡ None
-no_file None is = refl
-no_file (Some file) is = absurd (omega (arith, is))
+no_value : {X : Type 0} (value : Option X) → cond (is_some value) 1 0 ≡ 0 → value ≡ None
+no_value None is = refl
+no_value (Some value) is = absurd (omega (arith, is))
 
 module _ (words : List (List ℕ)) (found : SeparatedWords) (none : HasNoOption words) (is : IsSeparatedFrom words found) where
   without : IsWithoutOption found
   without = record {
-    is_plain = plain _ (is.json_is ∙ none Json);
-    warns = warned _ (is.strict_is ∙ none Strict);
-    has_no_file = no_file _ (is.input_is ∙ none Input);
+    is_plain = plain _ (is.counts_are Json ∙ none Json);
+    warns = warned _ (is.counts_are Strict ∙ none Strict);
+    has_no_file = no_value _ (is.counts_are Input ∙ none Input);
+    has_no_state = no_value _ (is.counts_are State ∙ none State);
   }
 
   same : texts found.words.items ≡ words

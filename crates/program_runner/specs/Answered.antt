@@ -18,6 +18,7 @@ pub record IsWithoutOption (found : SeparatedWords) : Type 0 where
   pub is_plain : found.options.output ≡ Plain
   pub warns : found.options.unknown_keys ≡ Warn
   pub has_no_file : found.options.input ≡ None
+  pub has_no_state : found.options.state ≡ None
 
 -- it gets what `run_program` writes for the words and for what is read; status 6 is for what could not be read or written
 pub record IsProgramAnswer (words : List (List ℕ)) (read : Option (List ℕ)) (status : ℕ) (old new : Option (List ℕ)) : Type 0 where

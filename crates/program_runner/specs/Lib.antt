@@ -1,3 +1,4 @@
 pub mod Answered
 pub mod Resume
+pub mod StateCommand
 pub mod Version

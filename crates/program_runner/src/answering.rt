@@ -37,6 +37,16 @@ fn commands_with(option: OptionName) -> &'static str {
         OptionName::Input => "all commands have it",
         OptionName::Json => "run, serve, check and trace have it",
         OptionName::Strict => "check has it",
+        OptionName::State | OptionName::SnapshotEvery => "serve has it",
+    }
+}
+
+/// Returns what the value of an option is, and how the option is written.
+fn value_text(option: OptionName) -> &'static str {
+    match option {
+        OptionName::State => "folder: write --state FOLDER",
+        OptionName::SnapshotEvery => "number: write --snapshot-every N",
+        _ => "file: write --input FILE",
     }
 }
 
@@ -46,14 +56,21 @@ fn reason_of(alloc: Global, fault: &OptionsFault) -> Result<String, AllocError> 
         OptionsFault::Twice { option } => format!(in alloc;
             "the option {option} is there twice: write it once\n"
         ),
-        OptionsFault::NoFile => String::from_str(
-            alloc,
-            "the option --input has no file: write --input FILE\n",
-        ),
+        OptionsFault::NoValue { option } => {
+            let value = value_text(*option);
+            format!(in alloc; "the option {option} has no {value}\n")
+        }
         OptionsFault::NotOf { option } => {
             let others = commands_with(*option);
             format!(in alloc; "this command has no option {option}: {others}\n")
         }
+        OptionsFault::Without { option, needed } => {
+            let value = value_text(*needed);
+            format!(in alloc; "the option {option} needs the option {needed} and its {value}\n")
+        }
+        OptionsFault::Together { option, other } => format!(in alloc;
+            "the options {option} and {other} do not go together: leave one of them out\n"
+        ),
         OptionsFault::NoMemory => String::from_str(
             alloc,
             "out of memory: the run needs more memory than this process may use\n",

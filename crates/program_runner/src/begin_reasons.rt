@@ -8,7 +8,7 @@ use std::alloc::{AllocError, Global};
 use std::io;
 
 /// Returns what is wrong with a line of a snapshot.
-fn wrong_text(wrong: Wrong) -> &'static str {
+pub(crate) fn wrong_text(wrong: Wrong) -> &'static str {
     match wrong {
         Wrong::Version => "it does not begin with melfjits-snapshot 1",
         Wrong::Cut => "the text ends within it",
@@ -126,7 +126,7 @@ fn restart_text(alloc: Global, why: RestartFault) -> Result<String, AllocError> 
 }
 
 /// Returns why saved states are not restored.
-fn restore_text(alloc: Global, why: RestoreFault) -> Result<String, AllocError> {
+pub(crate) fn restore_text(alloc: Global, why: RestoreFault) -> Result<String, AllocError> {
     match why {
         RestoreFault::UnknownOperator { name } => format!(in alloc;
             "the plant file has no operator {name}"

@@ -18,6 +18,8 @@ use std::thread::Threads;
 #[derive(Drop)]
 pub(crate) struct Command<'a, H> {
     pub(crate) rt: &'a H,
+    /// The system, of which journals are opened.
+    pub(crate) host: &'a HostRuntime,
     pub(crate) alloc: Global,
     /// The words without the options.
     pub(crate) words: &'a [&'a str],

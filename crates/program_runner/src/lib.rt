@@ -5,12 +5,15 @@ mod answering;
 mod begin_reasons;
 mod command;
 mod file_input;
+mod front_reader;
 mod noted_service;
 mod objects;
 mod recording;
 mod refusal_reasons;
 mod resuming;
 mod running;
+mod state_command;
+mod state_reasons;
 mod strict;
 mod version;
 

@@ -43,6 +43,7 @@ fn notes_of<H: Threads + Wait + Sync, R: Read, E: Write>(
     let words = ["trace"];
     let traced = Command {
         rt: command.rt,
+        host: command.host,
         alloc: command.alloc,
         words: words.as_slice(),
         unknown_keys: UnknownKeyHandling::Warn,

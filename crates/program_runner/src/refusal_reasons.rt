@@ -78,7 +78,11 @@ fn operator_text(
 }
 
 /// Returns why the plant in service is not changed to a valid plant file, and what to do.
-fn change_text(alloc: Global, file: &[u8], why: ChangeFault) -> Result<String, AllocError> {
+pub(crate) fn change_text(
+    alloc: Global,
+    file: &[u8],
+    why: ChangeFault,
+) -> Result<String, AllocError> {
     match why {
         ChangeFault::ConstantsDiffer => String::from_str(
             alloc,

@@ -15,11 +15,11 @@ use crate::command::Command;
 use crate::file_input::FileInput;
 use crate::objects::run_objects;
 use crate::resuming::{answer_resume_help, asks_resume_help};
+use crate::state_command::run_state;
 use crate::strict::run_keys;
 use crate::version::{answer_version, asks_version};
 use plant_script::Ending;
 use program_options::{OutputFormat, SeparatedWords, separate};
-use std::alloc::Global;
 use std::io::{BufReader, Read, Write};
 use std::rt::Files;
 use std::sync::Wait;
@@ -70,7 +70,7 @@ fn run_file<H: Files + Threads + Wait + Sync, W: Write, E: Write>(
 /// Performs the command that is left, with its options. Returns the status.
 fn run_separated<H: Files + Threads + Wait + Sync, R: Read, W: Write, E: Write>(
     rt: &H,
-    alloc: Global,
+    host: &HostRuntime,
     separated: SeparatedWords<'_>,
     reader: &mut R,
     writer: &mut W,
@@ -89,14 +89,16 @@ fn run_separated<H: Files + Threads + Wait + Sync, R: Read, W: Write, E: Write>(
     let SeparatedWords { options, words } = separated;
     let command = Command {
         rt,
-        alloc,
+        host,
+        alloc: host.alloc(),
         words: words.as_slice(),
         unknown_keys: options.unknown_keys,
         ending,
     };
-    match options.input {
-        None => run_format(&command, options.output, reader, writer, reasons),
-        Some(path) => run_file(&command, options.output, path, writer, reasons),
+    match (options.state, options.input) {
+        (Some(folder), _) => run_state(&command, folder, options, reader, writer, reasons),
+        (None, None) => run_format(&command, options.output, reader, writer, reasons),
+        (None, Some(path)) => run_file(&command, options.output, path, writer, reasons),
     }
 }
 
@@ -106,11 +108,12 @@ fn run_separated<H: Files + Threads + Wait + Sync, R: Read, W: Write, E: Write>(
 /// With `--input FILE` the file is read in place of the reader. With `--strict`, unknown keys are a fault of the plant file, with
 /// status 3. With `--json`, an object of JSON is written for each line. Options that are invalid give status 2, and a message that
 /// says why; then nothing is read. With `--version` alone, the version is written. The command `resume` serves a plant that begins
-/// with a plant file or a snapshot.
+/// with a plant file or a snapshot. With `--state FOLDER`, `serve` has its lines in the journal of that folder before they are
+/// answered, and goes on from the journal at the next start.
 #[tactic(auto, using(crate::proofs::WithoutOptions::refused))]
 pub fn run_with_options<'a, H: Files + Threads + Wait + Sync, R: Read, W: Write, E: Write>(
     rt: &H,
-    alloc: Global,
+    host: &HostRuntime,
     words: &'a [&'a str],
     reader: &mut R,
     writer: &mut W,
@@ -141,8 +144,9 @@ pub fn run_with_options<'a, H: Files + Threads + Wait + Sync, R: Read, W: Write,
     if asks_resume_help(words) {
         return answer_resume_help(writer);
     }
+    let alloc = host.alloc();
     match separate(alloc, words) {
-        Ok(separated) => run_separated(rt, alloc, separated, reader, writer, reasons, ending),
+        Ok(separated) => run_separated(rt, host, separated, reader, writer, reasons, ending),
         Err(fault) => refuse(alloc, &fault, writer, reasons),
     }
 }

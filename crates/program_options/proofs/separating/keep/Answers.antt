@@ -8,6 +8,6 @@ pub returns : goal.returns
 returns c = (
   omega arith,
   one_or_more _,
-  λ all so. other_taken all _ _ _ so c.push.new.self.items c.requires
+  λ all so. other_taken all _ _ _ c.push.new.self.items so c.requires
       (ap texts c.in_ok-push.ensures.items ∙ map-append (λ s. s.now) _ _) _ refl refl,
 )
