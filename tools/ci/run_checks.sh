@@ -52,6 +52,7 @@ for check in DSA\ {1..9} DSA\ {13,14,15,17,18,19,20,21,22} DSC\ {1..16} DSC\ {19
 done
 quietly "$tools/compare/resumed_cases" 0 10
 quietly "$tools/compare/changed_cases" 0 25
+quietly "$tools/compare/renumbered_cases" 0 25
 echo 'the second implementation agrees with the documents, and the generator with itself'
 
 if [ -x "$program" ]; then
@@ -61,6 +62,7 @@ if [ -x "$program" ]; then
     "$tools/compare/generated_cases" --trace 0 50
     "$tools/compare/resumed_cases" 0 25 --program "$program"
     "$tools/compare/changed_cases" 0 50 --program "$program"
+    "$tools/compare/renumbered_cases" 0 50 --program "$program"
     quietly "$tools/compare/threads_as_run"
     quietly "$tools/compare/handwritten_inputs" --compare
     quietly "$tools/compare/odd_spellings"

@@ -1,8 +1,9 @@
-"""Runs the command `resume`: serves from a plant file or from a snapshot, answers the line `K` by a snapshot, and changes the plant (`P`)."""
+"""Runs the command `resume`: serves from a plant file or a snapshot, writes snapshots (`K`), and changes the plant (`P`) and frame numbers (`N`)."""
 
 import re
 
 from .changes import NotChanged, changed_core
+from .numbering import NotRenumbered, renumbered_core, requests_number
 from .program import IO, PLANT, Core, Fault, judged_plant, text_of
 from .saving import snapshot_of
 from .services import answer_of_line, invalid_line, split_service
@@ -38,8 +39,14 @@ class Service:
                 file, length = split_file(lines[number:])
                 yield self.change(number, file)
             else:
-                yield self.snapshot(number) if line == b"K" else answer_of_line(self.core, number, line)
+                yield self.answer(number, line)
             number += length
+
+    def answer(self, number, line):
+        """Returns the answer to a line that begins no plant file."""
+        if requests_number(line):
+            return self.renumber(number, line)
+        return self.snapshot(number) if line == b"K" else answer_of_line(self.core, number, line)
 
     def snapshot(self, number):
         return snapshot_of(self.core, self.plant_text) or invalid_line(number)
@@ -53,6 +60,14 @@ class Service:
         except NotChanged:
             return invalid_line(number)
         return f"P frame {self.core.books[0].frame}\n"
+
+    def renumber(self, number, line):
+        """Gives the next frame the number of a line `N`."""
+        try:
+            self.core = renumbered_core(self.core, self.plant_text, line)
+        except NotRenumbered:
+            return invalid_line(number)
+        return f"N frame {self.core.books[0].frame}\n"
 
 
 def split_file(lines):

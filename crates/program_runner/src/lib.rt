@@ -7,6 +7,7 @@ mod command;
 mod file_input;
 mod front_reader;
 mod noted_service;
+mod number_reasons;
 mod objects;
 mod recording;
 mod refusal_reasons;

@@ -1,14 +1,16 @@
-//! What standard error says of a change of the plant that is refused.
+//! What standard error says of a change of the plant, or of its frame numbers, that is refused.
 
 use crate::answering::tell;
 use crate::begin_reasons::state_text;
+use crate::number_reasons::number_reason;
 use command_line::Word;
 use diagnostics::reason_of;
+use frame_numbers::RenumberFault;
 use live_core::{RestFault, ResumeFault};
 use operator_book::StateFault;
-use plant::{Op, OperatorName};
-use plant_restart::{ChangeFault, RestartFault};
-use resumed_service::{NewPlantFault, RefusalNotes};
+use plant::{Op, OperatorName, Plant};
+use plant_restart::{ChangeFault, RestartFault, RestoreFault};
+use resumed_service::{NewFrameFault, NewPlantFault, RefusalNotes};
 use slice_table::read_plant;
 use std::alloc::{AllocError, Global};
 use std::io::Write;
@@ -17,7 +19,7 @@ use std::io::Write;
 const INVALID_PLANT: u8 = 3;
 
 /// Returns why the plant in service is not at rest, and what to do.
-fn rest_text(alloc: Global, why: RestFault) -> Result<String, AllocError> {
+pub(crate) fn rest_text(alloc: Global, why: RestFault) -> Result<String, AllocError> {
     match why {
         RestFault::FrameWaits { op } => format!(in alloc;
             "a frame of operator {op} (counted from 0) waits to be collected; let all operators tick, then repeat the change"
@@ -162,5 +164,15 @@ impl<'a, E: Write> RefusalReasons<'a, E> {
 impl<E: Write> RefusalNotes for RefusalReasons<'_, E> {
     fn note_refused(&mut self, alloc: Global, number: u64, file: &[u8], why: &NewPlantFault) {
         tell(self.reasons, refusal_reason(alloc, number, file, why));
+    }
+
+    fn note_frame_refused(
+        &mut self,
+        alloc: Global,
+        number: u64,
+        plant: &Plant,
+        why: &NewFrameFault,
+    ) {
+        tell(self.reasons, number_reason(alloc, number, plant, why));
     }
 }

@@ -48,7 +48,10 @@ is `P frame N`: operators go on by their names before frame N, new ones are open
 If the file is invalid or does not fit, the plant stays as it is. The answer is `fault: line n`, n being the number of
 the line P, and the reason is written to standard error at once. The lines of the file are counted like other lines.
 
-While some operators have ticked and others have not, K and P are answered by `fault: line n`.
+The line `N n` calls the next frame n, and the answer is `N frame n`. The frames go on from there, with the same times in
+their MAPs. If the times would step, the answer is `fault: line n`, and standard error names a number that fits.
+
+While some operators have ticked and others have not, K, P and N are answered by `fault: line n`.
 
 Exit status: 0 end of the input, 3 invalid plant file or snapshot, 5 out of memory before the first line, 6 I/O error,
 or a plant file that is too long or not UTF-8.

@@ -103,7 +103,8 @@ one_answer old number line lines answer none is (inr (inl change)) = record {
   says = subst (λ (file : List ℕ). text_plant (parse_document file) ≡ Ok answer.next.run.plant) (sym change.file_is) change.is_file.says;
   whole = subst IsReadWhole (sym change.file_is) (read_whole (file_text lines) (passed_before (file_text lines) (file_passed lines none)));
 }
-one_answer old number line lines answer none is (inr (inr same)) = subst IsFileInForce (sym same.next_is) is
+one_answer old number line lines answer none is (inr (inr (inl frame))) = subst IsFileInForce (sym frame.next_is) (record { is_text = is.is_text; says = is.says; whole = is.whole })
+one_answer old number line lines answer none is (inr (inr (inr same))) = subst IsFileInForce (sym same.next_is) is
 
 each_answer : (old : InService) (number : ℕ) (lines : List (List ℕ)) (answers : List ItemAnswer) → HaveNoBreaks lines → IsFileInForce old → AreItemAnswers old number lines answers → AllByRecursion (λ (answer : ItemAnswer). IsFileInForce answer.next) answers
 each_answer old number [] [] none is are = tt

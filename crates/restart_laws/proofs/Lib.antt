@@ -10,3 +10,4 @@ pub mod FileLemmas
 pub mod BegunLemmas
 pub mod ReadyLemmas
 pub mod ProcessLemmas
+pub mod NumberLemmas

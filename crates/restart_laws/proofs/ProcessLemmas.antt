@@ -43,7 +43,8 @@ begun run = record { plant = run.plant; start = run.start; steps = []; outs = []
 one_item : (old : InService) (number : ℕ) (line : List ℕ) (lines : List (List ℕ)) (answer : ItemAnswer) → IsItemAnswer old number line lines answer → answer.changes ≡ false → begun answer.next.run ≡ begun old.run
 one_item old number line lines answer (inl is) none = ap (λ (s : InService). begun s.run) is.next_is
 one_item old number line lines answer (inr (inl is)) none = absurd (let wrong : true ≡ false = sym is.new ∙ none in cc)
-one_item old number line lines answer (inr (inr is)) none = ap (λ (s : InService). begun s.run) is.next_is
+one_item old number line lines answer (inr (inr (inl is))) none = absurd (let wrong : true ≡ false = sym is.new ∙ none in cc)
+one_item old number line lines answer (inr (inr (inr is))) none = ap (λ (s : InService). begun s.run) is.next_is
 
 begins_alike : (old : InService) (number : ℕ) (lines : List (List ℕ)) (answers : List ItemAnswer) → AreItemAnswers old number lines answers → begun (first_period old.run answers) ≡ begun old.run
 begins_alike old number [] [] are = refl
@@ -73,7 +74,7 @@ module _ (first : InService) (begun_is : IsBegun first) (process : IsProcess fir
   ended = after_answers first answers
 
   own_changes : AreChanges (first_period first.run answers) (later_periods first.run answers)
-  own_changes = service_changes first begun_is.live process.input process.before process.after begun_is.leads process.served
+  own_changes = service_changes first begun_is.live process.input process.before process.after begun_is.leads process.served process.keeps
 
   begins_here : begun (first_period first.run answers) ≡ begun first.run
   begins_here = begins_alike first 1 (lines_of process.input) answers process.served.answer

@@ -305,7 +305,8 @@ modems_begin text plant saved other begins i row here =
 pub modems_stay : StaysOfItsModems
 modems_stay old number line lines answer (inl said) same starts = subst (λ (s : InService). StartsOfItsModems s.run) (sym said.next_is) starts
 modems_stay old number line lines answer (inr (inl changed)) same starts = absurd (let wrong : true ≡ false = sym changed.new ∙ same in cc)
-modems_stay old number line lines answer (inr (inr kept)) same starts = subst (λ (s : InService). StartsOfItsModems s.run) (sym kept.next_is) starts
+modems_stay old number line lines answer (inr (inr (inl frame))) same starts = absurd (let wrong : true ≡ false = sym frame.new ∙ same in cc)
+modems_stay old number line lines answer (inr (inr (inr kept))) same starts = subst (λ (s : InService). StartsOfItsModems s.run) (sym kept.next_is) starts
 
 pub modems_on : ModemsGoOn
 modems_on old live frame ready starts = modems_go_on old live frame ready starts

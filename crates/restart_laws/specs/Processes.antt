@@ -9,7 +9,7 @@ use Rattle.run_model.specs.Periods.{Period, ArePeriodsOf, steps_over, NoticesAli
 use Rattle.live_core.specs.Resting.{Rests}
 use Rattle.snapshot_format.specs.declared.saved.Snapshot.{Snapshot}
 use Rattle.resumed_service.specs.Beginning.{front_text, lines_after, is_snapshot_head, IsBeginning}
-use Rattle.resumed_service.specs.Items.{InService, IsRunSoFarOf, ItemAnswer, IsServedFrom, first_period, later_periods}
+use Rattle.resumed_service.specs.Items.{InService, IsRunSoFarOf, ItemAnswer, IsServedFrom, first_period, later_periods, KeepNumbers}
 use Rattle.resumed_service.specs.Resumed.{resumed_service}
 use Rattle.restart_laws.specs.Restarting.{IsFileInForce, snapshot_at}
 
@@ -20,12 +20,13 @@ abbrev pub after_answers : InService → List ItemAnswer → InService
 after_answers first [] = first
 after_answers first (answer ∷ more) = after_answers answer.next more
 
--- a process that answers all its lines from here on
+-- a process that answers all its lines from here on, and gives frames no other numbers
 pub record IsProcess (first : InService) : Type 0 where
   pub input : List ℕ
   pub before : Option (List ℕ)
   pub after : Option (List ℕ)
   pub served : IsServedFrom first input before after
+  pub keeps : KeepNumbers served.answers
 
 -- in the end its core rests before a frame: so it is where its input ends with the line `K`, and this is answered by a snapshot
 pub record EndsAtRest (first : InService) (process : IsProcess first) : Type 0 where

@@ -1,5 +1,5 @@
 -- A service that goes on in another process, from the snapshot that the line `K` was answered (implementation-specific).
-use Rattle.std.specs.Prelude.{◌≡◌, ◌≢◌, ◌<◌, ◌^◌, ℕ, List, [], ◌∷◌, ◌++◌, length, map, slice_get, true, false, All, Option, Some, Ok, IfSome, codes}
+use Rattle.std.specs.Prelude.{◌≡◌, ◌≢◌, ◌<◌, ◌≤◌, ◌^◌, ℕ, ◌+◌, List, [], ◌∷◌, ◌++◌, length, map, count_by, slice_get, true, false, All, Option, Some, Ok, IfSome, codes}
 use Rattle.std.specs.List.{AllByRecursion}
 use Rattle.std.specs.Str.{is_utf8}
 use Rattle.toml.specs.Parse.{parse_document}
@@ -7,12 +7,18 @@ use Rattle.plant.specs.declared.operator_row.RowFields.{RowFields}
 use Rattle.plant.specs.declared.plant.PlantFields.{PlantFields}
 use Rattle.slice_table.specs.ReadPlant.{text_plant}
 use Rattle.transactions.specs.Keeping.{OneEach}
-use Rattle.operator_model.specs.State.{OperatorState}
+use Rattle.plant.specs.declared.consts.ConstsFields.{ConstsFields}
+use Rattle.operator_model.specs.declared.action.Action.{Action}
+use Rattle.operator_model.specs.State.{OperatorState, operator}
+use Rattle.operator_model.specs.Machine.{own_run}
+use Rattle.operator_model.specs.Frames.{is_tick}
+use Rattle.operator_model.specs.Slices.{MayRun}
 use Rattle.operator_model.specs.Replay.{BookView}
+use Rattle.frame_numbers.specs.Renumbered.{action_moved, IsSameRun}
 use Rattle.operator_book.specs.Resuming.{IsListedIn}
 use Rattle.run_model.specs.IsStateAfter.{CoreView}
 use Rattle.run_model.specs.Places.{AtEachOperator}
-use Rattle.run_model.specs.Changing.{RunSoFar, IsPlantChange}
+use Rattle.run_model.specs.Changing.{RunSoFar, state_now, IsPlantChange}
 use Rattle.live_core.specs.Resting.{Rests}
 use Rattle.script_format.specs.Input.{plant_text}
 use Rattle.script_format.specs.Lines.{lines_of}
@@ -24,7 +30,7 @@ use Rattle.plant_restart.specs.Restarted.{names_of, HaveRows, CanRestart}
 use Rattle.resumed_service.specs.declared.begin_fault.BeginFault.{BeginFault}
 use Rattle.resumed_service.specs.declared.begin_fault.BeginFault.TheVariants.{NoMemory}
 use Rattle.resumed_service.specs.Beginning.{front_text, lines_after, is_snapshot_head, IsBeginning, IsBeginFault}
-use Rattle.resumed_service.specs.Items.{InService, IsRunSoFarOf, ItemAnswer, core_snapshot, SnapshotIsGiven, IsSnapshotOf, IsItemAnswer, AreItemAnswers, IsServedFrom}
+use Rattle.resumed_service.specs.Items.{InService, IsRunSoFarOf, ItemAnswer, core_snapshot, SnapshotIsGiven, IsSnapshotOf, IsFrameAnswer, IsItemAnswer, AreItemAnswers, IsServedFrom}
 use Rattle.resumed_service.specs.Resumed.{resumed_service, IsResumedService}
 
 -- ---- the plant file in force
@@ -87,6 +93,25 @@ BeginsOfItsModems = (text : List ℕ) (plant : PlantFields) (saved : Snapshot) �
 abbrev pub StaysOfItsModems : Type 0
 StaysOfItsModems = (old : InService) (number : ℕ) (line : List ℕ) (lines : List (List ℕ)) (answer : ItemAnswer) → IsItemAnswer old number line lines answer → answer.changes ≡ false
     → StartsOfItsModems old.run → StartsOfItsModems answer.next.run
+
+-- The line `N` keeps it too.
+abbrev pub NumbersKeepModems : Type 0
+NumbersKeepModems = (old : InService) (line : List ℕ) (answer : ItemAnswer) → IsFrameAnswer old line answer → StartsOfItsModems old.run → StartsOfItsModems answer.next.run
+
+-- ---- other frame numbers
+
+-- what may be done in the one state, before the frame `from`, may be done in the other one, before the frame `to`, and it is the same
+pub record IsSameUnder (consts : ConstsFields) (row : RowFields) (from to : ℕ) (a b : OperatorState) (actions : List Action) : Type 0 where
+  pub may : MayRun (operator consts row b) (map (action_moved from to) actions)
+  pub same : IsSameRun consts.units from to (own_run (operator consts row a) actions) (own_run (operator consts row b) (map (action_moved from to) actions))
+
+-- An operator does the same after a line `N` as it would have done without it. What it might have done then it may do now, as long as
+-- there are numbers for its frames: it gives the same outputs, of which only the frame numbers are others.
+abbrev pub NumbersAreNotNoticed : Type 0
+NumbersAreNotNoticed = (old : InService) (line : List ℕ) (answer : ItemAnswer) (is : IsFrameAnswer old line answer) (i : ℕ) (row : RowFields) (actions : List Action)
+    → slice_get old.run.plant.rows i ≡ Some row → MayRun (operator old.run.plant.consts row (state_now old.run i row)) actions
+    → answer.next.run.start.frame + count_by is_tick actions ≤ 4294967295
+    → IsSameUnder old.run.plant.consts row is.changed.from answer.next.run.start.frame (state_now old.run i row) (answer.next.run.start.state row) actions
 
 -- ---- the snapshot of a live core
 

@@ -1,6 +1,6 @@
 //! Laws of a service that goes on in another process.
 
-ghost use Rattle.restart_laws.specs.Restarting.{BeginsInForce, StaysInForce, FileGoesOn, BeginsOfItsModems, StaysOfItsModems, ModemsGoOn, AnsweredIsReady, SnapshotBeginsService, SnapshotIsServed, SavedStatesAreRestored, OnlyMemoryRefuses, RestartIsChange};
+ghost use Rattle.restart_laws.specs.Restarting.{BeginsInForce, StaysInForce, FileGoesOn, BeginsOfItsModems, StaysOfItsModems, ModemsGoOn, NumbersKeepModems, NumbersAreNotNoticed, AnsweredIsReady, SnapshotBeginsService, SnapshotIsServed, SavedStatesAreRestored, OnlyMemoryRefuses, RestartIsChange};
 ghost use Rattle.restart_laws.specs.Processes.{PlantFileBegins, ProcessesAreChanges, KeptRowsGoThroughAll, RestartsAreNotNoticed};
 
 /// States that the plant file in force says the plant of the run, and is read whole before a line of three dashes: as a service
@@ -12,11 +12,18 @@ pub fn file_in_force_stays()
 {}
 
 /// States that all that an operator's machine has is of modems that its row lists: as a service begins with a plant file, after
-/// each answer that does not change the plant, and as another process goes on.
+/// each answer that does not change the plant, after a line `N`, and as another process goes on.
 pub fn modems_stay_listed()
     ensures begins { BeginsOfItsModems }
     ensures stays { StaysOfItsModems }
+    ensures numbers { NumbersKeepModems }
     ensures goes_on { ModemsGoOn }
+{}
+
+/// States that an operator notices nothing of a line `N` but the numbers of its frames: whatever is done after it, it gives the
+/// outputs that it would have given without that line.
+pub fn numbers_are_not_noticed()
+    ensures { NumbersAreNotNoticed }
 {}
 
 /// States that what the line `K` is answered, and a line of three dashes, begin a service: with the plant, the plant file and
@@ -45,8 +52,8 @@ pub fn plant_file_begins_a_service()
     ensures { PlantFileBegins }
 {}
 
-/// States that processes of which each goes on from the snapshot that the one before it ended with are one service. So an
-/// operator that keeps its row does not notice the restarts.
+/// States that processes of which each goes on from the snapshot that the one before it ended with are one service, if frames
+/// keep their numbers. So an operator that keeps its row does not notice the restarts.
 pub fn restart_is_not_noticed()
     ensures changes { ProcessesAreChanges }
     ensures rows { KeptRowsGoThroughAll }

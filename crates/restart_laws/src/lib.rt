@@ -5,6 +5,7 @@
 mod laws;
 
 pub use laws::{
-    file_in_force_stays, modems_stay_listed, plant_file_begins_a_service, restart_is_a_change,
-    restart_is_not_noticed, saved_states_are_restored, snapshot_begins_a_service,
+    file_in_force_stays, modems_stay_listed, numbers_are_not_noticed, plant_file_begins_a_service,
+    restart_is_a_change, restart_is_not_noticed, saved_states_are_restored,
+    snapshot_begins_a_service,
 };

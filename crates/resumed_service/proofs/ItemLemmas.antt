@@ -17,17 +17,19 @@ use Rattle.line_service.specs.Service.{answer_text}
 use Rattle.line_service.specs.SoFar.{LineIsAnswered}
 use Rattle.plant_restart.specs.Saving.{state_of_book, saved_book, IsCoreSnapshot}
 use Rattle.resumed_service.specs.Items.{asks_snapshot, begins_plant, core_snapshot}
+use Rattle.resumed_service.specs.NewFrames.{asks_frame, IsSavedCore}
 use Rattle.resumed_service.specs.Served.{in_service, ItemIsAnswered, WritesSnapshot}
 
 module _ (file : List ℕ) (plant : PlantFields) (start : Start) (before : List Step) (shown : List Out) (number : ℕ) (line : List ℕ) (w0 w1 : Option (List ℕ)) where
   -- the line of a script
-  pub line_answered : (live : CoreView) → begins_plant line ≡ false → asks_snapshot line ≡ false → LineIsAnswered plant start before shown number line live w0 w1
+  pub line_answered : (live : CoreView) → begins_plant line ≡ false → asks_snapshot line ≡ false → asks_frame line ≡ false → LineIsAnswered plant start before shown number line live w0 w1
       → ItemIsAnswered (in_service file plant start before shown) number line live w0 w1
-  line_answered live no_plant no_snapshot told = record {
+  line_answered live no_plant no_snapshot no_frame told = record {
     answer = record {
       lines = 1;
       next = in_service file plant start (before ++ told.answered.done) (shown ++ told.answered.told);
       changes = false;
+      renumbers = false;
       text = answer_text plant number told.answered;
     };
     is = λ lines. inl (record {
@@ -36,8 +38,10 @@ module _ (file : List ℕ) (plant : PlantFields) (start : Start) (before : List 
       is = told.is;
       no_plant = no_plant;
       no_snapshot = no_snapshot;
+      no_frame = no_frame;
       one = refl;
       on = refl;
+      same_numbers = refl;
       next_is = refl;
       text_is = refl;
     });
@@ -51,12 +55,13 @@ module _ (file : List ℕ) (plant : PlantFields) (start : Start) (before : List 
   pub snapshot_answered : (live : CoreView) → asks_snapshot line ≡ true → IsAfterFrom plant start before shown live → WritesSnapshot file live number w0 w1
       → ItemIsAnswered (in_service file plant start before shown) number line live w0 w1
   snapshot_answered live asks after wrote = record {
-    answer = record { lines = 1; next = in_service file plant start before shown; changes = false; text = wrote.text };
-    is = λ lines. inr (inr (record {
+    answer = record { lines = 1; next = in_service file plant start before shown; changes = false; renumbers = false; text = wrote.text };
+    is = λ lines. inr (inr (inr (record {
       on = refl;
+      same_numbers = refl;
       next_is = refl;
       why = inl (record { live = live; leads = after; requests = asks; one = refl; answered = wrote.answered });
-    }));
+    })));
     one = refl;
     same_file = refl;
     leads = after;
@@ -85,10 +90,16 @@ books_saved : (books : List BookView) → map saved_named (map state_of_book boo
 books_saved [] = refl
 books_saved (book ∷ books) = ap (λ (more : List SavedOperator). saved_book book ∷ more) (books_saved books)
 
--- the snapshot of a core has this text
-pub core_text : (file : List ℕ) (live : CoreView) (saved : Snapshot) → IsCoreSnapshot live file saved → text_of_snapshot saved ≡ core_snapshot file live saved.frame
-core_text file live saved is =
+-- the snapshot that is saved of a core
+pub core_saved : (file : List ℕ) (live : CoreView) (saved : Snapshot) → IsCoreSnapshot live file saved → IsSavedCore file live saved
+core_saved file live saved is =
     let operators : saved.operators ≡ map saved_book live.books =
     sym (operators_back saved.frame saved.operators) ∙ (ap (map saved_named) is.states_are ∙ books_saved live.books) in
-    ap (λ (plant : List ℕ). text_of_snapshot (record { plant = plant; frame = saved.frame; operators = saved.operators })) is.plant_is
-    ∙ ap (λ (all : List SavedOperator). text_of_snapshot (record { plant = file; frame = saved.frame; operators = all })) operators
+    record {
+      rests = is.rests;
+      saved_is = λ k. record { plant = is.plant_is k; frame = saved.frame; operators = operators k };
+    }
+
+-- it has this text
+pub core_text : (file : List ℕ) (live : CoreView) (saved : Snapshot) → IsSavedCore file live saved → text_of_snapshot saved ≡ core_snapshot file live saved.frame
+core_text file live saved is = ap text_of_snapshot is.saved_is

@@ -5,3 +5,5 @@ pub mod PeriodLemmas
 pub mod PlantFileLemmas
 pub mod RefusalLemmas
 pub mod ServedLemmas
+pub mod RenumberLemmas
+pub mod FrameLemmas

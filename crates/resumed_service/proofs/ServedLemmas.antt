@@ -35,7 +35,7 @@ use Rattle.resumed_service.specs.NewPlants.{IsNewFileFault, IsChangeRefusal, IsN
 use Rattle.resumed_service.specs.PlantFiles.{lines_taken, lines_left, break_after, file_text, IsFileOf, IsFileKept, IsFileRead, IsNumberAfter}
 use Rattle.resumed_service.specs.Items.{InService, ItemAnswer, IsRunSoFarOf, IsItemAnswer, AreItemAnswers, IsServedFrom, begins_plant, change_text, texts_of}
 use Rattle.resumed_service.specs.Resumed.{resumed_service, EndsBegun, EndsInput}
-use Rattle.resumed_service.specs.Served.{in_service, ItemIsAnswered, AreServedSoFar, AwaitsPlant}
+use Rattle.resumed_service.specs.Served.{in_service, ItemIsAnswered, AreServedSoFar, HoldsLine, AwaitsPlant}
 use Rattle.resumed_service.proofs.BeginLemmas.{text_fault, state_fault}
 
 -- nothing is read yet
@@ -64,7 +64,7 @@ past_first line lines count = let next : 1 + count ≡ suc count = omega arith i
 
 module _ (first : InService) (input line : List ℕ) (lines : List (List ℕ)) (number : ℕ) (old : CoreView) (file : List ℕ) (w0 w1 w2 : Option (List ℕ)) (so_far : AreServedSoFar first input (line ∷ lines) number old file w0 w1)
     (rest : List ℕ) (end : LineBreak) (next : ℕ) where
-  answered : (new : CoreView) (new_file : List ℕ) (answer : ItemAnswer) → IsItemAnswer so_far.now number line lines answer → drop answer.lines (line ∷ lines) ≡ lines_left end rest
+  pub answered : (new : CoreView) (new_file : List ℕ) (answer : ItemAnswer) → IsItemAnswer so_far.now number line lines answer → drop answer.lines (line ∷ lines) ≡ lines_left end rest
       → IsNumberAfter end (number + answer.lines) next → IsRunSoFarOf answer.next.run new → answer.next.file ≡ new_file → Appends w1 w2 answer.text
       → AreServedSoFar first input (lines_left end rest) next new new_file w0 w2
   answered new new_file answer is left counted leads same wrote = record {
@@ -97,12 +97,13 @@ module _ (first : InService) (input line : List ℕ) (lines : List (List ℕ)) (
     -- a plant file, to which the plant is not changed
     pub refused : (fault : NewPlantFault) → IsNewPlantFault old lines fault → Appends w1 w2 (refusal_text number fault) → AreServedSoFar first input (lines_left end rest) next old file w0 w2
     refused fault is wrote =
-        answered old file (record { lines = 1 + lines_taken lines; next = so_far.now; changes = false; text = refusal_text number fault })
-        (inr (inr (record {
+        answered old file (record { lines = 1 + lines_taken lines; next = so_far.now; changes = false; renumbers = false; text = refusal_text number fault })
+        (inr (inr (inr (record {
           on = refl;
+          same_numbers = refl;
           next_is = refl;
-          why = inr (record { live = old; leads = so_far.leads; begins = begins; taken = refl; fault = fault; is = is; text_is = refl });
-        }))) all_left all_counted so_far.leads so_far.file_is wrote
+          why = inr (inl (record { live = old; leads = so_far.leads; begins = begins; taken = refl; fault = fault; is = is; text_is = refl }));
+        })))) all_left all_counted so_far.leads so_far.file_is wrote
 
     -- a plant file, to which the plant is changed
     pub changed : (new : CoreView) (text : List ℕ) (plant : PlantFields) → IsFileOf lines plant → text ≡ file_text lines → (is : IsChangeOf old plant new) → Appends w1 w2 (change_text is.frame)
@@ -110,13 +111,14 @@ module _ (first : InService) (input line : List ℕ) (lines : List (List ℕ)) (
     changed new text plant is_file text_is is wrote =
         let start = start_by_name plant is.frame (states_by_name old) in
         let run = so_far.now.run in
-        answered new text (record { lines = 1 + lines_taken lines; next = in_service text plant start [] []; changes = true; text = change_text is.frame })
+        answered new text (record { lines = 1 + lines_taken lines; next = in_service text plant start [] []; changes = true; renumbers = false; text = change_text is.frame })
         (inr (inl (record {
           live = new;
           begins = begins;
           taken = refl;
           is_file = is_file;
           new = refl;
+          same_numbers = refl;
           changed = is.changes run.plant run.start run.steps run.outs so_far.leads;
           leads = is.is_restarted.reached;
           file_is = text_is;
@@ -209,6 +211,14 @@ module _ (first : InService) (number : ℕ) (old : CoreView) (file bytes : List 
       (λ input rest left served line.
       subst (λ (l : List ℕ). AreServedSoFar first input (l ∷ lines_left end left) number old file w0 w1) ((bytes_eq-Decides line.line (codes "P")).0 (begins line.line line.is_held))
       (line_here input rest left served line)) so_far read
+
+  -- any line
+  pub line_held : (a b d : Option (List ℕ)) → WhereKnown a b (λ input rest. AreServedSoFar first input (lines_of rest) number old file w0 w1) → WhereKnown b d (λ rest left. IsLineRead rest left bytes is_long end)
+      → WhereKnown a d (λ input left. HoldsLine first input left end number old file bytes is_long w0 w1)
+  line_held a b d so_far read =
+      known_then a b d (λ input rest. AreServedSoFar first input (lines_of rest) number old file w0 w1) (λ rest left. IsLineRead rest left bytes is_long end)
+      (λ input left. HoldsLine first input left end number old file bytes is_long w0 w1)
+      (λ input rest left served line. record { line = line.line; so_far = line_here input rest left served line; is_held = line.is_held }) so_far read
 
 -- the plant file after it
 module _ (first : InService) (number next : ℕ) (old : CoreView) (file : List ℕ) (w0 w1 : Option (List ℕ)) (keeping : Keeping) (bytes : List ℕ) (before : LineBreak) (end : PlantFileEnd) (a b d : Option (List ℕ))

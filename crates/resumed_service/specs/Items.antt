@@ -1,22 +1,28 @@
 -- The items of a service that begins with a snapshot, and their answers (implementation-specific): lines of a script, requests for a
--- snapshot, and plant files to which the plant is changed.
-use Rattle.std.specs.Prelude.{◌≡◌, ◌⊎◌, ℕ, ◌+◌, List, [], ◌∷◌, ◌++◌, drop, Bool, true, false, Option, map, ⊤, if◌then◌else◌, codes}
+-- snapshot, plant files to which the plant is changed, and other numbers for its frames.
+use Rattle.std.specs.Prelude.{◌≡◌, ◌⊎◌, ℕ, ◌+◌, List, [], ◌∷◌, ◌++◌, drop, Bool, true, false, Option, ⊤, if◌then◌else◌, codes}
 use Rattle.std.specs.Fmt.{decimal}
 use Rattle.std.specs.Io.KnownBytes.{Appends}
-use Rattle.std.specs.List.{flat_map}
+use Rattle.std.specs.List.{AllByRecursion, flat_map}
 use Rattle.std.specs.Str.{bytes_eq}
+use Rattle.plant.specs.declared.plant.PlantFields.{PlantFields}
 use Rattle.run_model.specs.IsStateAfter.{CoreView}
 use Rattle.run_model.specs.Changing.{RunSoFar, IsPlantChange, AreChanges}
 use Rattle.live_core.specs.After.{IsAfterFrom}
 use Rattle.live_core.specs.Resting.{Rests}
 use Rattle.script_format.specs.Lines.{lines_of}
+use Rattle.snapshot_format.specs.declared.saved.Snapshot.{Snapshot}
+use Rattle.snapshot_format.specs.States.{states_of}
 use Rattle.snapshot_format.specs.Text.{text_of_snapshot}
 use Rattle.line_service.specs.declared.line_outcome.LineOutcome.TheVariants.{AtFault, NoMemory}
 use Rattle.line_service.specs.Service.{LineRun, IsAnswer, answer_text, end_text}
-use Rattle.plant_restart.specs.Saving.{saved_book}
+use Rattle.plant_restart.specs.ByName.{start_by_name}
+use Rattle.resumed_service.specs.declared.new_frame_fault.NewFrameFault.{NewFrameFault}
 use Rattle.resumed_service.specs.declared.new_plant_fault.NewPlantFault.{NewPlantFault}
 use Rattle.resumed_service.specs.PlantFiles.{file_text, lines_taken, IsFileOf}
 use Rattle.resumed_service.specs.NewPlants.{IsNewPlantFault, refusal_text}
+use Rattle.resumed_service.specs.Renumbering.{IsRunRenumbered, AreRuns}
+use Rattle.resumed_service.specs.NewFrames.{asks_frame, NamesFrame, saved_core, IsCoreRenumbered, IsNewFrameFault, frame_text, frame_refusal_text}
 
 -- ---- what goes on from item to item
 
@@ -29,12 +35,13 @@ pub record InService : Type 0 where
 abbrev pub IsRunSoFarOf : RunSoFar → CoreView → Type 0
 IsRunSoFarOf run live = IsAfterFrom run.plant run.start run.steps run.outs live
 
--- the answer to an item of the input: how many lines the item has, what goes on after it, whether its plant is another one, and the
--- text that is written
+-- the answer to an item of the input: how many lines the item has, what goes on after it, whether another run begins with it, whether
+-- that run has other frame numbers, and the text that is written
 pub record ItemAnswer : Type 0 where
   pub lines : ℕ
   pub next : InService
   pub changes : Bool
+  pub renumbers : Bool
   pub text : List ℕ
 
 -- ---- the kinds of items
@@ -56,8 +63,10 @@ pub record IsLineAnswer (old : InService) (number : ℕ) (line : List ℕ) (answ
   pub is : IsAnswer old.run.plant old.run.start old.run.steps old.run.outs number line live answered
   pub no_plant : begins_plant line ≡ false
   pub no_snapshot : asks_snapshot line ≡ false
+  pub no_frame : asks_frame line ≡ false
   pub one : answer.lines ≡ 1
   pub on : answer.changes ≡ false
+  pub same_numbers : answer.renumbers ≡ false
   pub next_is : answer.next ≡ record { run = record old.run { steps = old.run.steps ++ answered.done; outs = old.run.outs ++ answered.told }; file = old.file }
   pub text_is : answer.text ≡ answer_text old.run.plant number answered
 
@@ -74,6 +83,7 @@ pub record IsChangeAnswer (old : InService) (line : List ℕ) (lines : List (Lis
   pub taken : answer.lines ≡ 1 + lines_taken lines
   pub is_file : IsFileOf lines answer.next.run.plant
   pub new : answer.changes ≡ true
+  pub same_numbers : answer.renumbers ≡ false
   pub changed : IsPlantChange old.run answer.next.run
   pub leads : IsRunSoFarOf answer.next.run live
   pub file_is : answer.next.file ≡ file_text lines
@@ -89,12 +99,45 @@ pub record IsRefusedChange (old : InService) (number : ℕ) (line : List ℕ) (l
   pub is : IsNewPlantFault live lines fault
   pub text_is : answer.text ≡ refusal_text number fault
 
+-- ---- other frame numbers
+
+-- the run that begins with a snapshot, whose operators go on in the states that are saved under their names
+abbrev pub begun_from : PlantFields → Snapshot → RunSoFar
+begun_from plant saved = record { plant = plant; start = start_by_name plant saved.frame (states_of saved); steps = []; outs = [] }
+
+-- the line requests a number for the next frame, which gets it: the same plant goes on from its snapshot under that number
+pub record IsFrameAnswer (old : InService) (line : List ℕ) (answer : ItemAnswer) : Type 0 where
+  pub live : CoreView
+  pub leads : IsRunSoFarOf old.run live
+  pub requests : asks_frame line ≡ true
+  pub one : answer.lines ≡ 1
+  pub other : Snapshot
+  pub names : NamesFrame line other.frame
+  pub renumbered : IsCoreRenumbered old.file live other.frame other
+  pub new : answer.changes ≡ true
+  pub other_numbers : answer.renumbers ≡ true
+  pub changed : IsRunRenumbered old.run answer.next.run
+  pub next_is : answer.next ≡ record { run = begun_from old.run.plant other; file = old.file }
+  pub after : CoreView
+  pub leads_on : IsRunSoFarOf answer.next.run after
+  pub text_is : answer.text ≡ frame_text other.frame
+
+-- the frame does not get the number, for this reason
+pub record IsRefusedFrame (old : InService) (number : ℕ) (line : List ℕ) (answer : ItemAnswer) : Type 0 where
+  pub live : CoreView
+  pub leads : IsRunSoFarOf old.run live
+  pub requests : asks_frame line ≡ true
+  pub one : answer.lines ≡ 1
+  pub fault : NewFrameFault
+  pub is : IsNewFrameFault old.file live line fault
+  pub text_is : answer.text ≡ frame_refusal_text number fault
+
 -- ---- a snapshot
 
 -- the text of a snapshot of a core that rests before this frame: the text of the plant file, and the state of each operator, in the
 -- order of the rows
 abbrev pub core_snapshot : List ℕ → CoreView → ℕ → List ℕ
-core_snapshot file live frame = text_of_snapshot (record { plant = file; frame = frame; operators = map saved_book live.books })
+core_snapshot file live frame = text_of_snapshot (saved_core file live frame)
 
 -- the core rests before a frame, and its snapshot is written
 pub record SnapshotIsGiven (file : List ℕ) (live : CoreView) (text : List ℕ) : Type 0 where
@@ -122,11 +165,15 @@ pub record IsSnapshotOf (old : InService) (number : ℕ) (line : List ℕ) (answ
 -- the run and the plant file stay as they are
 pub record IsNoChange (old : InService) (number : ℕ) (line : List ℕ) (lines : List (List ℕ)) (answer : ItemAnswer) : Type 0 where
   pub on : answer.changes ≡ false
+  pub same_numbers : answer.renumbers ≡ false
   pub next_is : answer.next ≡ old
-  pub why : IsSnapshotOf old number line answer ⊎ IsRefusedChange old number line lines answer
+  pub why : IsSnapshotOf old number line answer ⊎ (IsRefusedChange old number line lines answer ⊎ IsRefusedFrame old number line answer)
 
+-- a run goes on, or another one begins, or nothing changes
 abbrev pub IsItemAnswer : InService → ℕ → List ℕ → List (List ℕ) → ItemAnswer → Type 0
-IsItemAnswer old number line lines answer = IsLineAnswer old number line answer ⊎ (IsChangeAnswer old line lines answer ⊎ IsNoChange old number line lines answer)
+IsItemAnswer old number line lines answer =
+    IsLineAnswer old number line answer
+    ⊎ (IsChangeAnswer old line lines answer ⊎ (IsFrameAnswer old line answer ⊎ IsNoChange old number line lines answer))
 
 -- all items are answered, each after the one before it
 abbrev pub AreItemAnswers : InService → ℕ → List (List ℕ) → List ItemAnswer → Type 0
@@ -145,9 +192,9 @@ pub record IsServedFrom (first : InService) (input : List ℕ) (old new : Option
   pub answer : AreItemAnswers first 1 (lines_of input) answers
   pub written : Appends old new (texts_of answers)
 
--- ---- the law
+-- ---- the laws
 
--- the run up to the first change of plant, and the runs of the plants after it
+-- the run up to the first change of plant or of frame numbers, and the runs after it
 abbrev pub first_period : RunSoFar → List ItemAnswer → RunSoFar
 first_period run [] = run
 first_period run (answer ∷ more) = if answer.changes then run else first_period answer.next.run more
@@ -156,7 +203,16 @@ abbrev pub later_periods : RunSoFar → List ItemAnswer → List RunSoFar
 later_periods run [] = []
 later_periods run (answer ∷ more) = if answer.changes then first_period answer.next.run more ∷ later_periods answer.next.run more else later_periods answer.next.run more
 
--- the runs of a service are changes of plant as `kept_rows_go_through` takes them, so `changes_are_not_noticed` holds of a service
+-- the runs of a service are changes of plant and of frame numbers
+abbrev pub ServiceIsOfRuns : Type 0
+ServiceIsOfRuns = (first : InService) (live : CoreView) (input : List ℕ) (old new : Option (List ℕ)) → IsRunSoFarOf first.run live → (served : IsServedFrom first input old new)
+    → AreRuns (first_period first.run served.answers) (later_periods first.run served.answers)
+
+-- no answer gives frames other numbers
+abbrev pub KeepNumbers : List ItemAnswer → Type 0
+KeepNumbers answers = AllByRecursion (λ answer. answer.renumbers ≡ false) answers
+
+-- Where none does, the runs are changes of plant as `kept_rows_go_through` takes them, so `changes_are_not_noticed` holds of a service.
 abbrev pub ServiceIsOfChanges : Type 0
 ServiceIsOfChanges = (first : InService) (live : CoreView) (input : List ℕ) (old new : Option (List ℕ)) → IsRunSoFarOf first.run live → (served : IsServedFrom first input old new)
-    → AreChanges (first_period first.run served.answers) (later_periods first.run served.answers)
+    → KeepNumbers served.answers → AreChanges (first_period first.run served.answers) (later_periods first.run served.answers)

@@ -1,7 +1,9 @@
 pub mod Beginning
 pub mod Items
 pub mod Lines
+pub mod NewFrames
 pub mod NewPlants
 pub mod PlantFiles
+pub mod Renumbering
 pub mod Resumed
 pub mod Served

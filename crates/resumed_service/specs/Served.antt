@@ -1,15 +1,21 @@
 -- A service up to some line of its input.
-use Rattle.std.specs.Prelude.{◌≡◌, ℕ, ◌+◌, List, ◌∷◌, ◌++◌, drop, true, Option}
+use Rattle.std.specs.Prelude.{◌≡◌, ℕ, ◌+◌, List, ◌∷◌, ◌++◌, drop, Bool, true, Option}
 use Rattle.std.specs.Io.KnownBytes.{Appends}
 use Rattle.plant.specs.declared.plant.PlantFields.{PlantFields}
+use Rattle.plant.specs.Plant.{IsPlant}
 use Rattle.run_model.specs.declared.step.Step.{Step}
 use Rattle.run_model.specs.declared.step.Out.{Out}
 use Rattle.run_model.specs.Starts.{Start}
 use Rattle.run_model.specs.IsStateAfter.{CoreView}
 use Rattle.script_format.specs.Lines.{lines_of}
+use Rattle.line_service.specs.SoFar.{IsHeld}
+use Rattle.snapshot_format.specs.declared.saved.Snapshot.{Snapshot}
 use Rattle.resumed_service.specs.declared.line_break.LineBreak.{LineBreak}
 use Rattle.resumed_service.specs.declared.new_plant.ItemOutcome.{ItemOutcome}
 use Rattle.resumed_service.specs.declared.new_plant.ItemOutcome.TheVariants.{Answered, Awaits}
+use Rattle.resumed_service.specs.declared.new_plant.WaitingItem.{WaitingItem}
+use Rattle.resumed_service.specs.declared.new_plant.WaitingItem.TheVariants.{NewPlant, NewFrame}
+use Rattle.resumed_service.specs.NewFrames.{asks_frame, NamesFrame, IsCoreRenumbered}
 use Rattle.resumed_service.specs.PlantFiles.{file_text, lines_taken, lines_left, IsFileOf, IsNumberAfter}
 use Rattle.resumed_service.specs.Items.{InService, IsRunSoFarOf, ItemAnswer, begins_plant, IsItemAnswer, AreItemAnswers, SnapshotIsAnswered, texts_of}
 
@@ -53,8 +59,31 @@ pub record AwaitsPlant (first : InService) (input rest : List ℕ) (end : LineBr
   pub left : drop (lines_taken lines) lines ≡ lines_left end rest
   pub counted : IsNumberAfter end (number + 1 + lines_taken lines) next
 
+-- A line is read, and held, and not answered yet.
+pub record HoldsLine (first : InService) (input rest : List ℕ) (end : LineBreak) (number : ℕ) (live : CoreView) (file bytes : List ℕ) (is_long : Bool) (before after : Option (List ℕ)) : Type 0 where
+  pub line : List ℕ
+  pub so_far : AreServedSoFar first input (line ∷ lines_left end rest) number live file before after
+  pub is_held : IsHeld bytes is_long line
+
+-- A line `N` is read, and not answered yet. This is the core's snapshot under the number that it names.
+pub record AwaitsFrame (first : InService) (input rest : List ℕ) (end : LineBreak) (number next : ℕ) (live : CoreView) (file : List ℕ) (other : Snapshot) (plant : PlantFields) (before after : Option (List ℕ)) : Type 0 where
+  pub line : List ℕ
+  pub so_far : AreServedSoFar first input (line ∷ lines_left end rest) number live file before after
+  pub requests : asks_frame line ≡ true
+  pub names : NamesFrame line other.frame
+  pub renumbered : IsCoreRenumbered file live other.frame other
+  pub plant_is : plant ≡ live.plant
+  pub valid : IsPlant plant
+  pub counted : IsNumberAfter end (number + 1) next
+
+-- an item waits for a core of this plant
+abbrev pub AwaitsCore : InService → List ℕ → List ℕ → LineBreak → ℕ → CoreView → List ℕ → WaitingItem → PlantFields → Option (List ℕ) → Option (List ℕ) → Type 0
+AwaitsCore first input rest end number live file (NewPlant line) plant before after =
+    AwaitsPlant first input rest end line.number number live file line.text.items plant before after
+AwaitsCore first input rest end number live file (NewFrame line) plant before after =
+    AwaitsFrame first input rest end line.number number live file line.saved plant before after
+
 -- what is done of an item that was read
 abbrev pub IsAfterItem : InService → List ℕ → List ℕ → LineBreak → ℕ → CoreView → List ℕ → Option (List ℕ) → Option (List ℕ) → ItemOutcome → Type 0
 IsAfterItem first input rest end number live file before after Answered = AreServedSoFar first input (lines_left end rest) number live file before after
-IsAfterItem first input rest end number live file before after (Awaits waiting plant) =
-    AwaitsPlant first input rest end waiting.number number live file waiting.text.items plant before after
+IsAfterItem first input rest end number live file before after (Awaits waiting plant) = AwaitsCore first input rest end number live file waiting plant before after

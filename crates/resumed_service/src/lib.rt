@@ -1,5 +1,6 @@
-//! A service that begins with a plant file or with a snapshot. It answers the line `K` by a snapshot, and its plant is changed by
-//! a plant file after the line `P`. So a plant goes on where it was, in another process or under another plant file.
+//! A service that begins with a plant file or with a snapshot. It answers the line `K` by a snapshot, its plant is changed by a
+//! plant file after the line `P`, and the line `N` gives its next frame another number. So a plant goes on where it was, in
+//! another process, under another plant file or under other frame numbers.
 #![tactic(auto)]
 
 mod begin_fault;
@@ -10,6 +11,8 @@ mod items;
 mod kept_text;
 mod laws;
 mod line_break;
+mod new_frame;
+mod new_frame_fault;
 mod new_plant;
 mod new_plant_fault;
 mod notes;
@@ -19,7 +22,8 @@ mod service;
 mod serving;
 
 pub use begin_fault::BeginFault;
-pub use laws::service_is_of_changes;
+pub use laws::{service_is_of_changes, service_is_of_runs};
+pub use new_frame_fault::NewFrameFault;
 pub use new_plant_fault::NewPlantFault;
 pub use notes::RefusalNotes;
 pub use serving::{ServiceEnd, resume};

@@ -26,7 +26,8 @@ use crate::holding::is_held;
 use crate::items::answer_item;
 use crate::kept_text::KeptText;
 use crate::line_break::LineBreak;
-use crate::new_plant::{ItemOutcome, WaitingLine};
+use crate::new_frame::{answer_frame, asks_frame, take_frame};
+use crate::new_plant::{ItemOutcome, WaitingItem, WaitingLine};
 use crate::notes::RefusalNotes;
 use crate::plant_file::{break_after, plant_of_file, read_plant_file};
 use crate::reading::{read_front, read_line};
@@ -75,9 +76,11 @@ fn take_plant_file<R: Read, W: Write, N: RefusalNotes>(
     service.after = break_after(end);
     match plant_of_file(alloc, &text, end) {
         Ok(plant) => Ok(ItemOutcome::Awaits {
-            waiting: WaitingLine {
-                number,
-                text: text.bytes,
+            waiting: WaitingItem::NewPlant {
+                line: WaitingLine {
+                    number,
+                    text: text.bytes,
+                },
             },
             plant,
         }),
@@ -88,7 +91,7 @@ fn take_plant_file<R: Read, W: Write, N: RefusalNotes>(
     }
 }
 
-/// Reads an item of the input, and answers it unless it is a valid plant file.
+/// Reads an item of the input, and answers it unless it waits for another core.
 fn serve_item<R: Read, W: Write, N: RefusalNotes>(
     alloc: Global,
     service: &mut ServiceState,
@@ -108,6 +111,9 @@ fn serve_item<R: Read, W: Write, N: RefusalNotes>(
     let after = read_line(reader, &mut service.held)?;
     if is_held(&service.held, b"P") {
         return take_plant_file(alloc, service, after, reader, writer, notes);
+    }
+    if asks_frame(&service.held) {
+        return take_frame(alloc, service, after, writer, notes);
     }
     answer_item(
         alloc,
@@ -157,8 +163,8 @@ fn end_without_memory() -> io::Result<ServiceEnd>
 
 /// Serves a plant that goes on in its saved states, each operator by the policy of its row.
 ///
-/// The cores of new plants and their rankings are made here too, since a function that makes them may not hand them out. A
-/// ranking of a new plant for which memory runs out is left out: then `change` fails, since it is missing.
+/// The cores of new plants and of new frame numbers, and their rankings, are made here too, since a function that makes them may
+/// not hand them out. A ranking for which memory runs out is left out: then `change` or `restore` fails, since it is missing.
 fn serve_begun<R: Read, W: Write, N: RefusalNotes>(
     alloc: Global,
     begun: Beginning,
@@ -213,8 +219,16 @@ fn serve_begun<R: Read, W: Write, N: RefusalNotes>(
             let ranking = Ranking::new(row.get_fields().policy, rank);
             let _left_out = rankings.push(ranking);
         }
+        let line = match waiting {
+            WaitingItem::NewPlant { line } => line,
+            WaitingItem::NewFrame { line } => {
+                let restored = restore(alloc, plant, &line.saved, rankings);
+                answer_frame(alloc, &mut service, line, restored, writer, notes)?;
+                continue;
+            }
+        };
         let changed = change(alloc, &service.core, plant, rankings);
-        answer_change(alloc, &mut service, waiting, changed, writer, notes)?;
+        answer_change(alloc, &mut service, line, changed, writer, notes)?;
     }
     Err(io::Error::from(io::ErrorKind::Other))
 }
@@ -239,6 +253,10 @@ fn end_of_failed_read(error: io::Error) -> io::Result<ServiceEnd>
 /// The line `P` begins a plant file, up to the next line of three dashes. The plant is changed to that of the file, with `change`,
 /// and `P frame N` is answered. If it cannot be changed, it stays as it is: `notes` has the reason, and the answer is the
 /// line `P` as an invalid line, or `fault: memory`. In each case the lines of the file are counted and no lines of a script.
+///
+/// A line that begins with `N` names a number, which the next frame gets: the plant goes on from its snapshot under that number,
+/// with `renumber`, and `N frame n` is answered. If it cannot have that number, all stays as it is, `notes` has the reason, and
+/// the line is answered as an invalid one, or by `fault: memory`.
 ///
 /// Where the service does not begin, nothing is written. An error is one of the reader's or of the writer's; then no clause says
 /// what is written.

@@ -16,4 +16,4 @@ returns-else-is_held-clause-answered g c =
     on_ok_map c.answer_held.result _ _
     (λ answers plant start before shown after line held.
     line_answered c.args.file.now plant start before shown c.args.number line _ _ (live_view c.answer_held.new.core)
-    (c.requires.no_plant line held) (sym (c.is_held.ensures line held) ∙ c.if-is_held.false) (answers plant start before shown after line held)) c.answer_held.ensures.answered
+    (c.requires.no_plant line held) (sym (c.is_held.ensures line held) ∙ c.if-is_held.false) (c.requires.no_frame line held) (answers plant start before shown after line held)) c.answer_held.ensures.answered

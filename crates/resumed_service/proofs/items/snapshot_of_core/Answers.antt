@@ -1,7 +1,6 @@
-use Rattle.std.proofs.Common.{List, ℕ, ◌++◌, ap, subst, ◌∙◌}
+use Rattle.std.proofs.Common.{List, ℕ, ◌++◌, ap, ◌∙◌}
 use Rattle.live_core.specs.LiveView.{live_view}
 use Rattle.snapshot_format.specs.Text.{text_of_snapshot}
-use Rattle.plant_restart.specs.Saving.{IsCoreSnapshot}
 use Rattle.resumed_service.proofs.ItemLemmas.{core_text}
 use Rattle.resumed_service.proofs.items.snapshot_of_core.Goals as goal
 
@@ -9,7 +8,7 @@ pub returns-in-Ok-clause-ok : goal.returns-in-Ok-clause-ok
 returns-in-Ok-clause-ok g c =
     let live = live_view c.args.core.now in
     let saved = c.in_ok-saved.saved in
-    let is = subst (λ (file : List ℕ). IsCoreSnapshot live file saved) c.in_ok-copy.ensures c.in_ok-saved.ensures.ok in
+    let is = c.in_ok-saved.ensures.ok in
     record {
       frame = saved.frame;
       rests = is.rests;

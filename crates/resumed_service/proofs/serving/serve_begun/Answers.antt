@@ -13,7 +13,8 @@ use Rattle.resumed_service.specs.declared.line_break.LineBreak.{LineBreak}
 use Rattle.resumed_service.specs.declared.new_plant.ItemOutcome.{ItemOutcome}
 use Rattle.resumed_service.specs.PlantFiles.{lines_left}
 use Rattle.resumed_service.specs.Resumed.{resumed_service}
-use Rattle.resumed_service.specs.Served.{AreServedSoFar, IsAfterItem}
+use Rattle.resumed_service.specs.declared.new_plant.WaitingItem.{WaitingItem}
+use Rattle.resumed_service.specs.Served.{AreServedSoFar, AwaitsCore, IsAfterItem}
 use Rattle.resumed_service.proofs.RefusalLemmas.{restarted_is_reached}
 use Rattle.resumed_service.proofs.ServedLemmas.{service_begun, all_served}
 use Rattle.resumed_service.proofs.serving.serve_begun.Goals as goal
@@ -68,6 +69,11 @@ loop-preserved-in-Answered g c =
           (c.in_ok-serve_item.ensures.on first known w0 so_far);
     }
 
+pub answer_frame-requires-clause-core : goal.answer_frame-requires-clause-core
+answer_frame-requires-clause-core g c =
+    let saved = c.in-NewFrame.line.saved in
+    if_ok c.restore-restored.result _ _ (λ core is. restarted_is_reached _ saved.frame (states_of saved) (live_view core) is) c.restore-restored.ensures.ok
+
 pub answer_change-requires-clause-core : goal.answer_change-requires-clause-core
 answer_change-requires-clause-core g c =
     let old = live_view c.serve_item.new.service.core in
@@ -89,7 +95,32 @@ loop-preserved g c =
     let waits =
     subst (λ (outcome : ItemOutcome). WhereKnown known read (λ input rest. IsAfterItem first input rest new.after new.number (live_view new.core) new.file w0 w2 outcome)) c.in-Awaits.is
     (c.in_ok-serve_item.ensures.on first known w0 so_far) in
+    let here =
+    subst (λ (waiting : WaitingItem). WhereKnown known read (λ input rest. AwaitsCore first input rest new.after new.number (live_view new.core) new.file waiting c.in-Awaits.plant w0 w2)) c.in-NewPlant.is waits in
     record {
       reached = c.in_ok-answer_change.ensures.reached;
-      served = c.in_ok-answer_change.ensures.on first known read w0 _ _ c.change-changed.ensures.ok c.change-changed.ensures.fault waits;
+      served = c.in_ok-answer_change.ensures.on first known read w0 _ _ c.change-changed.ensures.ok c.change-changed.ensures.fault here;
+    }
+
+pub loop-preserved-in-NewFrame : goal.loop-preserved-in-NewFrame
+loop-preserved-in-NewFrame g c =
+    let first = resumed_service c.args.begun.plant c.args.begun.saved in
+    let known = g.R.Read.remaining c.args.reader.now in
+    let read = g.R.Read.remaining c.serve_item.new.reader in
+    let w0 = g.W.Write.contents c.args.writer.now in
+    let w1 = g.W.Write.contents c.loop.writer in
+    let w2 = g.W.Write.contents c.serve_item.new.writer in
+    let old = c.loop.service in
+    let new = c.serve_item.new.service in
+    let so_far =
+    subst (λ (after : LineBreak). WhereKnown known (g.R.Read.remaining c.loop.reader) (λ input rest. AreServedSoFar first input (lines_left after rest) old.number (live_view old.core) old.file w0 w1)) c.in-Another.is
+    c.loop.invariant.served in
+    let waits =
+    subst (λ (outcome : ItemOutcome). WhereKnown known read (λ input rest. IsAfterItem first input rest new.after new.number (live_view new.core) new.file w0 w2 outcome)) c.in-Awaits.is
+    (c.in_ok-serve_item.ensures.on first known w0 so_far) in
+    let here =
+    subst (λ (waiting : WaitingItem). WhereKnown known read (λ input rest. AwaitsCore first input rest new.after new.number (live_view new.core) new.file waiting c.in-Awaits.plant w0 w2)) c.in-NewFrame.is waits in
+    record {
+      reached = c.in_ok-answer_frame-in-NewFrame.ensures.reached;
+      served = c.in_ok-answer_frame-in-NewFrame.ensures.on first known read w0 _ _ c.restore-restored.ensures.ok c.restore-restored.ensures.fault here;
     }

@@ -1,7 +1,7 @@
 use Rattle.std.proofs.Common.{sym, ◌∙◌}
 use Rattle.live_core.specs.LiveView.{live_view}
 use Rattle.script_format.proofs.Outcomes.{if_ok}
-use Rattle.resumed_service.proofs.ServedLemmas.{item_served, plant_begun}
+use Rattle.resumed_service.proofs.ServedLemmas.{item_served, plant_begun, line_held}
 use Rattle.resumed_service.proofs.serving.serve_item.Goals as goal
 
 pub returns-then-is_held-clause-on : goal.returns-then-is_held-clause-on
@@ -21,3 +21,13 @@ returns-clause-on g c = λ first known written so_far.
     item_served first service.number (live_view service.core) service.file held.bytes.items held.is_long c.in_ok-after.after written (g.W.Write.contents c.args.writer.now)
     known (g.R.Read.remaining c.args.reader.now) (g.R.Read.remaining c.read_line.new.reader) c.in_ok-service.field-0 (live_view c.answer_item.new.core) (g.W.Write.contents c.answer_item.new.writer)
     so_far c.in_ok-after.ensures c.in_ok-service.ensures c.in_ok-answer_item.ensures.answered
+
+pub returns-then-asks_frame-clause-on : goal.returns-then-asks_frame-clause-on
+returns-then-asks_frame-clause-on g c =
+    let service = c.args.service.now in
+    let held = c.read_line.new.held in
+    if_ok c.take_frame.result _ _
+    (λ outcome on first known written so_far.
+    on first known (g.R.Read.remaining c.read_line.new.reader) written
+    (line_held first service.number (live_view service.core) service.file held.bytes.items held.is_long c.in_ok-after.after written (g.W.Write.contents c.args.writer.now)
+    known (g.R.Read.remaining c.args.reader.now) (g.R.Read.remaining c.read_line.new.reader) so_far c.in_ok-after.ensures)) c.take_frame.ensures.on

@@ -1,0 +1,213 @@
+"""Gives frames other numbers at random lines of generated scripts, and compares the output with that of the scripts without them.
+
+    tools/compare/renumbered_cases FIRST COUNT                    the seeds FIRST to FIRST + COUNT - 1, by the second implementation alone
+    tools/compare/renumbered_cases FIRST COUNT --program PATH     the same by a built program, compared with the second implementation
+
+For each seed that has a valid plant file and a script, lines `N` come at random places. Most have a number that keeps the Alloc Start Time.
+Lines `Z` after them count by the new numbers. Then:
+
+  - The output is that of the script with empty lines in the place of the lines `N`, and with the first numbers in lines `Z`, but for the
+    frame numbers, each of which is as far from its first number as the lines `N` say. So it is with the snapshot at the end.
+  - A line `N` that is refused gives its own line and changes no other.
+  - With a program, the outputs of both implementations are the same.
+
+Prints how many scripts and lines `N` there were, and why the second implementation refused some. Exits with 1 at the first seed that
+differs.
+"""
+
+import random
+import re
+import sys
+from collections import Counter
+from dataclasses import dataclass, field
+
+from tools import show_help
+from tools.compare.resumed_cases import Answers, Differs, show
+from tools.generator.case import case
+from tools.generator.flows import pick
+from tools.reference import coverage
+from tools.reference.book import LAST_FRAME
+from tools.reference.plant import PlantFault, read_plant
+from tools.reference.program import Core, split_input
+from tools.reference.resuming import Service
+
+MOST_LINES, MOST_TICKS_BEHIND, MOST_FRAMES = 150, 20, 100_000
+OTHER_FORMS = (b"N", b"N ", b"N 00", b"N +1", b"N 4294967296", b"N 1 ", b"N -1", b"NN 1", b"N 1\r", b"N one")
+GIVEN = "frame number: given"
+
+
+@dataclass
+class Renumbered:
+    """Two scripts of a plant file: one with lines `N`, one with empty lines in their place. `given` has the new number of each frame by its
+    first one, in the order of the lines that are taken, and `refused` the numbers of the other lines."""
+    plant: str
+    lines: list = field(default_factory=list)
+    alone: list = field(default_factory=list)
+    given: list = field(default_factory=list)
+    refused: list = field(default_factory=list)
+    results: Counter = field(default_factory=Counter)
+
+    def input(self, lines):
+        return self.plant.encode() + b"---\n" + b"\n".join(lines) + b"\n"
+
+
+# Making a script
+
+def renumbered_script(seed):
+    """Returns the script of a seed with lines `N`, or None if it has no valid plant, or one whose frames come near the last number."""
+    words, data = case(seed)
+    try:
+        plant, script = split_input(data.decode())
+        first = read_plant(plant).first_frame
+    except (UnicodeDecodeError, PlantFault):
+        return None
+    if words == ["one"] or first + MOST_FRAMES > LAST_FRAME:
+        return None
+    rng = random.Random(f"renumbered {seed}")
+    maker = Maker(rng, plant)
+    places = {rng.randrange(len(script[:MOST_LINES]) + 1) for _ in range(pick(rng, (1, 3), (3, 4), (6, 3)))}
+    for place, line in enumerate(script[:MOST_LINES] + [""]):
+        if place in places:
+            maker.renumber()
+        maker.add(line)
+    maker.let_rest()
+    maker.add("K")
+    return maker.made
+
+
+class Maker:
+    """Makes both scripts, and lets the second implementation do the one with lines `N`."""
+
+    def __init__(self, rng, plant):
+        self.rng, self.shift = rng, 0
+        self.service = Service(Core(read_plant(plant)), plant)
+        self.made = Renumbered(plant)
+
+    def add(self, line):
+        """Adds a line to both scripts. A slice change whose frame has no number under the new ones is left out."""
+        moved = self.moved(line)
+        self.add_both(line if moved is not None else "", moved or "")
+
+    def add_both(self, line, moved):
+        self.made.alone.append(line.encode())
+        self.made.lines.append(moved.encode())
+        list(self.service.answers([moved.encode()]))
+
+    def moved(self, line):
+        found = re.fullmatch(r"(Z )([0-9]{1,10})( .*)?", line)
+        if found is None or int(found[2]) > LAST_FRAME:
+            return line
+        first = int(found[2]) + self.shift
+        return f"{found[1]}{first}{found[3] or ''}" if 0 <= first <= LAST_FRAME else None
+
+    def let_rest(self):
+        """Lets each operator tick that is behind the others."""
+        last = max(book.frame for book in self.service.core.books)
+        for book in self.service.core.books:
+            for _ in range(min(last - book.frame, MOST_TICKS_BEHIND)):
+                self.add(f"T {book.row.name}")
+
+    def renumber(self):
+        """Adds a line `N`, mostly where the plant rests, and an empty line to the other script."""
+        if self.rng.random() < 0.9:
+            self.let_rest()
+        frame = self.service.core.books[0].frame
+        line = self.number_line(frame)
+        result = self.result_of(line)
+        self.made.lines.append(line)
+        self.made.alone.append(b"")
+        self.made.results[result] += 1
+        if result != GIVEN:
+            self.made.refused.append(len(self.made.lines))
+            return
+        to = self.service.core.books[0].frame
+        self.made.given.append((frame - self.shift, to))
+        self.shift += to - frame
+
+    def number_line(self, frame):
+        """Returns a line `N`: mostly with a number that keeps the time, and far from the last one."""
+        minislots = self.service.core.plant.frame_minislots
+        step = 2**32 // (minislots & -minislots)
+        fitting = range(frame % step, LAST_FRAME + 1 - MOST_FRAMES, step)
+        if not fitting or self.rng.random() < 0.25:
+            other = b"N %d" % self.rng.choice((0, 1, 255, frame + 1, self.rng.randrange(2**31), step // 2))
+            return self.rng.choice((other, self.rng.choice(OTHER_FORMS)))
+        return b"N %d" % self.rng.choice((fitting[0], fitting[-1], self.rng.choice(fitting)))
+
+    def result_of(self, line):
+        """Does a line `N`, and returns what is counted of it: that the frame has the number, or why not."""
+        before = Counter(coverage.COUNTS)
+        list(self.service.answers([line]))
+        return next(what for what in coverage.COUNTS - before if what.startswith("frame number: "))
+
+
+# Comparing
+
+def with_first_numbers(output, made):
+    """Returns the lines of an output under the first numbers. Those that only lines `N` have are left out, and what a state has of frames."""
+    faults, given, shift = {f"fault: line {number}" for number in made.refused}, list(made.given), 0
+    lines = []
+    for line in output.decode().splitlines():
+        if given and line == f"N frame {given[0][1]}":
+            first, to = given.pop(0)
+            shift = to - first
+        elif line not in faults:
+            lines.append(moved_back(line, shift))
+    return lines if not given else None
+
+
+def moved_back(line, shift):
+    """Returns a line of an output with the first number of its frame. Of a flow in a snapshot, the frames that it counts from are left out."""
+    fields = line.split(" ")
+    if fields[0] == "F" or fields[0] == "MAP":
+        place = 2 if fields[0] == "F" else 1
+        return " ".join(fields[:place] + [str(int(fields[place]) - shift)] + fields[place + 1:])
+    if fields[0] == "frame" and len(fields) == 3 and fields[1].isdigit():
+        return f"frame {int(fields[1]) - shift} {fields[2]}"
+    if line.startswith("next ="):
+        return " ".join(["next", str(int(fields[1][1:]) - shift)] + fields[2:])
+    if fields[0] == "flow" and len(fields) > 8:
+        return " ".join(fields[:-3] + fields[-2:-1])
+    return "end" if fields[0] == "end" else line
+
+
+def judge(answers, made):
+    """Compares the output with lines `N` and that without them."""
+    data = made.input(made.lines)
+    renumbered, alone = answers.of(["resume"], data), answers.of(["resume"], made.input(made.alone))
+    expected = with_first_numbers(alone[1], Renumbered(made.plant))
+    if (renumbered[0], with_first_numbers(renumbered[1], made)) != (alone[0], expected):
+        raise Differs(data, renumbered, alone)
+
+
+def compare(answers, first, count):
+    counts = Counter()
+    for seed in range(first, first + count):
+        made = renumbered_script(seed)
+        if made is None:
+            counts["seeds without a valid plant, or near the last frame"] += 1
+            continue
+        try:
+            judge(answers, made)
+        except Differs as found:
+            show(seed, *found.args)
+            return 1
+        counts["scripts with other frame numbers"] += 1
+        counts.update(made.results)
+    for what, times in sorted(counts.items()):
+        print(f"{times:9} {what}")
+    return 0
+
+
+def main():
+    show_help(__doc__)
+    words, program = sys.argv[1:], None
+    if words[2:3] == ["--program"] and len(words) == 4:
+        words, program = words[:2], words[3]
+    if len(words) != 2 or not all(word.isdigit() for word in words):
+        sys.exit(__doc__)
+    sys.exit(compare(Answers(program), int(words[0]), int(words[1])))
+
+
+if __name__ == "__main__":
+    main()
