@@ -41,8 +41,7 @@ impl From<AllocError> for JournalOpenFault {
 }
 
 /// Returns why a file was not opened, where a call failed on this part.
-fn open_fault(part: JournalPart, error: io::Error) -> JournalOpenFault
-{
+fn open_fault(part: JournalPart, error: io::Error) -> JournalOpenFault {
     match error.kind() {
         io::ErrorKind::OutOfMemory => JournalOpenFault::NoMemory,
         _ => JournalOpenFault::Io { part, error },

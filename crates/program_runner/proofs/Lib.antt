@@ -1,1 +1,2 @@
 mod WithoutOptions
+mod StateLemmas

@@ -38,15 +38,15 @@ no_fault words NoMemory none has = refl
 
 -- ---- no fault
 
-plain : (output : OutputFormat) → cond (is_json output) 1 0 ≡ 0 → output ≡ Plain
+plain : (output : OutputFormat) → ◌≡◌ {A = ℕ} (cond (is_json output) 1 0) 0 → output ≡ Plain
 plain Plain is = refl
 plain JsonLines is = absurd (omega (arith, is))
 
-warned : (unknown : UnknownKeyHandling) → cond (is_strict unknown) 1 0 ≡ 0 → unknown ≡ Warn
+warned : (unknown : UnknownKeyHandling) → ◌≡◌ {A = ℕ} (cond (is_strict unknown) 1 0) 0 → unknown ≡ Warn
 warned Warn is = refl
 warned Refuse is = absurd (omega (arith, is))
 
-no_value : {X : Type 0} (value : Option X) → cond (is_some value) 1 0 ≡ 0 → value ≡ None
+no_value : {X : Type 0} (value : Option X) → ◌≡◌ {A = ℕ} (cond (is_some value) 1 0) 0 → value ≡ None
 no_value None is = refl
 no_value (Some value) is = absurd (omega (arith, is))
 

@@ -1,5 +1,5 @@
 -- What a journal has at any moment.
-use Rattle.std.proofs.Common.{◌≡◌, ◌⊎◌, ◌≤◌, inl, inr, ⊎_elim, ℕ, ◌+◌, List, [], ◌++◌, length, Option, Some, None, Vec, refl, sym, ap, subst, ◌∙◌, arith, length-append}
+use Rattle.std.proofs.Common.{◌≡◌, ◌≤◌, inl, inr, ⊎_elim, ℕ, ◌+◌, List, [], ◌++◌, length, Option, Vec, refl, sym, ap, subst, ◌∙◌, arith, length-append}
 use Rattle.std.specs.declared.alloc.Global.{Global}
 use Rattle.std.proofs.lemmas.List.{length-map}
 use Rattle.line_journal.specs.Found.{texts}
@@ -8,7 +8,7 @@ use Rattle.run_model.specs.IsStateAfter.{CoreView}
 use Rattle.snapshot_format.specs.declared.saved.Snapshot.{Snapshot}
 use Rattle.line_journal.specs.Device.{LeavesOnly, Only, Elapses}
 use Rattle.line_journal.specs.Journal.{JournalContent, journal_content, with_lines, fresh, IsBeforeOrAfter}
-use Rattle.durable_service.specs.Durable.{SaysState, StandsForState, IsLeading, IsBegunWith}
+use Rattle.durable_service.specs.Durable.{SaysState, StandsForState, IsBegunWith}
 use Rattle.state_service.specs.Serving.{LeadsHere, HasLines, HasNoFewer, LosesNoLine}
 
 -- more lines

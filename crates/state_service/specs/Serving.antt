@@ -102,10 +102,10 @@ abbrev pub IsRestFrame : CoreView → Option ℕ → Type 0
 IsRestFrame live (Some frame) = Rests live frame
 IsRestFrame live None = (frame : ℕ) → Rests live frame → ⊥
 
-abbrev pub frame_text : Option ℕ → List ℕ
-frame_text None = []
-frame_text (Some frame) = codes " frame " ++ decimal frame
+abbrev pub rest_text : Option ℕ → List ℕ
+rest_text None = []
+rest_text (Some frame) = codes " frame " ++ decimal frame
 
 -- the line that says with which line a service goes on, and before which frame
 abbrev pub greeting : ℕ → Option ℕ → List ℕ
-greeting number frame = codes "S line " ++ (decimal number ++ (frame_text frame ++ 10 ∷ []))
+greeting number frame = codes "S line " ++ (decimal number ++ (rest_text frame ++ 10 ∷ []))

@@ -22,10 +22,7 @@ use std::io::{Read, Write};
 use tlv24::Bytes;
 
 /// Reads the plant file of an input.
-fn read_given<R: Read>(
-    alloc: Global,
-    reader: &mut R,
-) -> Result<GivenPlant, StateServiceFault>
+fn read_given<R: Read>(alloc: Global, reader: &mut R) -> Result<GivenPlant, StateServiceFault>
     ensures file { IfOk result (λ given. IfSome (R.remaining reader.old) (λ input. given.file.items ≡ plant_text input)) }
     ensures lines { OnOk result (IfSome (R.remaining reader.old) (λ input. R.remaining reader.new ≡ Some (script_text input))) }
     ensures plant { IfOk result (λ given. text_plant (parse_document given.file.items) ≡ Ok given.plant) }

@@ -119,7 +119,5 @@ pub(crate) fn serve_period<D: Device, R: Read, W: Write>(
             return Ok(PeriodEnd::Due { kept });
         }
     }
-    Err(StateServiceFault::from(io::Error::from(
-        io::ErrorKind::Other,
-    )))
+    Err(StateServiceFault::from(io::Error::from(io::ErrorKind::Other)))
 }

@@ -86,15 +86,7 @@ fn serve_kept<D: Device, R: Read, W: Write>(
     };
     let mut service = DurableState { core, file, count };
     put_snapshot(alloc, journal, &service, &snapshot)?;
-    let end = serve_period(
-        alloc,
-        journal,
-        &mut service,
-        part,
-        period,
-        reader,
-        writer,
-    )?;
+    let end = serve_period(alloc, journal, &mut service, part, period, reader, writer)?;
     Ok(ServedPeriod {
         file: service.file,
         count: service.count,
@@ -227,7 +219,5 @@ pub(crate) fn serve_restored<D: Device, R: Read, W: Write>(
             alloc, journal, kept, file, count, &mut part, period, reader, writer,
         )?;
     }
-    Err(StateServiceFault::from(io::Error::from(
-        io::ErrorKind::Other,
-    )))
+    Err(StateServiceFault::from(io::Error::from(io::ErrorKind::Other)))
 }

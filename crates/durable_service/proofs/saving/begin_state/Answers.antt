@@ -1,6 +1,5 @@
-use Rattle.std.proofs.Common.{◌≡◌, ◌⊎◌, inl, inr, ⊎_elim, List, ℕ, sym, subst, refl}
-use Rattle.line_journal.specs.Journal.{journal_content, fresh}
-use Rattle.durable_service.specs.Durable.{IsOpeningState, IsBegunWith, SaysState}
+use Rattle.std.proofs.Common.{inl, inr, ⊎_elim, List, ℕ, sym, subst, refl}
+use Rattle.durable_service.specs.Durable.{IsOpeningState, SaysState}
 use Rattle.durable_service.proofs.LeadLemmas.{begun_with, left_at_most}
 use Rattle.durable_service.proofs.saving.begin_state.Goals as goal
 

@@ -1,4 +1,4 @@
-use Rattle.std.proofs.Common.{rules, ◌≡◌, sym, ◌∙◌, ap}
+use Rattle.std.proofs.Common.{rules, sym, ◌∙◌, ap}
 use Rattle.plant.specs.declared.consts.ConstsFields.{ConstsFields}
 use Rattle.durable_service.proofs.LeadLemmas.{opening_state}
 use Rattle.durable_service.proofs.saving.is_opening.Goals as goal

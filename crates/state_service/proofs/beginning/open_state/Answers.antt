@@ -1,7 +1,6 @@
-use Rattle.std.proofs.Common.{rules, ◌≡◌, ◌⊎◌, inl, inr, ⊎_elim, List, ℕ, [], ap, sym, ◌∙◌}
+use Rattle.std.proofs.Common.{rules, ◌≡◌, inl, inr, ⊎_elim, List, ℕ, [], ap, sym, ◌∙◌}
 use Rattle.std.proofs.lemmas.List.{nil_from_length}
 use Rattle.line_journal.specs.Journal.{journal_content}
-use Rattle.durable_service.specs.Durable.{IsBegunWith}
 use Rattle.state_service.specs.Beginning.{IsUnharmed}
 use Rattle.state_service.proofs.KeepLemmas.{weaker, joined, none_added, begun_loses_none}
 use Rattle.state_service.proofs.beginning.open_state.Goals as goal

@@ -1,4 +1,4 @@
-use Rattle.std.proofs.Common.{ℕ, List, Option, subst}
+use Rattle.std.proofs.Common.{ℕ, List, subst}
 use Rattle.script_format.proofs.Outcomes.{if_ok}
 use Rattle.line_journal.specs.Journal.{journal_content}
 use Rattle.state_service.specs.Beginning.{IsFoundIn, IsUnharmed}

@@ -1,6 +1,5 @@
-use Rattle.std.proofs.Common.{◌≡◌, ◌≤◌, ℕ, List, Option, subst, arith}
+use Rattle.std.proofs.Common.{subst, arith}
 use Rattle.live_core.specs.LiveView.{live_view}
-use Rattle.run_model.specs.IsStateAfter.{CoreView}
 use Rattle.line_service.specs.Bytes.{WhereKnown}
 use Rattle.line_journal.specs.Journal.{journal_content}
 use Rattle.state_service.specs.declared.reading.BatchEnd.{BatchEnd}

@@ -1,5 +1,4 @@
-use Rattle.std.proofs.Common.{rules, ◌≡◌, ◌++◌, ◌∷◌, ◌+◌, ◌<◌, ℕ, List, drop, length, ap, subst, ◌∙◌, sym}
-use Rattle.std.specs.Prelude.{slice_index_or}
+use Rattle.std.proofs.Common.{rules, ◌++◌, ◌+◌, ◌<◌, ℕ, List, drop, length, subst}
 use Rattle.std.proofs.lemmas.List.{drop_more}
 use Rattle.line_journal.specs.Found.{texts}
 use Rattle.state_service.specs.Taking.{AreTaken}

@@ -1,4 +1,4 @@
-use Rattle.std.proofs.Common.{◌≡◌, ◌≤◌, ◌+◌, ℕ, List, Vec, length, ap, arith}
+use Rattle.std.proofs.Common.{ℕ, List, Vec, length, ap, arith}
 use Rattle.std.specs.declared.alloc.Global.{Global}
 use Rattle.live_core.specs.LiveView.{live_view}
 use Rattle.state_service.proofs.KeepLemmas.{nothing_lost}

@@ -1,4 +1,3 @@
-use Rattle.std.proofs.Common.{◌≡◌, ◌≤◌, ◌+◌, ℕ, List, Option, subst, arith}
 use Rattle.live_core.specs.LiveView.{live_view}
 use Rattle.line_journal.specs.Journal.{journal_content}
 use Rattle.durable_service.proofs.LeadLemmas.{restarted_reached}

@@ -1,4 +1,4 @@
-use Rattle.std.proofs.Common.{◌≡◌, ◌≤◌, ◌+◌, ℕ, List, Option, length, subst, arith}
+use Rattle.std.proofs.Common.{◌+◌, length, subst, arith}
 use Rattle.line_journal.specs.Journal.{journal_content}
 use Rattle.state_service.specs.declared.periods.PeriodEnd.{PeriodEnd}
 use Rattle.state_service.specs.Beginning.{IsServedTo}

@@ -1,5 +1,4 @@
-use Rattle.std.specs.Prelude.{⊤}
-use Rattle.std.proofs.Common.{ℕ, ◌+◌, ◌≤◌, length}
+use Rattle.std.proofs.Common.{◌+◌, ◌≤◌, length}
 use Rattle.line_journal.specs.Device.{LeavesOnly}
 use Rattle.line_journal.specs.Journal.{journal_content, IsJournalSettled}
 use Rattle.state_service.specs.Beginning.{IsServedTo}

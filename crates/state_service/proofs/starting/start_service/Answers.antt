@@ -1,4 +1,4 @@
-use Rattle.std.proofs.Common.{◌≡◌, ℕ, List, Option, inl, refl, sym, subst, arith}
+use Rattle.std.proofs.Common.{ℕ, List, inl, refl, sym, subst, arith}
 use Rattle.live_core.specs.LiveView.{live_view}
 use Rattle.script_format.proofs.Outcomes.{if_ok}
 use Rattle.line_service.proofs.ServiceLemmas.{known_same}
