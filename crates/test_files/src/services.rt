@@ -15,6 +15,7 @@ const REQUEST: &str = "M 020000000001 0F0001180A010200010601060F0102\n";
 const RESPONSE: &str = "R 020000000001 10000100180E0102000102040000010103020101\n";
 
 /// A service of the request.
+#[derive(Clone, Copy)]
 struct ServiceCase<'a> {
     plant: &'a str,
     /// After how many lines the state is saved.
