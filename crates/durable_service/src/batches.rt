@@ -60,6 +60,7 @@ pub fn do_batch<D: Device>(
 
     // It does not give up by itself.
     ensures disk { result ≡ Err faults.Disk → D.faults journal.old.device < D.faults journal.new.device }
+    ensures no_journal { result ≡ Err faults.NoJournal → ⊥ }
 {
     let batch = batch_of(alloc, lines)?;
     journal.append(alloc, &batch)?;

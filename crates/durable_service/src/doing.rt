@@ -1,6 +1,7 @@
 //! Lines that are done one after the other, with enough memory.
 
-ghost use Rattle.std.specs.Prelude.{◌≡◌, ◌+◌, ◌++◌, ℕ, List, length, IfOk, OnOk};
+ghost use Rattle.std.specs.Prelude.{◌≡◌, ◌≤◌, ◌+◌, ◌++◌, ℕ, List, length, Err, IfOk, OnOk};
+ghost use Rattle.durable_service.specs.declared.fault.LineFailure.TheVariants as failures;
 ghost use Rattle.live_core.specs.After.{BehindEachRun, IsReachableFromStart};
 ghost use Rattle.live_core.specs.LiveView.{live_view};
 ghost use Rattle.line_journal.specs.Found.{texts};
@@ -16,7 +17,8 @@ const OUT_OF_MEMORY: &[u8; 14] = b"fault: memory\n";
 
 /// Returns the number of the line after so many.
 fn number_after(count: u64) -> Result<u64, LineFailure>
-    ensures { IfOk result (λ next. next ≡ count + 1) }
+    ensures next { IfOk result (λ next. next ≡ count + 1) }
+    ensures many { result ≡ Err failures.TooManyLines → count ≡ 18446744073709551615 }
 {
     match count.checked_add(1) {
         Some(next) => Ok(next),
@@ -36,6 +38,7 @@ fn do_line(
     ensures reached { OnOk result (IsReachableFromStart (live_view core.new)) }
     ensures done { OnOk result (BehindEachRun (live_view core.old) (λ plant start before shown. LineIsDone plant start before shown number line.now
         (live_view core.new) text.old.items text.new.items)) }
+    ensures memory { result ≡ Err failures.TooManyLines → ⊥ }
 {
     match answer_line(alloc, core, number, line, text) {
         Ok(()) => {}
@@ -60,6 +63,7 @@ pub(crate) fn do_lines(
     ensures done { OnOk result (BehindEachRun (live_view core.old) (λ plant start before shown. LinesAreDone plant start before shown
         (count.old + 1) (texts lines.now) (live_view core.new) text.old.items text.new.items)) }
     ensures count { OnOk result (count.new ≡ count.old + length lines.now) }
+    ensures many { result ≡ Err failures.TooManyLines → 18446744073709551615 ≤ count.old + length lines.now }
 {
     for line in lines {
         let number = number_after(*count)?;

@@ -1,7 +1,8 @@
 //! Why a state is not read or kept, and why a line is not done.
 
 ghost use Rattle.std.specs.Prelude.{◌≡◌};
-ghost use Rattle.line_journal.specs.declared.device.DeviceError.TheVariants.{Failed};
+ghost use Rattle.line_journal.specs.declared.device.DeviceError.TheVariants.{Memory, Failed, Full};
+ghost use Rattle.line_journal.specs.declared.marks.LineError.TheVariants as line_errors;
 ghost use Rattle.durable_service.specs.declared.fault.JournalStateFault.TheVariants as faults;
 ghost use Rattle.durable_service.specs.declared.fault.DurableFault.TheVariants as durable;
 
@@ -71,6 +72,8 @@ impl<T: Drop> From<AllocFailed<T>> for JournalStateFault {
 }
 
 impl From<LineError> for JournalStateFault {
+    ghost from_gives = { λ error e. (error ≡ line_errors.Memory → e ≡ faults.NoMemory) × (error ≡ line_errors.LineFeed → e ≡ faults.LineFeed) };
+
     fn from(error: LineError) -> Self {
         match error {
             LineError::Memory => JournalStateFault::NoMemory,
@@ -88,7 +91,8 @@ impl From<JournalStateFault> for DurableFault {
 }
 
 impl From<DeviceError> for DurableFault {
-    ghost from_gives = { λ error e. (e ≡ durable.Disk → error ≡ Failed) × (e ≡ durable.NoJournal → ⊥) };
+    ghost from_gives = { λ error e. (e ≡ durable.Disk → error ≡ Failed) × (e ≡ durable.NoJournal → ⊥)
+        × (error ≡ Memory → e ≡ durable.State faults.NoMemory) × (error ≡ Failed → e ≡ durable.Disk) × (error ≡ Full → e ≡ durable.Full) };
 
     fn from(error: DeviceError) -> Self {
         match error {

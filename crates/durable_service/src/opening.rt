@@ -1,6 +1,7 @@
 //! A service that goes on from a saved state.
 
-ghost use Rattle.std.specs.Prelude.{◌≡◌, ◌+◌, length, OnOk};
+ghost use Rattle.std.specs.Prelude.{◌≡◌, ◌≤◌, ◌+◌, length, Err, OnOk};
+ghost use Rattle.durable_service.specs.declared.fault.LineFailure.TheVariants as failures;
 ghost use Rattle.plant.specs.declared.plant.PlantFields.{PlantFields};
 ghost use Rattle.live_core.specs.After.{IsReachableFromStart};
 ghost use Rattle.live_core.specs.LiveView.{live_view};
@@ -43,6 +44,7 @@ pub fn redo_lines(
         → IsRestarted plant saved.frame (states_of saved) (live_view service.old.core)
         → LeadsTo content plant (live_view service.new.core) service.new.count) }
     ensures count { OnOk result (service.new.count ≡ service.old.count + length lines.now) }
+    ensures many { result ≡ Err failures.TooManyLines → 18446744073709551615 ≤ service.old.count + length lines.now }
     ensures same { service.new.file ≡ service.old.file }
 {
     let mut text = Vec::new(alloc);

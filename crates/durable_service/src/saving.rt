@@ -95,6 +95,7 @@ pub fn begin_state<D: Device>(
 
     // It does not give up by itself.
     ensures disk { result ≡ Err faults.Disk → D.faults device.old < D.faults device.new }
+    ensures no_journal { result ≡ Err faults.NoJournal → ⊥ }
 {
     let plant = plant_of_file(alloc, file.as_slice())?;
     let saved = Snapshot {
@@ -156,6 +157,7 @@ pub fn put_snapshot<D: Device>(
 
     // It does not give up by itself.
     ensures disk { result ≡ Err faults.Disk → D.faults journal.old.device < D.faults journal.new.device }
+    ensures no_journal { result ≡ Err faults.NoJournal → ⊥ }
 {
     journal.replace_snapshot(alloc, snapshot)?;
     Ok(())

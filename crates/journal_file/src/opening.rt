@@ -2,6 +2,7 @@
 ghost use Rattle.std.specs.Prelude.{◌≡◌, IfOk};
 ghost use Rattle.line_journal.specs.Device.{Only};
 ghost use Rattle.journal_file.specs.Disk.{MayLeave};
+ghost use Rattle.journal_file.specs.declared.opening.JournalOpenFault.TheVariants as opening_faults;
 ghost use Rattle.journal_file.specs.File.{seen_bytes, calls_made, calls_at_opening};
 
 use crate::calls::FileCall;
@@ -35,6 +36,8 @@ pub enum JournalPart {
 }
 
 impl From<AllocError> for JournalOpenFault {
+    ghost from_gives = { λ _ e. e ≡ opening_faults.NoMemory };
+
     fn from(_: AllocError) -> Self {
         JournalOpenFault::NoMemory
     }
