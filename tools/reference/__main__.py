@@ -13,8 +13,13 @@ TOP = pathlib.Path(__file__).resolve().parents[2]
 def main():
     from .answers import reference_answer
     from .program import MOST_INPUT
+    from .state_folders import has_state_option, run
 
-    status, text = reference_answer(sys.argv[1:], sys.stdin.buffer.read(MOST_INPUT + 1))
+    words = sys.argv[1:]
+    if has_state_option(words):
+        sys.exit(run(words))
+    # The lines of a service have no limit.
+    status, text = reference_answer(words, sys.stdin.buffer.read(-1 if words in (["serve"], ["resume"]) else MOST_INPUT + 1))
     sys.stdout.buffer.write(text)
     sys.exit(status)
 

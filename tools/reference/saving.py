@@ -10,9 +10,14 @@ def snapshot_of(core, plant_text):
     frames = {book.frame for book in core.books}
     if len(frames) > 1 or core.parts:
         return None
+    return snapshot_text(plant_text, frames.pop(), core.books)
+
+
+def snapshot_text(plant_text, frame, books):
+    """Returns the snapshot of operators before a frame, with the text of a plant file."""
     text = f"melfjits-snapshot 1 {len(plant_text.encode())}\n{plant_text}---\n"
-    text += f"frame {frames.pop()} {len(core.books)}\n"
-    text += "".join(line + "\n" for book in core.books for line in lines_of_book(book))
+    text += f"frame {frame} {len(books)}\n"
+    text += "".join(line + "\n" for book in books for line in lines_of_book(book))
     return text + end_of(text.encode())
 
 
