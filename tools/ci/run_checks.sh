@@ -6,7 +6,7 @@
 #   - the generator: a seed gives the same case twice, and tools/compare/handwritten_inputs reaches each check of the rules
 #   - the program, if it is built: compared with the second implementation by each command, and the exit statuses and messages;
 #     the completions for shells, compared with its help; served behind a socket if socat is installed; its captures read by tshark if
-#     that is installed
+#     that is installed; killed, with a folder for its state, if gcc is installed
 #   - the tests of the tools (tools/ci/run_tests.sh)
 #
 # Usage: tools/ci/run_checks.sh     Needs bash and Python 3.11. Takes 2 minutes; with the program, socat and tshark a minute more.
@@ -79,6 +79,16 @@ if [ -x "$program" ]; then
         echo 'a plant behind a socket, also one restored from its record, answers as run'
     else
         echo 'socat is not installed: no plant was served behind a socket'
+    fi
+    status=0
+    "$program" serve --state "$work/none" </dev/null >/dev/null 2>&1 || status=$?
+    if [ $status = 2 ]; then
+        echo 'the program has no option --state: no service with a folder was tried'
+    elif command -v gcc >/dev/null; then
+        quietly "$tools/ci/crash_trials" --times 20 --step 10 --kinds kill,beginning,fail,power,limit,cut,change,two,both
+        echo 'a service with a folder loses no answered line when it is killed, its calls fail or the power is lost'
+    else
+        echo 'gcc is not installed: no service with a folder was tried'
     fi
     if command -v tshark >/dev/null; then
         quietly "$tools/compare/captures_in_tshark"
