@@ -9,6 +9,11 @@ _plant_script() {
         mapfile -t COMPREPLY < <(compgen -f -- "$word")
         return
         ;;
+    --state)
+        compopt -o filenames
+        mapfile -t COMPREPLY < <(compgen -d -- "$word")
+        return
+        ;;
     esac
     for ((at = 1; at < COMP_CWORD; at++)); do
         case ${COMP_WORDS[at]} in
@@ -25,7 +30,7 @@ _plant_script() {
     run) words='-h --help --input --json' ;;
     threads) words='-h --help --input' ;;
     capture) words='-h --help --input' ;;
-    serve) words='-h --help --input --json' ;;
+    serve) words='-h --help --input --json --state --snapshot-every' ;;
     trace) words='-h --help --input --json' ;;
     history) words='-h --help --input' ;;
     help) words='one check run threads capture serve trace history help' ;;

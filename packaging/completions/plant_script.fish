@@ -26,6 +26,8 @@ complete -c plant_script -n '__fish_seen_subcommand_from capture; and not __fish
 complete -c plant_script -n '__fish_seen_subcommand_from serve; and not __fish_seen_subcommand_from help' -s h -l help -d 'Print help'
 complete -c plant_script -n '__fish_seen_subcommand_from serve; and not __fish_seen_subcommand_from help' -l input -r -F -d 'read FILE in place of standard input'
 complete -c plant_script -n '__fish_seen_subcommand_from serve; and not __fish_seen_subcommand_from help' -l json -d 'write a JSON object for each line of the output'
+complete -c plant_script -n '__fish_seen_subcommand_from serve; and not __fish_seen_subcommand_from help' -l state -x -a '(__fish_complete_directories)' -d 'keep the lines and the state in FOLDER'
+complete -c plant_script -n '__fish_seen_subcommand_from serve; and not __fish_seen_subcommand_from help' -l snapshot-every -x -d 'save the state each N lines (with --state)'
 complete -c plant_script -n '__fish_seen_subcommand_from trace; and not __fish_seen_subcommand_from help' -s h -l help -d 'Print help'
 complete -c plant_script -n '__fish_seen_subcommand_from trace; and not __fish_seen_subcommand_from help' -l input -r -F -d 'read FILE in place of standard input'
 complete -c plant_script -n '__fish_seen_subcommand_from trace; and not __fish_seen_subcommand_from help' -l json -d 'write a JSON object for each line of the output'

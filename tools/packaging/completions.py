@@ -4,7 +4,7 @@
     tools/completions --check [PROGRAM]      tests whether they are what the help lists, and exits with 1 if one is not
 
 PROGRAM is the built program, or the one that is given. The commands, options and operands are those that `PROGRAM --help` and
-`PROGRAM COMMAND --help` list.
+`PROGRAM COMMAND --help` list, and the options of a command that its help leaves to docs/FORMATS.md (UNLISTED).
 """
 
 import argparse
@@ -24,8 +24,8 @@ HEADING = re.compile(r"(\w+):\s*$")
 FURTHER = "Further options, before the command or after it:"
 ROW = re.compile(r"  +(\S.*?)(?:  +(\S.*))?$")
 OPTION = re.compile(r"(?:(-\w)(?:, )?)?(--[\w-]+)?(?: <?(\w+)>?)?$")
-# The values of options and the operands that are names of files.
-FILES = ("FILE", "PATH")
+# The values of options and the operands that are names of files or of folders.
+FILES, FOLDERS = ("FILE", "PATH"), ("FOLDER",)
 
 
 class NoHelp(Exception):
@@ -43,6 +43,10 @@ class Option:
     def is_of_file(self):
         return self.value in FILES
 
+    @property
+    def is_of_folder(self):
+        return self.value in FOLDERS
+
 
 @dataclass
 class Command:
@@ -51,6 +55,11 @@ class Command:
     text: str = ""
     options: list = field(default_factory=list)
     operands: list = field(default_factory=list)
+
+
+# Options that the help of a command does not list.
+UNLISTED = {"serve": (Option(("--state",), "FOLDER", "keep the lines and the state in FOLDER"),
+                      Option(("--snapshot-every",), "N", "save the state each N lines (with --state)"))}
 
 
 def sections_of(text):
@@ -81,8 +90,9 @@ def read_command(name, text, help_text):
     if "Options" not in sections:
         raise NoHelp(f"the help of {name} lists no options")
     operands = [term.strip("<>[]") for term, _ in sections.get("Arguments", [])]
-    options = sections["Options"] + sections.get(FURTHER, [])
-    return Command(name, text, [option_of(*row) for row in options], operands)
+    options = [option_of(*row) for row in sections["Options"] + sections.get(FURTHER, [])]
+    listed = spellings_of(options)
+    return Command(name, text, options + [option for option in UNLISTED.get(name, ()) if option.spellings[0] not in listed], operands)
 
 
 def help_of(program, *words):
@@ -117,12 +127,18 @@ def spellings_of(options):
 def bash(top, commands):
     """Returns the completion for bash."""
     names = " ".join(command.name for command in commands)
-    files = dict.fromkeys(spellings_of(option for command in commands for option in command.options if option.is_of_file))
+    options = [option for command in commands for option in command.options]
+    files = dict.fromkeys(spellings_of(option for option in options if option.is_of_file))
+    folders = dict.fromkeys(spellings_of(option for option in options if option.is_of_folder))
     lines = [first_lines() + f"_{NAME}() {{", "    local command='' words='' at",
              '    local word=${COMP_WORDS[COMP_CWORD]} before=${COMP_WORDS[COMP_CWORD - 1]}', "    COMPREPLY=()"]
-    if files:
-        lines += ["    case $before in", f"    {' | '.join(files)})", "        compopt -o filenames",
-                  '        mapfile -t COMPREPLY < <(compgen -f -- "$word")', "        return", "        ;;", "    esac"]
+    if files or folders:
+        lines.append("    case $before in")
+        for names_of_kind, letter in ((files, "f"), (folders, "d")):
+            if names_of_kind:
+                lines += [f"    {' | '.join(names_of_kind)})", "        compopt -o filenames",
+                          f'        mapfile -t COMPREPLY < <(compgen -{letter} -- "$word")', "        return", "        ;;"]
+        lines.append("    esac")
     lines += ["    for ((at = 1; at < COMP_CWORD; at++)); do", "        case ${COMP_WORDS[at]} in", f"        {names.replace(' ', ' | ')})",
               "            command=${COMP_WORDS[at]}", "            break", "            ;;", "        esac", "    done", "    case $command in",
               f"    '') words='{' '.join([names, *spellings_of(top.options)])}' ;;"]
@@ -136,7 +152,7 @@ def bash(top, commands):
 def zsh_option(option):
     """Returns an option as _arguments takes it."""
     text = re.sub(r"([\[\]:\\])", r"\\\1", option.text)
-    value = "" if option.value is None else f":{option.value}:{'_files' if option.is_of_file else ''}"
+    value = "" if option.value is None else f":{option.value}:{'_files' if option.is_of_file else '_files -/' if option.is_of_folder else ''}"
     if len(option.spellings) == 1:
         return shlex.quote(f"{option.spellings[0]}[{text}]{value}")
     return f"{shlex.quote('(' + ' '.join(option.spellings) + ')')}{{{','.join(option.spellings)}}}{shlex.quote('[' + text + ']' + value)}"
@@ -165,7 +181,7 @@ def fish_quoted(text):
 
 def fish_option(option, condition):
     spelled = " ".join(f"-{'l' if spelling.startswith('--') else 's'} {spelling.lstrip('-')}" for spelling in option.spellings)
-    value = "" if option.value is None else " -r -F" if option.is_of_file else " -x"
+    value = "" if option.value is None else " -r -F" if option.is_of_file else " -x -a '(__fish_complete_directories)'" if option.is_of_folder else " -x"
     return f"complete -c {NAME} -n {fish_quoted(condition)} {spelled}{value} -d {fish_quoted(option.text)}"
 
 

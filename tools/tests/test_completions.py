@@ -167,5 +167,17 @@ class Stored(unittest.TestCase):
         stored.pop("help")
         self.assertEqual(stored, summary)
 
+    def test_options_that_the_help_does_not_list(self):
+        texts = {name: (ROOT / TOOL.FOLDER / name).read_text() for name in TOOL.FILES_OF_SHELLS}
+        self.assertIn("    serve) words='-h --help --input --json --state --snapshot-every' ;;\n", texts["plant_script.bash"])
+        self.assertIn('    --state)\n        compopt -o filenames\n        mapfile -t COMPREPLY < <(compgen -d -- "$word")\n', texts["plant_script.bash"])
+        self.assertIn("FOLDER:_files -/' '--snapshot-every[", texts["_plant_script"])
+        self.assertIn(" -l state -x -a '(__fish_complete_directories)' -d ", texts["plant_script.fish"])
+        self.assertEqual(sum(" -l state " in line for line in texts["plant_script.fish"].splitlines()), 1)
+
+    def test_an_option_that_the_help_lists_is_there_once(self):
+        serve = TOOL.read_command("serve", "", RUN.replace("--level <N>", "--state <FOLDER>"))
+        self.assertEqual([option.spellings[0] for option in serve.options], ["--input", "--json", "--state", "-h", "--snapshot-every"])
+
     def test_all_files_are_there(self):
         self.assertEqual({path.name for path in (ROOT / TOOL.FOLDER).iterdir()}, set(TOOL.FILES_OF_SHELLS))

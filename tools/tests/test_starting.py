@@ -180,7 +180,7 @@ class Unproved(Starting):
 
     def test_serve_is_refused_behind_options(self):
         place = self.place()
-        for words in (["--json", "serve"], ["--strict", "--input", "run", "serve"]):
+        for words in (["--json", "serve"], ["--strict", "--input", "run", "serve"], ["--state", "run", "--snapshot-every", "5", "serve"]):
             self.assertEqual(place.run("plant_script", *words)[0], 126, words)
         self.assertEqual(place.calls(), [])
         self.assertEqual(place.run("plant_script", "history", "serve")[0], 0)
@@ -315,7 +315,7 @@ EDITS = [
     ("plant_script", '&& argument=file; }', "; }"),
     ("plant_script", '[ "$argument" != --input ] ||', '[ "$argument" = --input ] ||'),
     ("plant_script", '|| reads_file "$@"; then', "; then"),
-    ("plant_script", '--input) [ $# -lt 2 ] || shift ;;', "--input) ;;"),
+    ("plant_script", '--input | --state | --snapshot-every) [ $# -lt 2 ] || shift ;;', "--input) ;;"),
     ("plant_script", "--json | --strict) ;;", "--json) ;;"),
     ("plant_script", "trap 'rm -rf \"$work\"' EXIT", ":"),
     ("plant_script", "head -c $((most_input + 1))", "head -c $most_input"),
