@@ -95,8 +95,8 @@ class Load:
         return max(first - 1, bisect.bisect_left(self.places, self.place(first) + size, hi=len(self.lines)))
 
     def frame_before(self, number):
-        """Returns the frame before which the channel is at a line: the least of its operators'."""
+        """Returns the frame before which all operators are at a line, or None if they are before different ones."""
         frames = {b"A": 0, b"B": 0}
         for name, frame in FRAME.findall(self.text[:self.place(number)]):
             frames[name] = int(frame) + 1
-        return min(frames.values())
+        return frames[b"A"] if frames[b"A"] == frames[b"B"] else None

@@ -9,7 +9,7 @@ import threading
 from .load import PLANT
 
 SECONDS = 60
-FIRST = re.compile(rb"S line (\d+) frame (\d+)\n")
+FIRST = re.compile(rb"S line (\d+)(?: frame (\d+))?\n")
 
 
 class StateProcess:
@@ -54,7 +54,7 @@ class StateProcess:
         """Waits for the first line, and returns its two numbers, or None if the process has ended without it."""
         self.wait_until(FIRST.match)
         found = FIRST.match(self.output)
-        return found and (int(found[1]), int(found[2]))
+        return found and (int(found[1]), int(found[2]) if found[2] else None)
 
     def answers(self):
         """Returns the output after the first line, without an error line that ended the service."""

@@ -72,7 +72,10 @@ class StateService:
         self.since = 0
 
     def first_line(self):
-        return f"S line {self.count + 1} frame {min(book.frame for book in self.core.books)}\n"
+        """Returns the line that says where the service goes on; it has the frame if all operators are before the same one."""
+        frames = {book.frame for book in self.core.books}
+        frame = f" frame {frames.pop()}" if len(frames) == 1 else ""
+        return f"S line {self.count + 1}{frame}\n"
 
     def do_lines(self, lines):
         """Returns the answers to lines."""
