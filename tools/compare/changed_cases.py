@@ -140,9 +140,19 @@ class Maker:
         used = [minislot for book in core.books for minislot in range(book.share.start, book.share.start + book.share.length)]
         file = File(self.service.plant_text, self.made.watched.name, used)
         change_file(self.rng, file, self.original)
-        self.add_change([b"P", *changed_bytes(self.rng, file).removesuffix(b"\n").split(b"\n"), b"---"])
+        data = changed_bytes(self.rng, file)
+        if not self.keeps_watched(data):
+            data = file.text(self.rng).encode()
+        self.add_change([b"P", *data.removesuffix(b"\n").split(b"\n"), b"---"])
         for _ in range(self.rng.choice((0, 0, 2, 4))):
             self.new_message()
+
+    def keeps_watched(self, data):
+        """Returns whether a plant file is invalid, or has the row of the watched operator: one that is cut, or has another byte, may be valid."""
+        try:
+            return self.made.watched in read_plant(data.decode()).rows
+        except (UnicodeDecodeError, PlantFault):
+            return True
 
     def half_change(self):
         """Adds a change whose plant file has no end."""
