@@ -6,7 +6,7 @@
 For each seed that has a valid plant file and a script, lines `N` come at random places. Most have a number that keeps the Alloc Start Time.
 Lines `Z` after them count by the new numbers. Then:
 
-  - The output is that of the script with empty lines in the place of the lines `N`, and with the first numbers in lines `Z`, but for the
+  - The output is that of the script with empty lines in the place of the lines `N`, and with the first numbers in lines `Z`, except for the
     frame numbers, each of which is as far from its first number as the lines `N` say. So it is with the snapshot at the end.
   - A line `N` that is refused gives its own line and changes no other.
   - With a program, the outputs of both implementations are the same.
