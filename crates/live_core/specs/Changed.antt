@@ -1,6 +1,7 @@
 -- A live core that is resumed of another one's operators (implementation-specific).
 use Rattle.std.specs.Prelude.{◌≡◌, ◌≢◌, ℕ, List, [], slice_get, Some}
 use Rattle.plant.specs.declared.plant.PlantFields.{PlantFields}
+use Rattle.plant.specs.Consts.{KeepsConsts}
 use Rattle.plant.specs.Plant.{IsPlant}
 use Rattle.operator_model.specs.State.{Operator, opened_before}
 use Rattle.operator_model.specs.Replay.{BookView}
@@ -24,5 +25,5 @@ pub record ComeFrom (live : CoreView) (plant : PlantFields) (frame : ℕ) (ops :
 -- a core at rest whose operators are resumed so under another plant is changed to that plant
 abbrev pub ResumedIsChanged : Type 0
 ResumedIsChanged = (plant next : PlantFields) (start : Start) (steps : List Step) (outs : List Out) (live : CoreView) (frame : ℕ) (ops : List Operator)
-    → IsAfterFrom plant start steps outs live → Rests live frame → IsPlant next → next.consts ≡ plant.consts → MayResume next frame ops → IsGathering (gathering_from next (start_with next frame ops)) → ComeFrom live next frame ops
+    → IsAfterFrom plant start steps outs live → Rests live frame → IsPlant next → KeepsConsts plant.consts next.consts → MayResume next frame ops → IsGathering (gathering_from next (start_with next frame ops)) → ComeFrom live next frame ops
     → IsPlantChange (record { plant = plant; start = start; steps = steps; outs = outs }) (record { plant = next; start = start_with next frame ops; steps = []; outs = [] })

@@ -1,5 +1,5 @@
 -- What all operators of a plant share (own; the backoffs: CM-SP-MULPIv3.1, 6.4.4).
-use Rattle.std.specs.Prelude.{◌≤◌}
+use Rattle.std.specs.Prelude.{◌≡◌, ◌≤◌, All, Contains}
 use Rattle.plant.specs.declared.consts.Backoffs.{Backoffs}
 use Rattle.plant.specs.declared.consts.Channel.{Channel}
 use Rattle.plant.specs.declared.consts.ConstsFields.{ConstsFields}
@@ -24,3 +24,11 @@ pub record AreConsts (consts : ConstsFields) : Type 0 where
   pub channel : IsChannel consts.channel
   pub short_max : consts.short_max ≤ 4096
   pub classes : AreClasses consts.classes
+
+-- All but the classes is the same, and each class of the old table is in the new one, unchanged. So classes may be added.
+pub record KeepsConsts (old new : ConstsFields) : Type 0 where
+  pub channel : new.channel ≡ old.channel
+  pub units : new.units ≡ old.units
+  pub short_max : new.short_max ≡ old.short_max
+  pub timers : new.timers ≡ old.timers
+  pub classes : All (λ class. Contains new.classes class) old.classes

@@ -3,4 +3,4 @@
 
 mod same;
 
-pub use same::{are_same_consts, is_same_name, is_same_plant, is_same_row};
+pub use same::{are_same_consts, is_same_name, is_same_plant, is_same_row, keeps_consts};

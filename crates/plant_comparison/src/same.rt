@@ -1,6 +1,7 @@
 //! Whether two values are the same.
 
-ghost use Rattle.std.specs.Prelude.{◌≡◌, ◌↔◌, IsTrue};
+ghost use Rattle.std.specs.Prelude.{◌≡◌, ◌↔◌, IsTrue, All, Contains};
+ghost use Rattle.plant.specs.Consts.{KeepsConsts};
 ghost use Rattle.plant_comparison.specs.Same.{HaveSameLimits, HaveSameRanges, AreOfSameFlow, HaveSameRates, HaveSameIntervals};
 
 use admission::IdRange;
@@ -226,6 +227,32 @@ pub fn are_same_consts(a: &Consts, b: &Consts) -> bool
         && a.short_max == b.short_max
         && a.timers == b.timers
         && are_same_classes(a.classes.as_slice(), b.classes.as_slice())
+}
+
+/// Returns whether a class is one of a table's, unchanged.
+fn has_class(classes: &[Class], class: &Class) -> bool
+    ensures { IsTrue result ↔ Contains classes.now class.now }
+{
+    classes.iter().any(|other| is_same_class(other, class))
+}
+
+/// Returns whether each class of an old table is in the new one, unchanged.
+fn has_classes(old: &[Class], new: &[Class]) -> bool
+    ensures { IsTrue result ↔ All (λ class. Contains new.now class) old.now }
+{
+    old.iter().all(|class| has_class(new, class))
+}
+
+/// Returns whether all but the classes is the same, and the new plant has each class of the old one, unchanged. It may have more.
+pub fn keeps_consts(old: &Consts, new: &Consts) -> bool
+    ensures { IsTrue result ↔ KeepsConsts old.now new.now }
+{
+    let (old, new) = (old.get_fields(), new.get_fields());
+    is_same_channel(new.channel, old.channel)
+        && new.units == old.units
+        && new.short_max == old.short_max
+        && new.timers == old.timers
+        && has_classes(old.classes.as_slice(), new.classes.as_slice())
 }
 
 /// Returns whether two plants are the same.

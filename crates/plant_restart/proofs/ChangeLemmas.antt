@@ -8,6 +8,7 @@ use Rattle.grant_policy.specs.declared.policy.Policy.{Policy}
 use Rattle.snapshot_format.specs.declared.saved.SavedOperator.{SavedOperator}
 use Rattle.plant.specs.declared.operator_row.RowFields.{RowFields}
 use Rattle.plant.specs.declared.plant.PlantFields.{PlantFields}
+use Rattle.plant.specs.Consts.{KeepsConsts}
 use Rattle.plant.specs.Plant.{IsPlant}
 use Rattle.operator_model.specs.State.{OperatorState, Operator, opened_state}
 use Rattle.operator_model.specs.Replay.{BookView}
@@ -58,7 +59,7 @@ module _ (next : PlantFields) (frame : ℕ) (states : List (List ℕ × Operator
 
 -- ---- the change, after a run that led to the old core
 
-module _ (old new : CoreView) (next : PlantFields) (frame : ℕ) (valid : IsPlant old.plant) (next_valid : IsPlant next) (shared : next.consts ≡ old.plant.consts) (rests : Rests old frame)
+module _ (old new : CoreView) (next : PlantFields) (frame : ℕ) (valid : IsPlant old.plant) (next_valid : IsPlant next) (shared : KeepsConsts old.plant.consts next.consts) (rests : Rests old frame)
     (is : IsRestarted next frame (states_by_name old) new) (held : IsGathering new.gathering) where
   module _ (was : PlantFields) (start : Start) (before : List Step) (told : List Out) (after : IsAfterFrom was start before told old) where
     same_plant : old.plant ≡ was
@@ -86,7 +87,7 @@ module _ (old new : CoreView) (next : PlantFields) (frame : ℕ) (valid : IsPlan
     changes_from : IsPlantChange (record { plant = was; start = start; steps = before; outs = told }) (record { plant = next; start = start_by_name next frame (states_by_name old); steps = []; outs = [] })
     changes_from = record {
       rests = rests_at was start before told old after frame rests;
-      shared = shared ∙ ap (λ (p : PlantFields). p.consts) same_plant;
+      shared = subst (λ (p : PlantFields). KeepsConsts p.consts next.consts) same_plant shared;
       starts = is.reached.starts;
       slices = subst (λ (v : CoreView). IsGathering v.gathering) is.is_started held;
       go_on = λ i j w row here there same.
@@ -110,7 +111,7 @@ module _ (old new : CoreView) (next : PlantFields) (frame : ℕ) (valid : IsPlan
 
 -- ---- from the operators as they are saved
 
-module _ (old : CoreView) (plant : PlantFields) (frame : ℕ) (shared : plant.consts ≡ old.plant.consts) (rests : Rests old frame) (operators : List SavedOperator) (are : operators ≡ map saved_book old.books) where
+module _ (old : CoreView) (plant : PlantFields) (frame : ℕ) (shared : KeepsConsts old.plant.consts plant.consts) (rests : Rests old frame) (operators : List SavedOperator) (are : operators ≡ map saved_book old.books) where
   pub saved_change : (new : CoreView) → IsPlant old.plant → IsPlant plant → IsRestarted plant frame (map (saved_by_name frame) operators) new → IsGathering new.gathering → IsChangeOf old plant new
   saved_change new valid next_valid is held =
       change_of old new plant frame valid next_valid shared rests
@@ -135,5 +136,5 @@ module _ (old : CoreView) (plant : PlantFields) (frame : ℕ) (shared : plant.co
         (subst (λ (n : ℕ). CanRestart plant policies n (states_by_name old)) (sym same) can.can) fault_here)
 
 -- memory ran out before the operators were saved
-pub saved_nothing : (old : CoreView) (plant : PlantFields) (frame : ℕ) (policies : List Policy) → plant.consts ≡ old.plant.consts → Rests old frame → IsChangeRefused old plant policies NoMemory
+pub saved_nothing : (old : CoreView) (plant : PlantFields) (frame : ℕ) (policies : List Policy) → KeepsConsts old.plant.consts plant.consts → Rests old frame → IsChangeRefused old plant policies NoMemory
 saved_nothing old plant frame policies shared rests = record { frame = frame; rests = rests; shared = shared; is = tt }

@@ -9,8 +9,8 @@ use Rattle.plant_restart.specs.ByName.{start_by_name}
 use Rattle.plant_restart.specs.Saving.{states_by_name}
 use Rattle.plant_restart.specs.Changing.{IsChangeOf}
 
--- a run over a change of plant: it led to the old core, whose plant was changed, and from the new core it led to the last one. At these
--- places an operator has this row in both plants.
+-- a run over a change of plant: it led to the old core, whose plant was changed, and from the new core it led to the last one. Both
+-- plants have the same constants, so no class was added. At these places an operator has this row in both plants.
 pub record IsRunOverChange (row : RowFields) (before after : Period) : Type 0 where
   pub old : CoreView
   pub new : CoreView
@@ -19,6 +19,7 @@ pub record IsRunOverChange (row : RowFields) (before after : Period) : Type 0 wh
   pub change : IsChangeOf old after.plant new
   pub starts : after.start ≡ start_by_name after.plant change.frame (states_by_name old)
   pub led_to_last : IsAfterFrom after.plant after.start after.steps after.outs last
+  pub consts_are : after.plant.consts ≡ before.plant.consts
   pub row_before : slice_get before.plant.rows before.place ≡ Some row
   pub row_after : slice_get after.plant.rows after.place ≡ Some row
 

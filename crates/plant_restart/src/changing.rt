@@ -13,12 +13,13 @@ use crate::saving::states_to_save;
 use grant_policy::Ranking;
 use live_core::LiveCore;
 use plant::Plant;
-use plant_comparison::are_same_consts;
+use plant_comparison::keeps_consts;
 use std::alloc::Global;
 
 /// Returns the core of another plant that goes on from a core that rests, which is left as it is: an operator with the name of
 /// one of the old core goes on in its state, under its row of the new plant. An operator with a new name is opened before the
-/// frame. One whose name the new plant does not have leaves with its flows.
+/// frame. One whose name the new plant does not have leaves with its flows. What all operators share stays the same, but for
+/// classes that are added.
 ///
 /// Fails in the order of `ChangeFault` (implementation-specific).
 pub fn change(
@@ -37,7 +38,7 @@ pub fn change(
     // For the proof: that the plants are valid.
     core.always();
     let _rows = plant.rows();
-    if !are_same_consts(plant.consts(), core.plant().consts()) {
+    if !keeps_consts(core.plant().consts(), plant.consts()) {
         return Err(ChangeFault::ConstantsDiffer);
     }
     let frame = match core.resting_frame() {

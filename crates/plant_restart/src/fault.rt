@@ -43,7 +43,7 @@ pub enum RestoreFault {
 /// Why the plant of a core is not changed.
 #[derive(Clone, Copy, Debug, PartialEq, Eq)]
 pub enum ChangeFault {
-    /// What all operators share is not the same in both plants.
+    /// What all operators share is not the same in both plants, classes that are added apart.
     ConstantsDiffer,
     /// The core does not rest before a frame.
     Unfinished { why: RestFault },

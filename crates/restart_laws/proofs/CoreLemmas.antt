@@ -8,7 +8,9 @@ use Rattle.std.proofs.lemmas.Option.{slice_get-map, slice_get_within}
 use Rattle.slice_scheduler.specs.Minislots.{Minislots}
 use Rattle.plant.specs.declared.operator_row.RowFields.{RowFields}
 use Rattle.plant.specs.declared.plant.PlantFields.{PlantFields}
+use Rattle.plant.specs.Consts.{KeepsConsts}
 use Rattle.plant.specs.Plant.{IsPlant}
+use Rattle.plant.proofs.Kept.{keeps_itself}
 use Rattle.operator_model.specs.declared.share.NextShare.{NextShare}
 use Rattle.operator_model.specs.State.{OperatorState, Operator, operator, opened_state}
 use Rattle.operator_model.specs.Replay.{BookView}
@@ -266,7 +268,8 @@ module _ (plant : PlantFields) (start : Start) (steps : List Step) (outs : List 
 
   changed : IsChangeOf live plant (started_core plant (start_by_name plant frame states))
   changed =
-      change_of live (started_core plant (start_by_name plant frame states)) plant frame (subst IsPlant (sym same_plant) valid) valid (ap (λ (p : PlantFields). p.consts) (sym same_plant)) rests is_restarted gathers
+      change_of live (started_core plant (start_by_name plant frame states)) plant frame (subst IsPlant (sym same_plant) valid) valid 
+      (subst (λ (p : PlantFields). KeepsConsts p.consts plant.consts) (sym same_plant) (keeps_itself plant.consts)) rests is_restarted gathers
 
   -- it rests before one frame alone
   same_frame : changed.frame ≡ frame

@@ -4,7 +4,7 @@ use Rattle.std.specs.Str.{is_utf8}
 use Rattle.plant.specs.declared.operator_row.RowFields.{RowFields}
 use Rattle.plant.specs.declared.plant.PlantFields.{PlantFields}
 use Rattle.run_model.specs.IsStateAfter.{CoreView}
-use Rattle.run_model.specs.Changing.{RunSoFar, AreChanges, KeepsRow, periods}
+use Rattle.run_model.specs.Changing.{RunSoFar, AreChanges, KeepsProvisioning, periods}
 use Rattle.run_model.specs.Periods.{Period, ArePeriodsOf, steps_over, NoticesAlike}
 use Rattle.live_core.specs.Resting.{Rests}
 use Rattle.snapshot_format.specs.declared.saved.Snapshot.{Snapshot}
@@ -77,11 +77,11 @@ ProcessesAreChanges = (restarts : ℕ) (first : InService) (all : AreProcesses r
 
 -- so an operator that keeps its row, at these places, goes through them as through one service
 abbrev pub KeptRowsGoThroughAll : Type 0
-KeptRowsGoThroughAll = (restarts : ℕ) (first : InService) (all : AreProcesses restarts first) (row : RowFields) (places : List ℕ) → IsBegun first → KeepsRow row (all_periods restarts first all) places
+KeptRowsGoThroughAll = (restarts : ℕ) (first : InService) (all : AreProcesses restarts first) (row : RowFields) (places : List ℕ) → IsBegun first → KeepsProvisioning first.run.plant.consts row (all_periods restarts first all) places
     → ArePeriodsOf first.run.plant.consts row (first.run.start.state row) (periods (all_periods restarts first all) places)
 
 -- and it notices the same as in any other course of periods in which it starts so and has the same own steps, with or without restarts
 abbrev pub RestartsAreNotNoticed : Type 0
 RestartsAreNotNoticed = (restarts : ℕ) (first : InService) (all : AreProcesses restarts first) (row : RowFields) (places : List ℕ) (others : List Period) → IsBegun first
-    → KeepsRow row (all_periods restarts first all) places → ArePeriodsOf first.run.plant.consts row (first.run.start.state row) others
+    → KeepsProvisioning first.run.plant.consts row (all_periods restarts first all) places → ArePeriodsOf first.run.plant.consts row (first.run.start.state row) others
     → steps_over row (periods (all_periods restarts first all) places) ≡ steps_over row others → NoticesAlike row (periods (all_periods restarts first all) places) others

@@ -25,7 +25,7 @@ not_changed live plant policies (Restart (State op why)) ranked other is = (reco
 not_changed live plant policies (Restart (Core why)) ranked other is = (record { frame = is.frame; rests = is.rests; shared = is.shared; is = is.is }, other)
 not_changed live plant policies (Restart NoMemory) ranked other is = absurd (other refl)
 
--- where memory runs out, the core rests and all operators share the same
+-- where memory runs out, the core rests and the constants are kept
 pub out_of_memory : (live : CoreView) (plant : PlantFields) (policies : List Policy) (why : RestartFault) → IsChangeFault live plant policies (Restart why) → IsChangeRefusal live plant new_faults.NoMemory
 out_of_memory live plant policies why is = (is.shared, (is.frame, is.rests))
 

@@ -3,6 +3,7 @@ use Rattle.std.specs.Prelude.{◌≡◌, ◌≢◌, ◌<◌, ℕ, List, length, 
 use Rattle.std.specs.Str.{is_utf8}
 use Rattle.toml.specs.Parse.{parse_document}
 use Rattle.plant.specs.declared.plant.PlantFields.{PlantFields}
+use Rattle.plant.specs.Consts.{KeepsConsts}
 use Rattle.slice_table.specs.ReadPlant.{text_plant}
 use Rattle.run_model.specs.IsStateAfter.{CoreView}
 use Rattle.live_core.specs.Resting.{Rests}
@@ -31,14 +32,14 @@ IsNewFileFault lines NoMemory = is_ended lines ≡ true
 abbrev pub IsNotChanged : CoreView → PlantFields → ChangeFault → Type 0
 IsNotChanged live plant why = IsChangeFault live plant (map (λ row. row.policy) plant.rows) why × (why ≢ Restart restart_faults.NoMemory)
 
--- what a fault says of a core and of a plant. Memory is asked for where the core rests and all operators share the same.
+-- what a fault says of a core and of a plant. Memory is asked for where the core rests and the constants are kept.
 abbrev pub IsChangeRefusal : CoreView → PlantFields → NewPlantFault → Type 0
 IsChangeRefusal live plant NotEnded = ⊥
 IsChangeRefusal live plant TooLong = ⊥
 IsChangeRefusal live plant NotText = ⊥
 IsChangeRefusal live plant (InvalidPlant fault) = ⊥
 IsChangeRefusal live plant (NotChanged why) = IsNotChanged live plant why
-IsChangeRefusal live plant NoMemory = (plant.consts ≡ live.plant.consts) × ((frame : ℕ) × Rests live frame)
+IsChangeRefusal live plant NoMemory = KeepsConsts live.plant.consts plant.consts × ((frame : ℕ) × Rests live frame)
 
 -- the file is valid, and the plant of the core is not changed to its plant
 pub record IsRefusedPlant (live : CoreView) (lines : List (List ℕ)) (why : ChangeFault) : Type 0 where

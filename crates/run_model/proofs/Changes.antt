@@ -6,20 +6,20 @@ use Rattle.operator_model.specs.State.{OperatorState, operator}
 use Rattle.operator_model.specs.Machine.{own_run}
 use Rattle.run_model.specs.OwnSteps.{own_steps}
 use Rattle.run_model.specs.Periods.{ArePeriodsOf}
-use Rattle.run_model.specs.Changing.{RunSoFar, AreChanges, KeepsRow, periods, ServiceGoesThrough}
+use Rattle.run_model.specs.Changing.{RunSoFar, AreChanges, KeepsProvisioning, periods, ServiceGoesThrough}
 
-through : (consts : ConstsFields) (row : RowFields) (state : OperatorState) (first : RunSoFar) (more : List RunSoFar) (places : List ℕ) → first.plant.consts ≡ consts → first.start.state row ≡ state
-    → AreChanges first more → KeepsRow row (first ∷ more) places → ArePeriodsOf consts row state (periods (first ∷ more) places)
-through consts row state first more [] e s changes keeps = absurd keeps
-through consts row state first [] (place ∷ []) e s changes keeps = (record { shown = changes; consts_are = e; row_is = keeps.0; starts = s }, tt)
-through consts row state first [] (place ∷ other ∷ places) e s changes keeps = absurd keeps.1
-through consts row state first (next ∷ more) (place ∷ []) e s changes keeps = absurd keeps.1
-through consts row state first (next ∷ more) (place ∷ other ∷ places) e s changes keeps =
+through : (consts : ConstsFields) (row : RowFields) (state : OperatorState) (first : RunSoFar) (more : List RunSoFar) (places : List ℕ) → first.start.state row ≡ state
+    → AreChanges first more → KeepsProvisioning consts row (first ∷ more) places → ArePeriodsOf consts row state (periods (first ∷ more) places)
+through consts row state first more [] s changes keeps = absurd keeps
+through consts row state first [] (place ∷ []) s changes keeps = (record { shown = changes; consts_are = keeps.0; row_is = keeps.1; starts = s }, tt)
+through consts row state first [] (place ∷ other ∷ places) s changes keeps = absurd keeps.2
+through consts row state first (next ∷ more) (place ∷ []) s changes keeps = absurd keeps.2
+through consts row state first (next ∷ more) (place ∷ other ∷ places) s changes keeps =
     let changed = changes.1 in (
-      record { shown = changes.0; consts_are = e; row_is = keeps.0; starts = s },
-      through consts row (own_run (operator consts row state) (own_steps row place first.steps)).state next more (other ∷ places) (changed.shared ∙ e)
-          (changed.go_on place other row row keeps.0 keeps.1.0 refl ∙ (λ k. (own_run (operator (e k) row (s k)) (own_steps row place first.steps)).state)) changes.2 keeps.1,
+      record { shown = changes.0; consts_are = keeps.0; row_is = keeps.1; starts = s },
+      through consts row (own_run (operator consts row state) (own_steps row place first.steps)).state next more (other ∷ places)
+          (changed.go_on place other row row keeps.1 keeps.2.1 refl ∙ (λ k. (own_run (operator (keeps.0 k) row (s k)) (own_steps row place first.steps)).state)) changes.2 keeps.2,
     )
 
 pub goes_through : ServiceGoesThrough
-goes_through row first more places changes keeps = through first.plant.consts row (first.start.state row) first more places refl refl changes keeps
+goes_through row first more places changes keeps = through first.plant.consts row (first.start.state row) first more places refl changes keeps

@@ -1,7 +1,9 @@
 -- A plant that is changed while it is in service (implementation-specific).
 use Rattle.std.specs.Prelude.{◌≡◌, ◌≢◌, ◌∷◌, [], ℕ, List, length, slice_get, Some, ⊤}
+use Rattle.plant.specs.declared.consts.ConstsFields.{ConstsFields}
 use Rattle.plant.specs.declared.operator_row.RowFields.{RowFields}
 use Rattle.plant.specs.declared.plant.PlantFields.{PlantFields}
+use Rattle.plant.specs.Consts.{KeepsConsts}
 use Rattle.operator_model.specs.State.{OperatorState, opened_before}
 use Rattle.run_model.specs.declared.step.Step.{Step}
 use Rattle.run_model.specs.declared.step.Out.{Out}
@@ -35,11 +37,11 @@ pub record IsAtRest (since : RunSoFar) (frame : ℕ) : Type 0 where
 abbrev pub IsNewRow : PlantFields → RowFields → Type 0
 IsNewRow plant row = AtEachOperator plant (λ i was. was.name ≢ row.name)
 
--- the plant is changed to another one: at rest, with the same constants, to a valid start with valid slices. An operator with the
--- name of one of the old plant goes on in its state. An operator with a new name is opened at the frame.
+-- The plant is changed to another one: at rest, with the same constants but for classes that are added, to a valid start with valid
+-- slices. An operator with the name of one of the old plant goes on in its state. An operator with a new name is opened at the frame.
 pub record IsPlantChange (old new : RunSoFar) : Type 0 where
   pub rests : IsAtRest old new.start.frame
-  pub shared : new.plant.consts ≡ old.plant.consts
+  pub shared : KeepsConsts old.plant.consts new.plant.consts
   pub starts : IsStart new.plant new.start
   pub slices : IsGathering (gathering_from new.plant new.start)
   pub go_on : (i j : ℕ) (was row : RowFields) → slice_get old.plant.rows i ≡ Some was → slice_get new.plant.rows j ≡ Some row → was.name ≡ row.name
@@ -54,12 +56,13 @@ AreChanges first (next ∷ more) =
     IsTraceFrom first.plant first.start first.steps first.outs
     × IsPlantChange first (record next { steps = []; outs = [] }) × AreChanges next more
 
--- an operator keeps its row through all of them, at these places
-abbrev pub KeepsRow : RowFields → List RunSoFar → List ℕ → Type 0
-KeepsRow row [] [] = ⊤
-KeepsRow row [] (place ∷ places) = ⊥
-KeepsRow row (since ∷ more) [] = ⊥
-KeepsRow row (since ∷ more) (place ∷ places) = (slice_get since.plant.rows place ≡ Some row) × KeepsRow row more places
+-- an operator keeps what it is provisioned with through all of them: what all operators share, and its row, at these places
+abbrev pub KeepsProvisioning : ConstsFields → RowFields → List RunSoFar → List ℕ → Type 0
+KeepsProvisioning consts row [] [] = ⊤
+KeepsProvisioning consts row [] (place ∷ places) = ⊥
+KeepsProvisioning consts row (since ∷ more) [] = ⊥
+KeepsProvisioning consts row (since ∷ more) (place ∷ places) =
+    (since.plant.consts ≡ consts) × (slice_get since.plant.rows place ≡ Some row) × KeepsProvisioning consts row more places
 
 abbrev pub periods : List RunSoFar → List ℕ → List Period
 periods [] places = []
@@ -67,7 +70,8 @@ periods (since ∷ more) [] = []
 periods (since ∷ more) (place ∷ places) =
     record { plant = since.plant; start = since.start; steps = since.steps; outs = since.outs; place = place } ∷ periods more places
 
--- so it went through them as `changes_are_not_noticed` asks
+-- So it went through them as `changes_are_not_noticed` asks. A class that is added is a change of what each operator is provisioned with.
 abbrev pub ServiceGoesThrough : Type 0
-ServiceGoesThrough = (row : RowFields) (first : RunSoFar) (more : List RunSoFar) (places : List ℕ) → AreChanges first more → KeepsRow row (first ∷ more) places
+ServiceGoesThrough = (row : RowFields) (first : RunSoFar) (more : List RunSoFar) (places : List ℕ) → AreChanges first more
+    → KeepsProvisioning first.plant.consts row (first ∷ more) places
     → ArePeriodsOf first.plant.consts row (first.start.state row) (periods (first ∷ more) places)

@@ -32,7 +32,8 @@ pub fn changes_are_not_noticed()
     ensures { ChangesAreNotNoticed }
 {}
 
-/// States that an operator that keeps its row through changes of plant has periods as `changes_are_not_noticed` asks.
+/// States that an operator that keeps what it is provisioned with through changes of plant has periods as
+/// `changes_are_not_noticed` asks.
 pub fn kept_rows_go_through()
     ensures { ServiceGoesThrough }
 {}
