@@ -19,6 +19,3 @@ pub use fault::{SnapshotFault, Wrong};
 pub use laws::{read_states_are_kept, snapshot_is_read_back, whole_state_is_saved};
 pub use saved::{SavedFlow, SavedOperator, Snapshot};
 pub use snapshot::{read_snapshot, write_snapshot};
-
-#[cfg(test)]
-mod tests;

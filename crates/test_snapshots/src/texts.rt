@@ -1,10 +1,12 @@
 //! A snapshot that is typed by hand, and texts that are refused.
 
-use super::*;
 use dsx_messages::{Kind, Modem};
 use flow_table::Flow;
 use operator_model::Heard;
 use param_sets::{ParamFields, ParamSet, Scheduling};
+use snapshot_format::{
+    SavedFlow, SavedOperator, Snapshot, SnapshotFault, Wrong, read_snapshot, write_snapshot,
+};
 use std::alloc::Global;
 use std::process::Abort;
 use std::test::Fail;
