@@ -7,3 +7,4 @@ pub mod Kept
 pub mod ViewOf
 pub mod MostOutputs
 pub mod Resuming
+pub mod RowFaults

@@ -23,14 +23,14 @@ pub(crate) fn modem_fault(row: &OperatorRow, modem: Modem) -> Option<StateFault>
 }
 
 /// Returns whether a number is not one of the range.
-fn is_out_of(range: IdRange, number: u32) -> bool
+pub(crate) fn is_out_of(range: IdRange, number: u32) -> bool
     ensures { result ≡ is_out_of range number }
 {
     number < range.get_first() || range.get_last() < number
 }
 
 /// Returns the fault of a SID that is not one of the row's.
-fn sid_fault(row: &OperatorRow, sfid: u32, sid: Option<u16>) -> Option<StateFault>
+pub(crate) fn sid_fault(row: &OperatorRow, sfid: u32, sid: Option<u16>) -> Option<StateFault>
     ensures { result ≡ sid_fault row.now sfid sid }
 {
     match sid {

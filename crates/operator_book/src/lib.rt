@@ -16,6 +16,7 @@ mod refusal;
 mod reslicing;
 mod response_fault;
 mod resuming;
+mod row_fault;
 mod share_fault;
 mod state_fault;
 mod state_view;
@@ -30,5 +31,6 @@ pub use machine::Copies;
 pub use operator_model::{
     Action, Arrival, Cause, Entry, Heard, NextShare, Output, Outputs, Share, SliceRow, Unfit,
 };
+pub use row_fault::row_faults;
 pub use state_fault::StateFault;
 pub use state_view::StateView;

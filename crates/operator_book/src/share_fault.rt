@@ -85,7 +85,7 @@ pub(crate) fn messages_fault(row: &OperatorRow, inbox: &[Arrival]) -> Option<Sta
 }
 
 /// Returns how many elements the flows have committed.
-fn elements_of(units: Units, flows: &[(u32, Flow)]) -> u64
+pub(crate) fn elements_of(units: Units, flows: &[(u32, Flow)]) -> u64
     requires { length flows.now ≤ 65535 }
     ensures { result ≡ committed_elements units flows.now }
 {
