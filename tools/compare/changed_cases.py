@@ -4,11 +4,12 @@
     tools/compare/changed_cases FIRST COUNT --program PATH     the same by a built program, compared with the second implementation
 
 For each seed that has a valid plant file and a script, one operator is watched. Plant files after lines `P` change the rows of others at
-random: their modems, limits, ranges and policies, which operators there are, and their order. Others are invalid, or change what may not
-change. Then:
+random: their modems, limits, ranges and policies, which operators there are, and their order. They add classes, and give them another
+order. Others are invalid, or change what may not change. Modems send messages that name added classes. Then:
 
   - The watched operator has the same replies, drop reasons, frames and state at the end as in a plant that is left alone. Its own lines
-    are the same there: what its modems send, its ticks, and slice changes before the first line `P`.
+    are the same there: what its modems send, its ticks, and slice changes before the first line `P`. The watched operator names an added
+    class only once it is in service. If it names one, the plant left alone has all added classes from the start.
   - A refused change leaves everything as it was: with empty lines in its place, all other output is the same.
   - With a program, the outputs of both implementations are the same.
 
@@ -24,7 +25,7 @@ from dataclasses import dataclass, field
 from tools import show_help
 from tools.compare.resumed_cases import Answers, Differs, show
 from tools.generator.case import case
-from tools.generator.changes import File, change_file, changed_bytes, make_room
+from tools.generator.changes import NEW_CLASSES, File, change_file, changed_bytes, class_name, make_room
 from tools.generator.flows import pick
 from tools.reference import coverage
 from tools.reference.plant import PlantFault, read_plant
@@ -32,7 +33,7 @@ from tools.reference.program import Core, split_input
 from tools.reference.resuming import Service
 
 MOST_LINES, MOST_TICKS_BEHIND = 150, 20
-# What the second implementation counts of a change that is done.
+# What the second implementation counts of a change that is done begins so.
 CHANGED = "change of plant: changed"
 
 
@@ -44,20 +45,29 @@ class Change:
     result: str
 
     def is_refused(self):
-        return self.result != CHANGED
+        return not self.result.startswith(CHANGED)
 
 
 @dataclass
 class Changed:
-    """Two scripts of a plant file: one with changes of the plant, one without. `watched` is the row that stays."""
+    """Two scripts: one of a plant file with changes of the plant, and one without.
+
+    `watched` is the row that stays, and `named` says how often its modems name an added class. If they do, the plant file without changes
+    has all added classes.
+    """
     plant: str
     watched: object
     lines: list = field(default_factory=list)
+    alone_plant: str = ""
     alone: list = field(default_factory=list)
     changes: list = field(default_factory=list)
+    named: int = 0
 
     def input(self, lines):
-        return self.plant.encode() + b"---\n" + b"\n".join(lines) + b"\n"
+        return input_of(self.plant, lines)
+
+    def input_alone(self):
+        return input_of(self.alone_plant, self.alone)
 
     def without_refused(self):
         """Returns the lines with empty ones in the place of refused changes."""
@@ -68,6 +78,10 @@ class Changed:
 
     def refused(self):
         return [change for change in self.changes if change.is_refused()]
+
+
+def input_of(plant, lines):
+    return plant.encode() + b"---\n" + b"\n".join(lines) + b"\n"
 
 
 # Making a script
@@ -92,6 +106,8 @@ def changed_script(seed):
     maker.add("K")
     if rng.random() < 0.1:
         maker.half_change()
+    if maker.made.named:
+        maker.made.alone_plant = maker.plant_with_classes()
     return maker.made
 
 
@@ -114,7 +130,8 @@ class Maker:
     def __init__(self, rng, plant):
         self.rng = rng
         self.service = Service(Core(read_plant(plant)), plant)
-        self.made = Changed(plant, rng.choice(self.service.core.plant.rows))
+        self.made = Changed(plant, rng.choice(self.service.core.plant.rows), alone_plant=plant)
+        self.first_classes = self.service.core.plant.classes
         self.rows = self.service.core.plant.rows
         self.original = File(plant, self.made.watched.name, ())
 
@@ -146,6 +163,8 @@ class Maker:
         self.add_change([b"P", *data.removesuffix(b"\n").split(b"\n"), b"---"])
         for _ in range(self.rng.choice((0, 0, 2, 4))):
             self.new_message()
+        for _ in range(self.rng.choice((0, 1, 3))):
+            self.message_of_a_class()
 
     def keeps_watched(self, data):
         """Returns whether a plant file is invalid, or has the row of the watched operator: one that is cut, or has another byte, may be valid."""
@@ -180,10 +199,33 @@ class Maker:
         """Lets a modem of another operator add a flow, in the script with changes alone."""
         rows = [row for row in self.service.core.plant.rows if row.name != self.made.watched.name]
         if rows:
-            modem, tid = self.rng.choice(self.rng.choice(rows).modems), self.rng.randrange(1, 40)
-            lines = [f"M {modem} 0F{tid:04X}180A010200010601060F0102".encode(), f"M {modem} 11{tid:04X}00".encode()]
-            self.made.lines += lines
-            self.do(lines)
+            self.add_flow(self.rng.choice(rows), "010200010601060F0102")
+
+    def message_of_a_class(self):
+        """Lets a modem add a flow of a class. Only an operator that is not watched may name one that is not in service."""
+        row = self.rng.choice(self.service.core.plant.rows)
+        names = [name.decode() for name in self.service.core.plant.classes]
+        if row.name != self.made.watched.name:
+            names += NEW_CLASSES
+        if names:
+            name = self.rng.choice(names)
+            self.made.named += name.encode() not in self.first_classes and row.name == self.made.watched.name
+            self.add_flow(row, f"01020001{class_name(name)}060106")
+
+    def add_flow(self, row, encoding):
+        """Lets a modem of a row add a flow and acknowledge it. The lines of the watched operator are in both scripts."""
+        modem, tid = self.rng.choice(row.modems), self.rng.randrange(1, 40)
+        lines = [f"M {modem} 0F{tid:04X}18{len(encoding) // 2:02X}{encoding}".encode(), f"M {modem} 11{tid:04X}00".encode()]
+        self.made.lines += lines
+        if row.name == self.made.watched.name:
+            self.made.alone += lines
+        self.do(lines)
+
+    def plant_with_classes(self):
+        """Returns the plant file of the start, with the classes that are in service now. None of the start has left."""
+        file = File(self.made.plant, None, ())
+        file.classes = File(self.service.plant_text, None, ()).classes
+        return file.text(self.rng)
 
 
 # Comparing
@@ -210,7 +252,7 @@ def state_of(lines, name):
 def judge_watched(answers, made):
     """Compares what the watched operator observes with changes and without them."""
     data = made.input(made.lines)
-    changed, alone = answers.of(["resume"], data), answers.of(["resume"], made.input(made.alone))
+    changed, alone = answers.of(["resume"], data), answers.of(["resume"], made.input_alone())
     (own, state), (own_alone, state_alone) = observed(changed[1], made.watched), observed(alone[1], made.watched)
     if (changed[0], own) != (0, own_alone) or None not in (state, state_alone) and state != state_alone:
         raise Differs(data, changed, alone)
@@ -240,6 +282,7 @@ def compare(answers, first, count):
             show(seed, *found.args)
             return 1
         counts["scripts with changes of plant"] += 1
+        counts["messages of watched operators that name an added class"] += made.named
         counts.update(change.result for change in made.changes)
     for what, times in sorted(counts.items()):
         print(f"{times:9} {what}")

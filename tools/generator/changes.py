@@ -3,6 +3,8 @@
 import copy
 import tomllib
 
+from tools.reference.encodings import CLASS_NAME, tlv
+
 from .flows import pick
 from .plants import Style
 
@@ -11,6 +13,9 @@ OPERATOR_KEYS = ("name", "slice", "sfids", "sids", "flows", "transactions", "inb
 FLOW_KEYS = ("modem", "encoding")
 NEW_MODEMS = tuple(f"0A00000000{number:02X}" for number in range(6))
 BEST_EFFORT = "0601070F0102"
+# Classes that are added. No message of a generated script names one.
+NEW_CLASSES = tuple(f"Extra{number}" for number in range(6))
+CLASS_ENCODINGS = ("", "070101", "0f0102070105", "0F01030A0400002710", "0F0106130200201404000F4240160101")
 
 
 class File:
@@ -50,7 +55,7 @@ def change_file(rng, file, original):
     for _ in range(pick(rng, (1, 5), (2, 3), (3, 2))):
         change = pick(rng, (add_modem, 5), (remove_modem, 4), (move_modem, 1), (change_limit, 5), (change_share, 3), (change_policy, 2),
                       (change_range, 3), (remove_operator, 3), (add_operator, 6), (rename_operator, 1), (order_rows, 3), (change_flows, 2),
-                      (change_shared, 1))
+                      (change_channel, 1), (add_classes, 8), (order_classes, 2), (remove_class, 1), (change_class, 1))
         change(rng, file)
     if rng.random() < 0.2:
         return_operator(rng, file, original)
@@ -134,7 +139,19 @@ def change_flows(rng, file, row):
     if row["flow"] and rng.random() < 0.5:
         del row["flow"][rng.randrange(len(row["flow"]))]
     else:
-        row["flow"].append({"modem": rng.choice(row["modems"]), "encoding": BEST_EFFORT})
+        row["flow"].append({"modem": rng.choice(row["modems"]), "encoding": provisioned(rng, file)})
+
+
+def provisioned(rng, file):
+    """Returns the encoding of a provisioned flow, which at times names a class of the file."""
+    if not file.classes or rng.random() < 0.6:
+        return BEST_EFFORT
+    return class_name(rng.choice(file.classes)["name"]) + BEST_EFFORT
+
+
+def class_name(name):
+    """Returns a class name as a subtype of a flow encoding, in hexadecimal."""
+    return tlv(CLASS_NAME, name.encode() + b"\x00").hex().upper()
 
 
 # Changes of the list of rows, and of what operators share
@@ -155,7 +172,7 @@ def add_operator(rng, file):
     row = {"name": rng.choice(("New0", "New1", "New2")), "slice": [start, length], **numbers, "flows": rng.choice((1, 4)), "transactions": 4,
            "inbox": 2, "budget": length, "elements": rng.choice((2, 6)), "policy": "strict", "modems": [rng.choice(NEW_MODEMS)], "flow": []}
     if rng.random() < 0.4:
-        row["flow"].append({"modem": row["modems"][0], "encoding": BEST_EFFORT})
+        row["flow"].append({"modem": row["modems"][0], "encoding": provisioned(rng, file)})
     file.rows.insert(rng.randrange(len(file.rows) + 1), row)
 
 
@@ -179,15 +196,40 @@ def return_operator(rng, file, original):
         file.rows = [other for other in file.rows if other["name"] != row["name"]] + [row]
 
 
-def change_shared(rng, file):
-    """Changes a number of the channel, or the classes."""
-    if file.classes and rng.random() < 0.3:
-        file.classes.pop()
-    elif rng.random() < 0.3:
-        file.classes.append({"name": "added", "encoding": "070101"})
-    else:
-        key = rng.choice(list(file.channel))
-        file.channel[key] = max(0, file.channel[key] + rng.choice((-1, 1)))
+def change_channel(rng, file):
+    """Changes a number of the table `plant`."""
+    key = rng.choice(list(file.channel))
+    file.channel[key] = max(0, file.channel[key] + rng.choice((-1, 1)))
+
+
+def add_classes(rng, file):
+    """Adds a class or two, in front, at the end or between others. With a name that the file has, it is invalid."""
+    for _ in range(rng.choice((1, 1, 2))):
+        names = [table["name"] for table in file.classes]
+        free = [name for name in NEW_CLASSES if name not in names] if rng.random() < 0.95 else names
+        if free:
+            place = rng.choice((0, len(names), rng.randrange(len(names) + 1)))
+            file.classes.insert(place, {"name": rng.choice(free), "encoding": rng.choice(CLASS_ENCODINGS)})
+
+
+def order_classes(rng, file):
+    """Gives the classes another order, and one of them digits in the other case, which are read alike."""
+    rng.shuffle(file.classes)
+    if file.classes:
+        table = rng.choice(file.classes)
+        table["encoding"] = table["encoding"].swapcase()
+
+
+def remove_class(rng, file):
+    if file.classes:
+        file.classes.pop(rng.randrange(len(file.classes)))
+
+
+def change_class(rng, file):
+    """Gives a class another name or another encoding."""
+    if file.classes:
+        key = rng.choice(("name", "encoding"))
+        rng.choice(file.classes)[key] = rng.choice(NEW_CLASSES if key == "name" else CLASS_ENCODINGS)
 
 
 def make_room(rng, file):

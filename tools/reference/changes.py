@@ -19,10 +19,9 @@ class NotChanged(MetFault):
 def changed_core(core, file):
     """Returns the core of another plant file, in which each operator that stays goes on in its state, and the text of the file."""
     plant, text = plant_of(file)
-    if shared_by_operators(plant) != shared_by_operators(core.plant):
-        raise NotChanged("what operators share differs")
+    judge_shared(core.plant, plant)
     books = books_under(plant, core, text)
-    met("change of plant: changed")
+    met(f"change of plant: changed{change_of_classes(core.plant, plant)}")
     return Core(plant, books), text
 
 
@@ -35,9 +34,21 @@ def plant_of(file):
         raise NotChanged(f"the plant file has status {fault.status}") from fault
 
 
-def shared_by_operators(plant):
-    """Returns the table `plant` and the classes. Their order counts."""
-    return replace(plant, rows=[], classes={}), list(plant.classes.items())
+def judge_shared(old, new):
+    """Tests what operators share: the table `plant` stays, and so does each class of the old plant. The new one may have more, in any order."""
+    if replace(new, rows=[], classes={}) != replace(old, rows=[], classes={}):
+        raise NotChanged("the table plant differs")
+    if any(name not in new.classes for name in old.classes):
+        raise NotChanged("a class is missing")
+    if any(new.classes[name] != encoding for name, encoding in old.classes.items()):
+        raise NotChanged("the encoding of a class differs")
+
+
+def change_of_classes(old, new):
+    """Returns what is counted of the classes of a plant that is changed."""
+    if len(new.classes) > len(old.classes):
+        return ", with more classes"
+    return "" if list(new.classes) == list(old.classes) else ", with the classes in another order"
 
 
 def books_under(plant, core, text):

@@ -2,6 +2,7 @@
 
 import random
 import unittest
+from dataclasses import replace
 
 from tools import EXAMPLES
 from tools.compare import changed_cases
@@ -19,6 +20,7 @@ A1, B1 = "020000000001", "020000000003"
 ADDITION = b"M 020000000003 0F0001180A010200010601060F0102"
 WITH_A_MODEM = P2.replace(f'["{B1}"]', f'["{B1}", "020000000004"]')
 WITHOUT_B = P2[:P2.rindex("[[operator]]")]
+GOLD, SILVER, VOICE = (f'[[class]]\nname = "{name}"\nencoding = "{encoding}"\n' for name, encoding in (("gold", "070107"), ("silver", "070105"), ("voice", "")))
 
 
 def service_of(*lines, text=P2):
@@ -83,21 +85,35 @@ class ChangedPlants(unittest.TestCase):
         for of_service, text, why in (
                 (service, P2, None), (service, "", "the plant file has status 3"), (service, b"\xff", "the plant file has status 6"),
                 (service, P2 + "#" * (1_048_577 - len(P2)), "the plant file has status 6"), (service, P2 + "#" * (1_048_576 - len(P2)), None),
-                (apart, P2, "the core does not rest"), (service, P2.replace("ucd_count = 1", "ucd_count = 2"), "what operators share differs"),
+                (apart, P2, "the core does not rest"), (service, P2.replace("ucd_count = 1", "ucd_count = 2"), "the table plant differs"),
                 (service, P2.replace("head = 8", "head = 8\nfirst_frame = 0"), None),
-                (service, P2.replace("head = 8", "head = 8\nfirst_frame = 1"), "what operators share differs"),
+                (service, P2.replace("head = 8", "head = 8\nfirst_frame = 1"), "the table plant differs"),
                 (service, P2.replace("head = 8", 'head = 8\n[[class]]\nname = "c"\nencoding = ""'), "the plant file has status 3"),
-                (service, P2 + '[[class]]\nname = "c"\nencoding = ""\n', "what operators share differs"),
+                (service, P2.replace("ucd_count = 1", "ucd_count = 2") + GOLD, "the table plant differs"),
                 (service, P2.replace(B1, "020000000009"), "modems are listed"), (service, WITHOUT_B, None),
                 (service, P2.replace("[513, 768]", "[514, 768]"), "SFIDs are in their range"),
                 (service, P2.replace("[513, 528]", "[514, 528]"), "SIDs are in their range")):
             self.assertEqual(reason(of_service, text), why, text)
 
-    def test_the_order_of_classes_counts(self):
-        classes = ['[[class]]\nname = "c"\nencoding = "070101"\n', '[[class]]\nname = "d"\nencoding = "070102"\n']
-        service = service_of(text=P2 + "".join(classes))
-        self.assertIsNone(reason(service, P2 + "".join(classes)))
-        self.assertEqual(reason(service, P2 + "".join(reversed(classes))), "what operators share differs")
+    def test_classes_stay_and_may_be_added_in_any_order(self):
+        service = service_of(text=P2 + GOLD + SILVER)
+        for classes, why in ((GOLD + SILVER, None), (SILVER + GOLD, None), (GOLD + SILVER + VOICE, None), (VOICE + SILVER + GOLD, None),
+                             (GOLD.replace("070107", "0a040000fa00070107") + SILVER, "the encoding of a class differs"),
+                             (GOLD.replace("070107", "ff00070107") + SILVER, None), ("", "a class is missing"), (GOLD + VOICE, "a class is missing"),
+                             (GOLD + SILVER.replace("silver", "Silver"), "a class is missing"), (GOLD + SILVER + GOLD, "the plant file has status 3"),
+                             (GOLD + SILVER.replace("070105", ""), "the encoding of a class differs"),
+                             (GOLD.replace("gold", "silver") + SILVER.replace("silver", "gold") + VOICE, "the encoding of a class differs")):
+            self.assertEqual(reason(service, P2 + classes), why, classes)
+        self.assertEqual(reason(service_of(), P2 + GOLD), None)
+
+    def test_a_class_is_known_once_it_is_added(self):
+        service = service_of()
+        lines = [b"M 020000000001 0F000%d180E010200010405676F6C6400060106" % tid for tid in (1, 1, 2)]
+        answers = list(service.answers([lines[0], *change(P2 + GOLD), *lines[1:], *change(P2), b"M 020000000003 " + lines[0][15:]]))
+        refused = "R 020000000001 10000104180C010200010506010104020104\n"
+        self.assertEqual(answers, [refused, "P frame 0\n", refused, "R 020000000001 10000200180E0102000102040000010103020101\n", "fault: line 43\n",
+                                   "R 020000000003 10000100180E0102000102040000020103020201\n"])
+        self.assertEqual([flow.waiting.active[7] for book in service.core.books for flow in book.flows.values()], [7, 7])
 
 
 class ChangedFiles(unittest.TestCase):
@@ -120,11 +136,13 @@ class ChangedFiles(unittest.TestCase):
             for _ in range(10):
                 change_file(rng, file, File(text, row.name, ()))
                 try:
-                    rows = read_plant(changed_bytes(rng, file).decode()).rows
+                    plant_of_file = read_plant(changed_bytes(rng, file).decode())
                 except (PlantFault, UnicodeDecodeError):
                     continue
-                self.assertEqual([other for other in rows if other.name == row.name], [row])
-                count += 1
+                # A provisioned flow may be of a class that has another encoding. Such a change is refused.
+                if read_plant(text).classes.items() <= plant_of_file.classes.items():
+                    self.assertEqual([other for other in plant_of_file.rows if other.name == row.name], [row])
+                    count += 1
         self.assertGreater(count, 100)
 
 
@@ -138,11 +156,28 @@ class ChangedScripts(unittest.TestCase):
             self.assertEqual(changed_cases.changed_script(seed), changed_cases.changed_script(seed))
 
     def test_scripts_agree_and_have_changes_of_both_kinds(self):
-        answers, refused = Answers(None), []
+        answers, changes = Answers(None), []
         for made in self.scripts():
             changed_cases.judge_refused(answers, made, changed_cases.judge_watched(answers, made))
-            refused += [change.is_refused() for change in made.changes]
-        self.assertEqual({False, True}, set(refused))
+            changes += made.changes
+        self.assertEqual({False, True}, {change.is_refused() for change in changes})
+        results = {change.result.split(": ")[1] for change in changes}
+        self.assertLess({"changed", "changed, with more classes", "a class is missing"}, results)
+
+    def test_the_plant_left_alone_has_the_added_classes_if_they_are_named(self):
+        answers, named, noticed = Answers(None), 0, 0
+        for made in self.scripts():
+            if made.named == 0:
+                self.assertEqual(made.alone_plant, made.plant)
+                continue
+            first, alone = read_plant(made.plant), read_plant(made.alone_plant)
+            self.assertLess(first.classes.items(), alone.classes.items())
+            self.assertEqual(replace(alone, classes=first.classes), first)
+            made.alone_plant = made.plant
+            named += 1
+            noticed += self.differs(lambda made=made: changed_cases.judge_watched(answers, made))
+        # A name is not noticed where the request is a repetition, or is refused by an earlier check.
+        self.assertGreater(noticed, named // 2)
 
     def test_what_a_watched_operator_observes(self):
         output = b"R 020000000001 10\nS 020000000001 Short\nR 020000000003 10\nF A 0 0/6/8/32\nF B 0 0/6/40/32\nMAP 0 01\nP frame 1\n"
@@ -156,7 +191,7 @@ class ChangedScripts(unittest.TestCase):
         """Returns a script in which B adds a flow, the plant is changed, and B ticks."""
         change_lines = change(text)
         result = "change of plant: the plant file has status 3" if text == "x" else changed_cases.CHANGED
-        made = changed_cases.Changed(P2, read_plant(P2).rows[1])
+        made = changed_cases.Changed(P2, read_plant(P2).rows[1], alone_plant=P2)
         made.alone = [ADDITION, b"T B", b"K"]
         made.lines = [ADDITION, *change_lines, b"T B", b"K"]
         made.changes = [changed_cases.Change(2, len(change_lines), result)]

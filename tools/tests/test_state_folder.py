@@ -16,8 +16,11 @@ from tools.reference.saving import end_of
 from tools.reference.state_folders import serve_state
 
 P2 = (EXAMPLES / "plant_p2.toml").read_text()
+WITH_GOLD = P2 + '[[class]]\nname = "gold"\nencoding = "070105"\n'
 LONGER = P2.replace('["020000000003"]', '["020000000003", "020000000004"]')
 REQUEST = "M 020000000001 0F0001180A010200010601060F0102\n"
+# Two requests that name the class, and what is saved of the first one where there is no class: a cached refusal.
+OF_GOLD, AGAIN_OF_GOLD = (f"M 020000000001 0F000{tid}180E010200010405676F6C6400060106\n" for tid in (1, 2))
 RESPONSE = "R 020000000001 10000100180E0102000102040000010103020101\n"
 A0, B0, A1 = "F A 0 0/6/8/32\n", "F B 0 0/6/40/32\n", "F A 1 0/6/8/32\n"
 MAP0 = "MAP 0 01010400000000000000000000000000FFFC400000018008000180280001C048\n"
@@ -57,6 +60,8 @@ def has_program():
 
 
 IDLE = "operator A 0 0 0\nslice 8 32 32\nnext -\noperator B 0 0 0\nslice 40 32 32\nnext -\n"
+REFUSED = IDLE.replace("A 0 0 0\nslice 8 32 32\nnext -\n",
+                       "A 0 1 0\nslice 8 32 32\nnext -\nresponse 020000000001 1 dsa 0 held 1500 0 10000104180C010200010506010104020104\n")
 # What the folder has before a run, as the journal's bytes or None; the plant file and the lines; the status, the output, and the journal after it.
 RUNS = {
     "a beginning": (None, P2, REQUEST + "T\nX\n", 0, "S line 1 frame 0\n" + RESPONSE + A0 + B0 + MAP0 + "fault: line 3\n",
@@ -72,6 +77,9 @@ RUNS = {
                                 journal(state_of(0, P2, ""), LONG[:4_097] + "\nX\n")),
     "another plant file": (journal(state_of(0, P2, ""), "X\n"), LONGER, "M 020000000004 15\n", 0, "S line 2 frame 0\nS 020000000004 Short\n",
                            journal(state_of(1, LONGER, IDLE), "M 020000000004 15\n")),
+    "a class more": (journal(state_of(0, P2, ""), OF_GOLD), WITH_GOLD, AGAIN_OF_GOLD, 0,
+                     "S line 2 frame 0\nR 020000000001 10000200180E0102000102040000010103020101\n", journal(state_of(1, WITH_GOLD, REFUSED), AGAIN_OF_GOLD)),
+    "a class less": (journal(state_of(0, WITH_GOLD, ""), "X\n"), P2, "X\n", 3, "fault: state\n", journal(state_of(0, WITH_GOLD, ""), "X\n")),
     "a plant file that is refused": (journal(state_of(0, P2, ""), REQUEST), P2.replace("020000000001", "020000000009"), "X\n", 3, "fault: state\n",
                                      journal(state_of(0, P2, ""), REQUEST)),
     "operators apart, and another plant file": (journal(state_of(0, P2, ""), "T A\n"), LONGER, "", 3, "fault: state\n", journal(state_of(0, P2, ""), "T A\n")),
