@@ -18,7 +18,7 @@ use std::alloc::Global;
 
 /// Returns the core of another plant that goes on from a core that rests, which is left as it is: an operator with the name of
 /// one of the old core goes on in its state, under its row of the new plant. An operator with a new name is opened before the
-/// frame. One whose name the new plant does not have leaves with its flows. What all operators share stays the same, but for
+/// frame. One whose name the new plant does not have leaves with its flows. What all operators share stays the same, except for
 /// classes that are added.
 ///
 /// Fails in the order of `ChangeFault` (implementation-specific).

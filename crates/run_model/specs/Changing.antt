@@ -37,7 +37,7 @@ pub record IsAtRest (since : RunSoFar) (frame : ℕ) : Type 0 where
 abbrev pub IsNewRow : PlantFields → RowFields → Type 0
 IsNewRow plant row = AtEachOperator plant (λ i was. was.name ≢ row.name)
 
--- The plant is changed to another one: at rest, with the same constants but for classes that are added, to a valid start with valid
+-- The plant is changed to another one: at rest, with the same constants except for classes that are added, to a valid start with valid
 -- slices. An operator with the name of one of the old plant goes on in its state. An operator with a new name is opened at the frame.
 pub record IsPlantChange (old new : RunSoFar) : Type 0 where
   pub rests : IsAtRest old new.start.frame
