@@ -1,6 +1,7 @@
 -- What two rows, two plants or two encodings have in common (implementation-specific).
 use Rattle.std.specs.Prelude.{◌≡◌}
 use Rattle.tlv24.specs.declared.fields.FlowFields.{FlowFields}
+use Rattle.plant.specs.declared.consts.ConstsFields.{ConstsFields}
 use Rattle.plant.specs.declared.operator_row.RowFields.{RowFields}
 
 -- their limits, and by what they order their flows
@@ -45,3 +46,10 @@ pub record HaveSameIntervals (a b : FlowFields) : Type 0 where
   pub grant_interval : a.grant_interval ≡ b.grant_interval
   pub grant_jitter : a.grant_jitter ≡ b.grant_jitter
   pub grants_per_interval : a.grants_per_interval ≡ b.grants_per_interval
+
+-- all that two plants' operators share, the classes apart
+pub record HaveSameChannel (a b : ConstsFields) : Type 0 where
+  pub channel : a.channel ≡ b.channel
+  pub units : a.units ≡ b.units
+  pub short_max : a.short_max ≡ b.short_max
+  pub timers : a.timers ≡ b.timers

@@ -2,11 +2,13 @@
 
 ghost use Rattle.std.specs.Prelude.{◌≡◌, ◌↔◌, IsTrue, All, Contains};
 ghost use Rattle.plant.specs.Consts.{KeepsConsts};
-ghost use Rattle.plant_comparison.specs.Same.{HaveSameLimits, HaveSameRanges, AreOfSameFlow, HaveSameRates, HaveSameIntervals};
+ghost use Rattle.plant_comparison.specs.Same.{HaveSameLimits, HaveSameRanges, AreOfSameFlow, HaveSameRates, HaveSameIntervals, HaveSameChannel};
 
 use admission::IdRange;
 use dsx_messages::Modem;
-use plant::{Channel, Class, Consts, OperatorName, OperatorRow, Plant, Provision, RowFields};
+use plant::{
+    Channel, Class, Consts, ConstsFields, OperatorName, OperatorRow, Plant, Provision, RowFields,
+};
 use slice_scheduler::Slice;
 use tlv24::{ClassName, ErrorEncodings, FlowFields, FlowTlv};
 
@@ -240,19 +242,36 @@ fn has_class(classes: &[Class], class: &Class) -> bool
 fn has_classes(old: &[Class], new: &[Class]) -> bool
     ensures { IsTrue result ↔ All (λ class. Contains new.now class) old.now }
 {
-    old.iter().all(|class| has_class(new, class))
+    for class in old {
+        if !has_class(new, class) {
+            return false;
+        }
+    }
+    true
+}
+
+/// Returns whether two plants have the same channel, units, limit of short grants and timers.
+fn have_same_channel(a: &ConstsFields, b: &ConstsFields) -> bool
+    ensures { IsTrue result ↔ HaveSameChannel a.now b.now }
+{
+    is_same_channel(a.channel, b.channel)
+        && a.units == b.units
+        && a.short_max == b.short_max
+        && a.timers == b.timers
+}
+
+/// Returns whether all but the classes is the same, and the new values have each class of the old ones, unchanged.
+fn keeps_values(old: &ConstsFields, new: &ConstsFields) -> bool
+    ensures { IsTrue result ↔ KeepsConsts old.now new.now }
+{
+    have_same_channel(new, old) && has_classes(old.classes.as_slice(), new.classes.as_slice())
 }
 
 /// Returns whether all but the classes is the same, and the new plant has each class of the old one, unchanged. It may have more.
 pub fn keeps_consts(old: &Consts, new: &Consts) -> bool
     ensures { IsTrue result ↔ KeepsConsts old.now new.now }
 {
-    let (old, new) = (old.get_fields(), new.get_fields());
-    is_same_channel(new.channel, old.channel)
-        && new.units == old.units
-        && new.short_max == old.short_max
-        && new.timers == old.timers
-        && has_classes(old.classes.as_slice(), new.classes.as_slice())
+    keeps_values(old.get_fields(), new.get_fields())
 }
 
 /// Returns whether two plants are the same.
