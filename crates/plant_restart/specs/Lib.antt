@@ -3,3 +3,4 @@ pub mod Restarted
 pub mod Saving
 pub mod Changing
 pub mod Noticing
+pub mod Refused

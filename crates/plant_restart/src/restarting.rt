@@ -38,7 +38,7 @@ fn is_core_memory(why: ResumeFault) -> bool
 }
 
 /// Returns a copy of the state that is saved under a name, if there is one.
-fn state_under(
+pub(crate) fn state_under(
     alloc: Global,
     operators: &[SavedOperator],
     frame: u32,

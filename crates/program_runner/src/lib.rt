@@ -13,6 +13,7 @@ mod recording;
 mod refusal_reasons;
 mod resuming;
 mod running;
+mod shared_reasons;
 mod state_command;
 mod state_reasons;
 mod strict;

@@ -3,13 +3,14 @@
 use crate::answering::tell;
 use crate::begin_reasons::state_text;
 use crate::number_reasons::number_reason;
+use crate::shared_reasons::shared_text;
 use command_line::Word;
 use diagnostics::reason_of;
 use frame_numbers::RenumberFault;
-use live_core::{RestFault, ResumeFault};
+use live_core::{LiveCore, RestFault, ResumeFault};
 use operator_book::StateFault;
 use plant::{Op, OperatorName, Plant};
-use plant_restart::{ChangeFault, RestartFault, RestoreFault};
+use plant_restart::{ChangeFault, RefusedState, RestartFault, refused_states};
 use resumed_service::{NewFrameFault, NewPlantFault, RefusalNotes};
 use slice_table::read_plant;
 use std::alloc::{AllocError, Global};
@@ -53,23 +54,27 @@ fn core_text(alloc: Global, why: ResumeFault) -> Result<String, AllocError> {
     }
 }
 
-/// Returns the name of an operator of a plant file by its place, or nothing if memory runs out.
-fn operator_named(alloc: Global, file: &[u8], op: Op) -> Option<OperatorName> {
+/// Returns the plant of a valid plant file, or nothing if memory runs out.
+fn plant_of(alloc: Global, file: &[u8]) -> Option<Plant> {
     let text = str::from_utf8(file).ok()?;
-    let plant = read_plant(alloc, text).ok()?;
-    let row = plant.rows().get(op)?;
+    read_plant(alloc, text).ok()
+}
+
+/// Returns the name of an operator of a plant by its place.
+fn operator_named(plant: Option<&Plant>, op: Op) -> Option<OperatorName> {
+    let row = plant?.rows().get(op)?;
     Some(row.get_fields().name)
 }
 
-/// Returns why an operator of the plant file does not go on in its state, and what to do.
+/// Returns why an operator of a plant does not go on in its state, and what to do.
 fn operator_text(
     alloc: Global,
-    file: &[u8],
+    plant: Option<&Plant>,
     op: Op,
     why: StateFault,
 ) -> Result<String, AllocError> {
     let text = state_text(alloc, why)?;
-    match operator_named(alloc, file, op) {
+    match operator_named(plant, op) {
         Some(name) => format!(in alloc;
             "operator {name} cannot go on: {text}; change its table, or give it another name"
         ),
@@ -79,21 +84,26 @@ fn operator_text(
     }
 }
 
-/// Returns why the plant in service is not changed to a valid plant file, and what to do.
+/// Returns why a plant is not changed to a valid plant file, and what to do. Without the plant in service, it names no value that
+/// all operators share.
 pub(crate) fn change_text(
     alloc: Global,
+    in_service: Option<&Plant>,
     file: &[u8],
     why: ChangeFault,
 ) -> Result<String, AllocError> {
     match why {
-        ChangeFault::ConstantsDiffer => String::from_str(
-            alloc,
-            "its tables [plant] and [[class]] have other values; keep these tables as they are",
-        ),
+        ChangeFault::ConstantsDiffer => {
+            let plant = plant_of(alloc, file);
+            shared_text(alloc, in_service, plant.as_ref())
+        }
         ChangeFault::Unfinished { why } => rest_text(alloc, why),
         ChangeFault::Restart {
             why: RestartFault::State { op, why },
-        } => operator_text(alloc, file, op, why),
+        } => {
+            let plant = plant_of(alloc, file);
+            operator_text(alloc, plant.as_ref(), op, why)
+        }
         ChangeFault::Restart {
             why: RestartFault::Core { why },
         } => core_text(alloc, why),
@@ -104,7 +114,12 @@ pub(crate) fn change_text(
 }
 
 /// Returns why the plant is not changed to a plant file, and what to do. It is part of a sentence.
-fn fault_text(alloc: Global, file: &[u8], why: &NewPlantFault) -> Result<String, AllocError> {
+fn fault_text(
+    alloc: Global,
+    core: &LiveCore,
+    file: &[u8],
+    why: &NewPlantFault,
+) -> Result<String, AllocError> {
     match why {
         NewPlantFault::NotEnded => String::from_str(
             alloc,
@@ -123,7 +138,7 @@ fn fault_text(alloc: Global, file: &[u8], why: &NewPlantFault) -> Result<String,
             "the plant file is invalid, for the reasons that follow; its lines are counted from 1",
         ),
         NewPlantFault::NotChanged { why } => {
-            let text = change_text(alloc, file, *why)?;
+            let text = change_text(alloc, Some(core.plant()), file, *why)?;
             format!(in alloc; "the plant file does not fit the plant in service: {text}")
         }
         NewPlantFault::NoMemory => String::from_str(alloc, "memory ran out; repeat the change"),
@@ -134,11 +149,12 @@ fn fault_text(alloc: Global, file: &[u8], why: &NewPlantFault) -> Result<String,
 /// `check` says.
 fn refusal_reason(
     alloc: Global,
+    core: &LiveCore,
     number: u64,
     file: &[u8],
     why: &NewPlantFault,
 ) -> Result<String, AllocError> {
-    let text = fault_text(alloc, file, why)?;
+    let text = fault_text(alloc, core, file, why)?;
     let mut reason = format!(in alloc; "line {number}: the plant is not changed: {text}\n")?;
     if let NewPlantFault::InvalidPlant { fault: _ } = why {
         let file = str::from_utf8(file).unwrap_or("");
@@ -146,6 +162,75 @@ fn refusal_reason(
         reason.push_str(more.as_str())?;
     }
     Ok(reason)
+}
+
+/// Returns the refusal of an operator's state that is the reason of a fault, if one is.
+fn reported_refusal(why: &NewPlantFault) -> Option<RefusedState> {
+    match why {
+        NewPlantFault::NotChanged {
+            why: ChangeFault::Restart {
+                why: RestartFault::State { op, why },
+            },
+        } => Some(RefusedState { op: *op, why: *why }),
+        _ => None,
+    }
+}
+
+/// Returns whether a refusal is reported already: it is the one that is reported first, or it is of the same modem as one of those
+/// of its operator before it.
+fn is_reported(reported: RefusedState, before: &[RefusedState], refused: RefusedState) -> bool {
+    if refused == reported {
+        return true;
+    }
+    let StateFault::ModemInUse { modem: _ } = refused.why else {
+        return false;
+    };
+    before.contains(&refused)
+}
+
+/// Writes a line for each refusal of an operator's state that is not reported already.
+fn report_refusals<E: Write>(
+    alloc: Global,
+    number: u64,
+    plant: &Plant,
+    reported: RefusedState,
+    refused: &[RefusedState],
+    reasons: &mut E,
+) -> Result<(), AllocError> {
+    // Where the refusals of the operator begin.
+    let mut first = 0;
+    for (place, one) in refused.iter().enumerate() {
+        if refused[first].op != one.op {
+            first = place;
+        }
+        if !is_reported(reported, &refused[first..place], *one) {
+            let text = operator_text(alloc, Some(plant), one.op, one.why)?;
+            let line = format!(in alloc;
+                "line {number}: the plant is not changed: the plant file does not fit the plant in service: {text}\n"
+            );
+            tell(reasons, line);
+        }
+    }
+    Ok(())
+}
+
+/// Writes a line for each further refusal of an operator's state under a plant file, if one is reported.
+fn report_further<E: Write>(
+    alloc: Global,
+    core: &LiveCore,
+    number: u64,
+    file: &[u8],
+    why: &NewPlantFault,
+    reasons: &mut E,
+) -> Result<(), AllocError> {
+    let Some(reported) = reported_refusal(why) else {
+        return Ok(());
+    };
+    let Some(plant) = plant_of(alloc, file) else {
+        return Err(AllocError);
+    };
+    let refused = refused_states(alloc, core, &plant)?;
+    report_refusals(alloc, number, &plant, reported, refused.as_slice(), reasons)
 }
 
 /// Writes the reasons of refused changes to standard error as they come.
@@ -162,8 +247,18 @@ impl<'a, E: Write> RefusalReasons<'a, E> {
 }
 
 impl<E: Write> RefusalNotes for RefusalReasons<'_, E> {
-    fn note_refused(&mut self, alloc: Global, number: u64, file: &[u8], why: &NewPlantFault) {
-        tell(self.reasons, refusal_reason(alloc, number, file, why));
+    fn note_refused(
+        &mut self,
+        alloc: Global,
+        core: &LiveCore,
+        number: u64,
+        file: &[u8],
+        why: &NewPlantFault,
+    ) {
+        tell(self.reasons, refusal_reason(alloc, core, number, file, why));
+        if report_further(alloc, core, number, file, why, self.reasons).is_err() {
+            tell(self.reasons, Err(AllocError));
+        }
     }
 
     fn note_frame_refused(

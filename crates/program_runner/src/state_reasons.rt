@@ -127,7 +127,7 @@ fn changed_reason(
     why: ChangeFault,
 ) -> Result<String, AllocError> {
     let file = file.unwrap_or(Vec::new(alloc));
-    let text = change_text(alloc, file.as_slice(), why)?;
+    let text = change_text(alloc, None, file.as_slice(), why)?;
     format!(in alloc;
         "the plant file does not fit the plant in {folder}/journal: {text}\nthe journal is as it was: start with the plant file that was saved, or mend the plant file\n"
     )

@@ -39,6 +39,7 @@ fn refusal_outcome(fault: &NewPlantFault) -> LineOutcome
 /// Notes why the plant is not changed, and writes `fault: line n` or `fault: memory`.
 pub(crate) fn answer_refusal<W: Write, N: RefusalNotes>(
     alloc: Global,
+    core: &LiveCore,
     number: u64,
     file: &[u8],
     fault: &NewPlantFault,
@@ -47,7 +48,7 @@ pub(crate) fn answer_refusal<W: Write, N: RefusalNotes>(
 ) -> io::Result<()>
     ensures { OnOk result (Appends (W.contents writer.old) (W.contents writer.new) (refusal_text number fault.now)) }
 {
-    notes.note_refused(alloc, number, file, fault);
+    notes.note_refused(alloc, core, number, file, fault);
     write_end(writer, number, refusal_outcome(fault))?;
     writer.flush()
 }
@@ -108,6 +109,7 @@ pub(crate) fn answer_change<W: Write, N: RefusalNotes>(
         }
         Err(why) => answer_refusal(
             alloc,
+            &service.core,
             waiting.number,
             waiting.text.as_slice(),
             &refusal_of(why),

@@ -85,7 +85,8 @@ fn take_plant_file<R: Read, W: Write, N: RefusalNotes>(
             plant,
         }),
         Err(fault) => {
-            answer_refusal(alloc, number, text.bytes.as_slice(), &fault, writer, notes)?;
+            let file = text.bytes.as_slice();
+            answer_refusal(alloc, &service.core, number, file, &fault, writer, notes)?;
             Ok(ItemOutcome::Answered)
         }
     }
