@@ -1,30 +1,32 @@
-use Rattle.std.proofs.Common.{◌≡◌, sym, ap, ◌∙◌}
+use Rattle.std.proofs.Common.{◌≡◌, ap, subst, ◌∙◌}
+use Rattle.plant.specs.declared.consts.ConstsFields.{ConstsFields}
 use Rattle.plant.specs.declared.plant.PlantFields.{PlantFields}
+use Rattle.plant.specs.Consts.{KeepsConsts}
 use Rattle.live_core.specs.LiveView.{live_view}
 use Rattle.plant_restart.proofs.ChangeLemmas.{saved_change, change_refused, change_memory}
 use Rattle.plant_restart.proofs.changing.change.Goals as goal
 
+kept : (old new read_old read_new : ConstsFields) → read_old ≡ old → read_new ≡ new → KeepsConsts read_old read_new → KeepsConsts old new
+kept old new read_old read_new is_old is_new h = subst (λ (k : ConstsFields). KeepsConsts old k) is_new (subst (λ (k : ConstsFields). KeepsConsts k read_new) is_old h)
+
 pub returns-in-Ok-restart-clause-ok : goal.returns-in-Ok-restart-clause-ok
 returns-in-Ok-restart-clause-ok g c =
     let old = live_view c.args.core.now in
-    let alike : c.consts.result.now ≡ c.consts-2.result.now = c.are_same_consts.ensures.0 c.if-not-are_same_consts.false in
-    let shared = sym c.consts.ensures.value ∙ (alike ∙ (c.consts-2.ensures.value ∙ ap (λ (p : PlantFields). p.consts) c.plant.ensures)) in
+    let shared = kept _ _ _ _ (c.consts.ensures.value ∙ ap (λ (p : PlantFields). p.consts) c.plant.ensures) c.consts-2.ensures.value (c.keeps_consts.ensures.0 c.if-not-keeps_consts.false) in
     saved_change old c.args.plant c.in-Ok.frame shared c.in-Ok.ensures.ok c.as_slice.result.now (c.as_slice.ensures.value ∙ c.in-Ok-states_to_save.ensures)
     (live_view c.in-Ok-restart.new) c.always.ensures.plant c.rows-rows.ensures.valid c.in-Ok-restart.ensures.ok c.always-in-Ok-restart.ensures.gathering
 
 pub returns-clause-fault : goal.returns-clause-fault
 returns-clause-fault g c =
     let old = live_view c.args.core.now in
-    let alike : c.consts.result.now ≡ c.consts-2.result.now = c.are_same_consts.ensures.0 c.if-not-are_same_consts.false in
-    let shared = sym c.consts.ensures.value ∙ (alike ∙ (c.consts-2.ensures.value ∙ ap (λ (p : PlantFields). p.consts) c.plant.ensures)) in
+    let shared = kept _ _ _ _ (c.consts.ensures.value ∙ ap (λ (p : PlantFields). p.consts) c.plant.ensures) c.consts-2.ensures.value (c.keeps_consts.ensures.0 c.if-not-keeps_consts.false) in
     change_refused old c.args.plant c.in-Ok.frame shared c.in-Ok.ensures.ok c.as_slice.result.now (c.as_slice.ensures.value ∙ c.in-Ok-states_to_save.ensures)
     _ c.in-Err-restart.why c.in-Err-restart.ensures.fault
 
 pub returns-clause-only : goal.returns-clause-only
 returns-clause-only g c = λ can.
     let old = live_view c.args.core.now in
-    let alike : c.consts.result.now ≡ c.consts-2.result.now = c.are_same_consts.ensures.0 c.if-not-are_same_consts.false in
-    let shared = sym c.consts.ensures.value ∙ (alike ∙ (c.consts-2.ensures.value ∙ ap (λ (p : PlantFields). p.consts) c.plant.ensures)) in
+    let shared = kept _ _ _ _ (c.consts.ensures.value ∙ ap (λ (p : PlantFields). p.consts) c.plant.ensures) c.consts-2.ensures.value (c.keeps_consts.ensures.0 c.if-not-keeps_consts.false) in
     let at = c.in-Ok.ensures.only can.frame can.rests in
     let is = c.in-Ok.is in
     change_memory old c.args.plant c.in-Ok.frame shared c.in-Ok.ensures.ok c.as_slice.result.now (c.as_slice.ensures.value ∙ c.in-Ok-states_to_save.ensures)
