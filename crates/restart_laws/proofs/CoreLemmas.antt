@@ -268,7 +268,7 @@ module _ (plant : PlantFields) (start : Start) (steps : List Step) (outs : List 
 
   changed : IsChangeOf live plant (started_core plant (start_by_name plant frame states))
   changed =
-      change_of live (started_core plant (start_by_name plant frame states)) plant frame (subst IsPlant (sym same_plant) valid) valid 
+      change_of live (started_core plant (start_by_name plant frame states)) plant frame (subst IsPlant (sym same_plant) valid) valid
       (subst (λ (p : PlantFields). KeepsConsts p.consts plant.consts) (sym same_plant) (keeps_itself plant.consts)) rests is_restarted gathers
 
   -- it rests before one frame alone
