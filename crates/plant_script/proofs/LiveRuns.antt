@@ -15,10 +15,9 @@ use Rattle.script_format.specs.Text.{outs_text}
 use Rattle.line_service.specs.declared.steps_end.StepsEnd.{StepsEnd}
 use Rattle.line_service.specs.declared.steps_end.StepsEnd.TheVariants as ends
 use Rattle.line_service.specs.Steps.{IsStepsEndAt, HasDone}
-use Rattle.command_line.specs.declared.asked.RunReport.TheVariants.{Outputs}
 use Rattle.plant_script.specs.Run.{memory_line, IsEndStatus, EndsBy, IsScriptRun}
 use Rattle.plant_script.specs.Ends.{status_of, line_of}
-use Rattle.plant_script.specs.Task.{RunsTo, IsWritten, EndsRun}
+use Rattle.plant_script.specs.Task.{IsWritten, EndsRun}
 
 -- the run of the core with histories ends where the live core's does
 ends_by : (live core : CoreView) (next : Option LineStep) (end : StepsEnd) → IsOf live core → IsStepsEndAt live next end → EndsBy core next (status_of end) (line_of end)
@@ -60,13 +59,13 @@ no_six core (Some line) status is = λ six. absurd (let wrong : ◌≡◌ {A = �
 
 -- what a run results in is written
 pub run_written : (plant : PlantFields) (lines : List LineStep) (status : ℕ) (w0 w1 : Option (List ℕ)) → EndsRun plant lines status (λ text. Appends w0 w1 text)
-    → IsWritten (RunsTo plant Outputs lines) status (λ text. Appends w0 w1 text)
+    → IsWritten (IsScriptRun plant lines (λ done told. outs_text plant told)) status (λ text. Appends w0 w1 text)
 run_written plant lines status w0 w1 ran = by ran.1.ends
   where
     run : IsScriptRun plant lines (λ done told. outs_text plant told) status ran.0
     run = ran.1
 
-    by : (ends : EndsBy run.core (slice_get lines run.at) status run.last) → IsWritten (RunsTo plant Outputs lines) status (λ text. Appends w0 w1 text)
+    by : (ends : EndsBy run.core (slice_get lines run.at) status run.last) → IsWritten (IsScriptRun plant lines (λ done told. outs_text plant told)) status (λ text. Appends w0 w1 text)
     by (inl well) = inl (ran.0, no_five run.core (slice_get lines run.at) status well.0, no_six run.core (slice_get lines run.at) status well.0, run, ran.2)
     by (inr want) =
         let text_is : ran.0 ≡ outs_text plant run.outs ++ memory_line = run.text_is ∙ ap (λ (l : List ℕ). outs_text plant run.outs ++ l) want.2 in

@@ -67,9 +67,9 @@ written_answers order read results status wrote comes (inr (before, five, told, 
     at (Some input) known = known 5 (before ++ memory_line) runs
 
 -- the run of a task is the answer
-pub task_ends : (order : Order) (read : Option (List ℕ)) (failed : Bool) (task : Task) (status : ℕ) (wrote : List ℕ → Type 0) → IfSome read (λ input. Comes (outcomes.Task task) (AnswersWith order input))
-    → IsWritten (RunsTo task.plant task.report task.lines.items) status wrote → EndsOrder order read failed status wrote
-task_ends order read failed task status wrote comes told = inr (written_answers order read (RunsTo task.plant task.report task.lines.items) status wrote comes told)
+pub task_ends : (order : Order) (read : Option (List ℕ)) (failed : Bool) (task : Task) (script : List ℕ) (status : ℕ) (wrote : List ℕ → Type 0) → IfSome read (λ input. Comes (outcomes.Task task) script (AnswersWith order input))
+    → IsWritten (RunsTo task.plant task.report script task.lines.items) status wrote → EndsOrder order read failed status wrote
+task_ends order read failed task script status wrote comes told = inr (written_answers order read (RunsTo task.plant task.report script task.lines.items) status wrote comes told)
 
 -- only `threads` asks for a run on threads
 pub threads_alone : (word : BatchWord) → (word ≢ batch.Threads → ⊥) → batch_order word ≡ threads

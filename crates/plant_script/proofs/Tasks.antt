@@ -45,13 +45,13 @@ abbrev TellsOf : PlantFields → ℕ → Result (List LineStep) ℕ → ℕ → 
 TellsOf plant op lines status text row = AnswersSteps (λ ran. IsScriptRun plant ran (λ done told. history_at row op done)) lines status text
 
 -- a run that is told of an operator tells its own steps
-pub comes_of_operator : (plant : PlantFields) (op : ℕ) (row : RowFields) (lines : Result (List LineStep) ℕ) (what : InputOutcome) → slice_get plant.rows op ≡ Some row
-    → Comes what (AnswersSteps (RunsTo plant (History op)) lines)
-    → Comes what (λ status text. (row : RowFields) × (slice_get plant.rows op ≡ Some row)
+pub comes_of_operator : (plant : PlantFields) (op : ℕ) (row : RowFields) (script : List ℕ) (lines : Result (List LineStep) ℕ) (what : InputOutcome) → slice_get plant.rows op ≡ Some row
+    → Comes what script (AnswersSteps (RunsTo plant (History op) script) lines)
+    → Comes what script (λ status text. (row : RowFields) × (slice_get plant.rows op ≡ Some row)
     × AnswersSteps (λ ran. IsScriptRun plant ran (λ done told. history_text row op done)) lines status text)
-comes_of_operator plant op row lines (outcomes.Answer answer) here h = (row, here, subst (TellsOf plant op lines (status_code answer.status) answer.text.items) here h)
-comes_of_operator plant op row lines (outcomes.Task task) here h = λ status text run. (row, here, subst (TellsOf plant op lines status text) here (h status text run))
-comes_of_operator plant op row lines (outcomes.Threads threaded steps) here h = λ status text run. (row, here, subst (TellsOf plant op lines status text) here (h status text run))
+comes_of_operator plant op row script lines (outcomes.Answer answer) here h = (row, here, subst (TellsOf plant op lines (status_code answer.status) answer.text.items) here h)
+comes_of_operator plant op row script lines (outcomes.Task task) here h = λ status text run. (row, here, subst (TellsOf plant op lines status text) here (h status text run))
+comes_of_operator plant op row script lines (outcomes.Threads threaded steps) here h = λ status text run. (row, here, subst (TellsOf plant op lines status text) here (h status text run))
 
 -- the word that was read is the order
 pub same_order : (order : Order) (read : Result Word WordsFault) (word : Word) → GivesOrder order read → read ≡ Ok word → order_of word ≡ order

@@ -36,7 +36,7 @@ trace_ends_by core next decisions text end (inr words) =
 
 -- what was told of the steps, and the last line behind it
 pub trace_ends : (plant : PlantFields) (script : List ℕ) (lines : List LineStep) (core : CoreView) (end : StepsEnd) (status : ℕ) (w0 w1 w2 : Option (List ℕ)) → HasTraced plant script lines core end w0 w1
-    → status ≡ status_of end → Appends w1 w2 (line_of end) → EndsTraced plant lines status (λ text. Appends w0 w2 text)
+    → status ≡ status_of end → Appends w1 w2 (line_of end) → EndsTraced plant script lines status (λ text. Appends w0 w2 text)
 trace_ends plant script lines core end status w0 w1 w2 has is wrote = (
   has.text ++ line_of end,
   record {
@@ -48,6 +48,9 @@ trace_ends plant script lines core end status w0 w1 w2 has is wrote = (
     decided = has.decided;
     told = has.text;
     is_text = has.is_text;
+    next = has.next;
+    next_is = next_by has.next_is;
+    reported = has.reported;
     last = line_of end;
     ends = subst (λ (n : ℕ). EndsTraceBy core (slice_get lines has.at) has.decisions has.text n (line_of end)) (sym is)
         (trace_ends_by core (slice_get lines has.at) has.decisions has.text end has.ends);
@@ -55,27 +58,32 @@ trace_ends plant script lines core end status w0 w1 w2 has is wrote = (
   },
   Appends-trans w0 w1 w2 has.text (line_of end) has.written wrote,
 )
+  where
+    next_by : (has.next ≡ slice_get lines has.at) ⊎ (HasNoWords has.decisions has.text end × (has.next ≡ None))
+        → (has.next ≡ slice_get lines has.at) ⊎ (HasNoWords has.decisions has.text ends.NoMemory × (has.next ≡ None))
+    next_by (inl is) = inl is
+    next_by (inr words) = inr (subst (λ (e : StepsEnd). HasNoWords has.decisions has.text e) words.0.end_is words.0, words.1)
 
 -- what a trace results in is written
-pub trace_written : (plant : PlantFields) (lines : List LineStep) (status : ℕ) (w0 w1 : Option (List ℕ)) → EndsTraced plant lines status (λ text. Appends w0 w1 text)
-    → IsWritten (RunsTo plant Trace lines) status (λ text. Appends w0 w1 text)
-trace_written plant lines status w0 w1 ran = by ran.1.ends
+pub trace_written : (plant : PlantFields) (script : List ℕ) (lines : List LineStep) (status : ℕ) (w0 w1 : Option (List ℕ)) → EndsTraced plant script lines status (λ text. Appends w0 w1 text)
+    → IsWritten (RunsTo plant Trace script lines) status (λ text. Appends w0 w1 text)
+trace_written plant script lines status w0 w1 ran = by ran.1.ends
   where
-    run : IsTracedRunOf plant lines status ran.0
+    run : IsTracedRunOf plant script lines status ran.0
     run = ran.1
 
     -- memory ran out for the next step, or for the words of the last one
-    out : status ≡ 5 → run.last ≡ memory_line → IsWritten (RunsTo plant Trace lines) status (λ text. Appends w0 w1 text)
+    out : status ≡ 5 → run.last ≡ memory_line → IsWritten (RunsTo plant Trace script lines) status (λ text. Appends w0 w1 text)
     out five last_is =
         let text_is : ran.0 ≡ run.told ++ memory_line = run.text_is ∙ ap (λ (l : List ℕ). run.told ++ l) last_is in
         inr (
           run.told,
           five,
           subst (λ (t : List ℕ). Appends w0 w1 t) text_is ran.2,
-          inr (subst (λ (t : List ℕ). IsTracedRunOf plant lines 5 t) text_is (subst (λ (n : ℕ). IsTracedRunOf plant lines n ran.0) five run)),
+          inr (subst (λ (t : List ℕ). IsTracedRunOf plant script lines 5 t) text_is (subst (λ (n : ℕ). IsTracedRunOf plant script lines n ran.0) five run)),
         )
 
-    by : (ends : EndsTraceBy run.core (slice_get lines run.at) run.decisions run.told status run.last) → IsWritten (RunsTo plant Trace lines) status (λ text. Appends w0 w1 text)
+    by : (ends : EndsTraceBy run.core (slice_get lines run.at) run.decisions run.told status run.last) → IsWritten (RunsTo plant Trace script lines) status (λ text. Appends w0 w1 text)
     by (inl (inl well)) = inl (ran.0, no_five run.core (slice_get lines run.at) status well.0, no_six run.core (slice_get lines run.at) status well.0, run, ran.2)
     by (inl (inr want)) = out want.1 want.2
     by (inr words) = out words.1 words.2

@@ -2,10 +2,12 @@
 use Rattle.std.specs.Prelude.{◌≡◌, ◌≢◌, ◌⊎◌, ⊤, ℕ, List, [], ◌∷◌, ◌++◌, slice_get, Option, Some, None, Result, Ok, Err, codes}
 use Rattle.std.specs.Fmt.{decimal}
 use Rattle.std.specs.Borrow.{Bor}
+use Rattle.std.specs.Global.{Vec}
 use Rattle.plant.specs.declared.operator_row.RowFields.{RowFields}
 use Rattle.plant.specs.declared.plant.PlantFields.{PlantFields}
 use Rattle.run_model.specs.declared.step.Step.{Step}
 use Rattle.script_format.specs.declared.script.LineStep.{LineStep}
+use Rattle.script_format.specs.Input.{script_text}
 use Rattle.script_format.specs.Text.{outs_text, history_text}
 use Rattle.plant_script.specs.declared.answer.Answer.{Answer}
 use Rattle.command_line.specs.declared.asked.RunReport.{RunReport}
@@ -23,12 +25,12 @@ abbrev pub history_at : Option RowFields → ℕ → List Step → List ℕ
 history_at None op done = []
 history_at (Some row) op done = history_text row op done
 
--- what the run of a script's steps results in, where this is printed of it
-abbrev pub RunsTo : PlantFields → RunReport ℕ → List LineStep → ℕ → List ℕ → Type 0
-RunsTo plant Outputs lines status text = IsScriptRun plant lines (λ done told. outs_text plant told) status text
-RunsTo plant Capture lines status text = IsCapturedRunOf plant lines status text
-RunsTo plant Trace lines status text = IsTracedRunOf plant lines status text
-RunsTo plant (History op) lines status text =
+-- what the run of a script's steps results in, where this is printed of it; a trace quotes the script's text
+abbrev pub RunsTo : PlantFields → RunReport ℕ → List ℕ → List LineStep → ℕ → List ℕ → Type 0
+RunsTo plant Outputs script lines status text = IsScriptRun plant lines (λ done told. outs_text plant told) status text
+RunsTo plant Capture script lines status text = IsCapturedRunOf plant lines status text
+RunsTo plant Trace script lines status text = IsTracedRunOf plant script lines status text
+RunsTo plant (History op) script lines status text =
     IsScriptRun plant lines (λ done told. history_at (slice_get plant.rows op) op done) status text
 
 -- what a run results in is written; or memory ran out, and its line is written alone, or after what the run had output until then
@@ -50,12 +52,17 @@ AnswersReport Capture = AnswersCapture
 AnswersReport Trace = AnswersTrace
 AnswersReport (History name) = AnswersHistory name.now
 
--- what is done for an input is such an answer: at once, or whatever the run results in
-abbrev pub Comes : InputOutcome → (ℕ → List ℕ → Type 0) → Type 0
-Comes (outcomes.Answer answer) answers = answers (status_code answer.status) answer.text.items
-Comes (outcomes.Task task) answers =
-    (status : ℕ) (text : List ℕ) → RunsTo task.plant task.report task.lines.items status text → answers status text
-Comes (outcomes.Threads plant lines) answers =
+-- the text of the script in an input that was noted; empty where none was
+abbrev pub noted_script : Option (Vec ℕ) → List ℕ
+noted_script None = []
+noted_script (Some input) = script_text input.items
+
+-- what is done for an input, whose script has this text, is such an answer: at once, or whatever the run results in
+abbrev pub Comes : InputOutcome → List ℕ → (ℕ → List ℕ → Type 0) → Type 0
+Comes (outcomes.Answer answer) script answers = answers (status_code answer.status) answer.text.items
+Comes (outcomes.Task task) script answers =
+    (status : ℕ) (text : List ℕ) → RunsTo task.plant task.report script task.lines.items status text → answers status text
+Comes (outcomes.Threads plant lines) script answers =
     (status : ℕ) (text : List ℕ) → IsThreadedRunOf plant lines.items status text → answers status text
 
 -- it is not a run on threads that answers

@@ -42,9 +42,9 @@ AnswersThreads plant script status text = AnswersSteps (IsThreadedRunOf plant) (
 abbrev pub AnswersCapture : PlantFields → List ℕ → ℕ → List ℕ → Type 0
 AnswersCapture plant script status text = AnswersSteps (IsCapturedRunOf plant) (steps_of plant script) status text
 
--- what decided each step of the run, and what came of it
+-- what decided each step of the run, and what came of it, among quotes of the script
 abbrev pub AnswersTrace : PlantFields → List ℕ → ℕ → List ℕ → Type 0
-AnswersTrace plant script status text = AnswersSteps (IsTracedRunOf plant) (steps_of plant script) status text
+AnswersTrace plant script status text = AnswersSteps (IsTracedRunOf plant script) (steps_of plant script) status text
 
 -- an operator that the plant does not have is reported alone, before the script is judged; else its own of the run's steps
 abbrev pub AnswersOperator : PlantFields → List ℕ → Option ℕ → ℕ → List ℕ → Type 0

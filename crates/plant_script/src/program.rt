@@ -3,8 +3,9 @@
 ghost use Rattle.std.specs.Prelude.{◌≡◌, ◌≢◌, ◌⊎◌, ⊤, true, false, Err, IfOk, IfErr, IfSome, MatchResult};
 ghost use Rattle.clap.specs.Walk.{texts};
 ghost use Rattle.std.specs.Io.KnownBytes.{Appends};
-ghost use Rattle.plant_script.specs.Task.{Comes, IsNotThreaded};
+ghost use Rattle.plant_script.specs.Task.{noted_script, Comes, IsNotThreaded};
 ghost use Rattle.plant_script.specs.Reaching.{AnswersFault, AnswersWords, Completes, IsLeftEnded, ReachesOrder, ReachesWords};
+ghost use Rattle.script_format.specs.Input.{script_text};
 ghost use Rattle.command_line.specs.declared.asked.BatchWord.TheVariants as batch;
 ghost use Rattle.command_line.specs.Order.{batch_order, order_of};
 ghost use Rattle.command_line.specs.CommandLine.{AsksHelp, AreWrong};
@@ -146,7 +147,7 @@ fn serve_input(
     input: &[u8],
 ) -> Result<InputOutcome, AnswerFault>
     requires { is_readable input.now ≡ true }
-    ensures served { IfOk result (λ outcome. Comes outcome (AnswersWith (batch_order word.entry) input.now)) }
+    ensures served { IfOk result (λ outcome. Comes outcome (script_text input.now) (AnswersWith (batch_order word.entry) input.now)) }
     ensures threads { word.entry ≢ batch.Threads → IfOk result IsNotThreaded }
     ensures memory { IfErr result (λ fault. fault ≡ AnswerFault.Memory) }
 {
@@ -167,7 +168,7 @@ fn serve<R: Read>(
 ) -> Result<InputOutcome, AnswerFault>
     requires { seen.old.failed ≡ false }
     ensures served { IfOk result (λ outcome.
-        IfSome (R.remaining reader.old) (λ input. Comes outcome (AnswersWith (batch_order word.entry) input))) }
+        IfSome (R.remaining reader.old) (λ input. Comes outcome (noted_script seen.new.input) (AnswersWith (batch_order word.entry) input))) }
     ensures threads { word.entry ≢ batch.Threads → IfOk result IsNotThreaded }
     ensures io { (result ≡ Err AnswerFault.Io)
         → (seen.new.failed ≡ true) ⊎ IfSome (R.remaining reader.old) (λ input. is_readable input ≡ false) }
@@ -178,8 +179,10 @@ fn serve<R: Read>(
     served
 }
 
-/// Returns the script of the input that was noted.
-fn script_of<'s>(seen: &'s Seen<'_>) -> &'s [u8] {
+/// Returns the script of the input that was noted; nothing where none was.
+fn script_of<'s>(seen: &'s Seen<'_>) -> &'s [u8]
+    ensures { result.now ≡ noted_script seen.now.input }
+{
     match &seen.input {
         Some(input) => script_text(input.as_slice(), before_bar(input.as_slice())),
         None => b"",

@@ -8,9 +8,9 @@ ghost use Rattle.run_model.specs.IsStateAfter.{IsStateAfter};
 ghost use Rattle.plant_core.specs.CoreView.{core_view};
 ghost use Rattle.live_core.specs.After.{IsAfter, IsReachableFromStart};
 ghost use Rattle.live_core.specs.LiveView.{live_view};
+ghost use Rattle.script_format.specs.Text.{outs_text};
 ghost use Rattle.plant_script.specs.Done.{HasRun, book_text};
-ghost use Rattle.command_line.specs.declared.asked.RunReport.TheVariants.{Outputs, Capture, History};
-ghost use Rattle.plant_script.specs.Run.{IsScriptRun};
+ghost use Rattle.plant_script.specs.Run.{IsScriptRun, IsCapturedRunOf};
 ghost use Rattle.plant_script.specs.Statuses.{status_code};
 ghost use Rattle.plant_script.specs.Task.{history_at, RunsTo, IsWritten, EndsRun, IsEnded};
 
@@ -136,7 +136,7 @@ fn answer_of_capture_run(
     ending: Ending,
 ) -> Result<Answer, AllocError>
     requires { map (λ ranking. ranking.policy) rankings.items ≡ map (λ row. row.policy) plant.rows }
-    ensures { IfOk result (λ answer. RunsTo plant Capture lines.items (status_code answer.status) answer.text.items) }
+    ensures { IfOk result (λ answer. IsCapturedRunOf plant lines.items (status_code answer.status) answer.text.items) }
 {
     let mut core = core_of(alloc, plant, rankings)?;
     let answer = answer_of_capture(alloc, &mut core, lines)?;
@@ -154,7 +154,8 @@ fn answer_of_history_run(
     ending: Ending,
 ) -> Result<Answer, AllocError>
     requires { map (λ ranking. ranking.policy) rankings.items ≡ map (λ row. row.policy) plant.rows }
-    ensures { IfOk result (λ answer. RunsTo plant (History op) lines.items (status_code answer.status) answer.text.items) }
+    ensures { IfOk result (λ answer. IsScriptRun plant lines.items
+        (λ done told. history_at (slice_get plant.rows op) op done) (status_code answer.status) answer.text.items) }
 {
     let mut core = core_of(alloc, plant, rankings)?;
     let answer = answer_of_history(alloc, &mut core, op, lines)?;
@@ -191,7 +192,7 @@ fn write_outputs_run<W: Write>(
     writer: &mut W,
 ) -> io::Result<Status>
     requires { map (λ ranking. ranking.policy) rankings.items ≡ map (λ row. row.policy) plant.rows }
-    ensures { IfOk result (λ status. IsWritten (RunsTo plant Outputs lines.items) (status_code status)
+    ensures { IfOk result (λ status. IsWritten (IsScriptRun plant lines.items (λ done told. outs_text plant told)) (status_code status)
         (λ text. Appends (W.contents writer.old) (W.contents writer.new) text)) }
 {
     let Ok(mut core) = live_core_of(alloc, plant, rankings) else {
@@ -214,7 +215,7 @@ fn write_task<W: Write>(
     writer: &mut W,
 ) -> io::Result<Status>
     requires { map (λ ranking. ranking.policy) rankings.items ≡ map (λ row. row.policy) task.plant.rows }
-    ensures { IfOk result (λ status. IsWritten (RunsTo task.plant task.report task.lines.items) (status_code status)
+    ensures { IfOk result (λ status. IsWritten (RunsTo task.plant task.report script.now task.lines.items) (status_code status)
         (λ text. Appends (W.contents writer.old) (W.contents writer.new) text)) }
 {
     let Task {
@@ -245,7 +246,7 @@ pub fn write_ranked<W: Write>(
     ending: Ending,
     writer: &mut W,
 ) -> io::Result<Status>
-    ensures { IfOk result (λ status. IsWritten (RunsTo task.plant task.report task.lines.items) (status_code status)
+    ensures { IfOk result (λ status. IsWritten (RunsTo task.plant task.report script.now task.lines.items) (status_code status)
         (λ text. Appends (W.contents writer.old) (W.contents writer.new) text)) }
 {
     let mut rankings = Vec::new(alloc);

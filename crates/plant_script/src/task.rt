@@ -4,6 +4,7 @@ ghost use Rattle.std.specs.Prelude.{◌≡◌, ◌≢◌, map, true, IfOk, IfErr
 ghost use Rattle.std.specs.List.{position_from};
 ghost use Rattle.toml.specs.Parse.{parse_document};
 ghost use Rattle.slice_table.specs.ReadPlant.{text_plant};
+ghost use Rattle.script_format.specs.Input.{script_text};
 ghost use Rattle.script_format.specs.Script.{is_named, steps_of};
 ghost use Rattle.plant_script.specs.One.{is_readable};
 ghost use Rattle.plant_script.specs.Task.{RunsTo, AnswersReport, Comes, IsNotThreaded};
@@ -49,7 +50,7 @@ fn task_of_script(
     script: &[u8],
 ) -> Result<InputOutcome, AnswerFault>
     ensures value { IfOk result (λ outcome.
-        Comes outcome (AnswersSteps (RunsTo plant report) (steps_of plant script.now))) }
+        Comes outcome script.now (AnswersSteps (RunsTo plant report script.now) (steps_of plant script.now))) }
     ensures threads { IfOk result IsNotThreaded }
     ensures memory { IfErr result (λ fault. fault ≡ Memory) }
 {
@@ -76,7 +77,7 @@ fn task_of_operator(
     script: &[u8],
 ) -> Result<InputOutcome, AnswerFault>
     ensures value { IfOk result (λ outcome.
-        Comes outcome (AnswersOperator plant script.now (position_from (is_named name.now) 0 plant.rows))) }
+        Comes outcome script.now (AnswersOperator plant script.now (position_from (is_named name.now) 0 plant.rows))) }
     ensures threads { IfOk result IsNotThreaded }
     ensures memory { IfErr result (λ fault. fault ≡ Memory) }
 {
@@ -96,7 +97,7 @@ fn task_of_plant(
     report: RunReport<&str>,
     script: &[u8],
 ) -> Result<InputOutcome, AnswerFault>
-    ensures value { IfOk result (λ outcome. Comes outcome (AnswersReport report.entry plant script.now)) }
+    ensures value { IfOk result (λ outcome. Comes outcome script.now (AnswersReport report.entry plant script.now)) }
     ensures threads { IfOk result IsNotThreaded }
     ensures memory { IfErr result (λ fault. fault ≡ Memory) }
 {
@@ -116,7 +117,7 @@ pub fn task_of(
     input: &[u8],
 ) -> Result<InputOutcome, AnswerFault>
     requires { is_readable input.now ≡ true }
-    ensures value { IfOk result (λ outcome. Comes outcome (AnswersInput (AnswersReport report.entry) input.now)) }
+    ensures value { IfOk result (λ outcome. Comes outcome (script_text input.now) (AnswersInput (AnswersReport report.entry) input.now)) }
     ensures threads { IfOk result IsNotThreaded }
     ensures memory { IfErr result (λ fault. fault ≡ Memory) }
 {
@@ -137,7 +138,7 @@ fn threads_of_script(
     plant: Plant,
     script: &[u8],
 ) -> Result<InputOutcome, AnswerFault>
-    ensures value { IfOk result (λ outcome. Comes outcome (AnswersThreads plant script.now)) }
+    ensures value { IfOk result (λ outcome. Comes outcome script.now (AnswersThreads plant script.now)) }
     ensures memory { IfErr result (λ fault. fault ≡ Memory) }
 {
     match steps_of(alloc, &plant, script) {
@@ -153,7 +154,7 @@ fn threads_of_script(
 /// Returns the run of an input's script on its plant, on threads; or the answer to an invalid input.
 pub fn threads_of(alloc: Global, input: &[u8]) -> Result<InputOutcome, AnswerFault>
     requires { is_readable input.now ≡ true }
-    ensures value { IfOk result (λ outcome. Comes outcome (AnswersInput AnswersThreads input.now)) }
+    ensures value { IfOk result (λ outcome. Comes outcome (script_text input.now) (AnswersInput AnswersThreads input.now)) }
     ensures memory { IfErr result (λ fault. fault ≡ Memory) }
 {
     let place = before_bar(input);

@@ -32,7 +32,7 @@ fn write_traced<W: Write>(
     writer: &mut W,
 ) -> io::Result<Status>
     requires opened { IsStateAfter (core_view core.old).plant [] [] (core_view core.old) }
-    ensures { IfOk result (λ status. EndsTraced (core_view core.old).plant lines.items (status_code status)
+    ensures { IfOk result (λ status. EndsTraced (core_view core.old).plant script.now lines.items (status_code status)
         (λ text. Appends (W.contents writer.old) (W.contents writer.new) text)) }
 {
     let end = write_trace(alloc, core, script, lines, writer)?;
@@ -54,7 +54,7 @@ pub fn write_traced_run<W: Write>(
     writer: &mut W,
 ) -> io::Result<Status>
     requires { map (λ ranking. ranking.policy) rankings.items ≡ map (λ row. row.policy) plant.rows }
-    ensures { IfOk result (λ status. IsWritten (RunsTo plant Trace lines.items) (status_code status)
+    ensures { IfOk result (λ status. IsWritten (RunsTo plant Trace script.now lines.items) (status_code status)
         (λ text. Appends (W.contents writer.old) (W.contents writer.new) text)) }
 {
     let Ok(mut core) = core_of(alloc, plant, rankings) else {

@@ -19,7 +19,7 @@ use Rattle.trace_report.specs.declared.decision.Decision.{Decision}
 use Rattle.trace_report.specs.Decision.{IsDecision}
 use Rattle.trace_report.specs.Quotes.{quote_after}
 use Rattle.trace_report.specs.Remarks.{no_words_line}
-use Rattle.trace_report.specs.Trace.{AreDecided, IsTraceText, last_quoted, IsReportText, HasTraced}
+use Rattle.trace_report.specs.Trace.{AreDecided, IsTraceText, last_quoted, IsReportText, HasNoWords, HasTraced}
 use Rattle.trace_report.specs.Told.{HasQuoted, HasToldStep}
 use Rattle.trace_report.proofs.TracedSoFar.{IsTracedSoFar}
 use Rattle.line_service.proofs.LeftLemmas.{first_left, none_left, take_next, drop_next}
@@ -118,17 +118,19 @@ module _ (plant : PlantFields) (script : List ℕ) (steps : List LineStep) where
     unfolding step_traced
     words_fail told =
         let all : SoFar (max last line.number) None new w0 w2 rest = step_traced (told.0, no_words_line, told.1, no_words_are, told.2) in
+        let none : HasNoWords (half.decisions ++ decision ∷ []) (half.text ++ (told.0 ++ no_words_line)) ends.NoMemory =
+        record { end_is = refl; others = half.decisions; last = decision; decisions_are = refl; before = half.text; line = told.0; told = told.1; text_is = refl } in
         record {
           at = all.at;
           told = all.told;
           decisions = half.decisions ++ decision ∷ [];
           text = half.text ++ (told.0 ++ no_words_line);
           reached = all.reached;
-          ends = inr (record { end_is = refl; others = half.decisions; last = decision; decisions_are = refl; before = half.text; line = told.0; told = told.1; text_is = refl });
+          ends = inr none;
           decided = all.decided;
           is_text = all.is_text;
           next = None;
-          next_is = inr refl;
+          next_is = inr (none, refl);
           reported = all.reported;
           written = all.written;
         }

@@ -100,7 +100,7 @@ abbrev pub IsTraceEndAt : CoreView → Option LineStep → List (Option Decision
 IsTraceEndAt core next decisions text end = IsStepsEndAt core next end ⊎ HasNoWords decisions text end
 
 -- So many of these steps are done on the plant as it is opened, and it ended so. Their lines are quoted from the script, and what
--- decided each is written, in order. The line of a step that is not done is quoted too.
+-- decided each is written, in order. The line of a step that is not done is quoted too, unless memory ran out for the words before it.
 pub record HasTraced (plant : PlantFields) (script : List ℕ) (steps : List LineStep) (core : CoreView) (end : StepsEnd) (old new : Option (List ℕ)) : Type 0 where
   pub at : ℕ
   pub told : List Out
@@ -111,6 +111,6 @@ pub record HasTraced (plant : PlantFields) (script : List ℕ) (steps : List Lin
   pub decided : AreDecided plant [] (steps_without_numbers (take at steps)) decisions
   pub is_text : IsTraceText decisions text
   pub next : Option LineStep
-  pub next_is : (next ≡ slice_get steps at) ⊎ (next ≡ None)
+  pub next_is : (next ≡ slice_get steps at) ⊎ (HasNoWords decisions text end × (next ≡ None))
   pub reported : IsReportText script 0 (take at steps) decisions next text
   pub written : Appends old new text

@@ -1,6 +1,6 @@
 use Rattle.script_format.proofs.Outcomes.{if_ok}
-use Rattle.command_line.specs.declared.asked.RunReport.TheVariants.{Outputs}
-use Rattle.plant_script.specs.Task.{RunsTo}
+use Rattle.script_format.specs.Text.{outs_text}
+use Rattle.plant_script.specs.Run.{IsScriptRun}
 use Rattle.plant_script.specs.Statuses.{status_code}
 use Rattle.plant_script.proofs.LiveRuns.{run_written}
 use Rattle.plant_script.proofs.Reached.{memory_written}
@@ -13,4 +13,4 @@ returns g c =
 
 pub returns-in_default : goal.returns-in_default
 returns-in_default g c =
-    if_ok c.write_fault.result _ _ (λ status told. memory_written (RunsTo c.args.plant Outputs c.args.lines.items) (status_code status) _ told.0 told.1) c.write_fault.ensures
+    if_ok c.write_fault.result _ _ (λ status told. memory_written (IsScriptRun c.args.plant c.args.lines.items (λ done told. outs_text c.args.plant told)) (status_code status) _ told.0 told.1) c.write_fault.ensures

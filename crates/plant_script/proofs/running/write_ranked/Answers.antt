@@ -9,14 +9,14 @@ pub returns-in_default : goal.returns-in_default
 returns-in_default g c =
     let task = c.args.task in
     if_ok c.write_fault.result _ _
-    (λ status told. memory_written (RunsTo task.plant task.report task.lines.items) (status_code status) _ told.0 (rw c.loop-row.invariant.writer at told.1))
+    (λ status told. memory_written (RunsTo task.plant task.report c.args.script.now task.lines.items) (status_code status) _ told.0 (rw c.loop-row.invariant.writer at told.1))
     c.write_fault.ensures
 
 pub returns-then-is_err : goal.returns-then-is_err
 returns-then-is_err g c =
     let task = c.args.task in
     if_ok c.write_fault-then-is_err.result _ _
-    (λ status told. memory_written (RunsTo task.plant task.report task.lines.items) (status_code status) _ told.0 (rw c.loop-row.invariant.writer at told.1))
+    (λ status told. memory_written (RunsTo task.plant task.report c.args.script.now task.lines.items) (status_code status) _ told.0 (rw c.loop-row.invariant.writer at told.1))
     c.write_fault-then-is_err.ensures
 
 pub returns : goal.returns

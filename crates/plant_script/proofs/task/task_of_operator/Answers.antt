@@ -14,5 +14,5 @@ returns-in-Some-clause-value c =
     let found : position_from (is_named c.args.name.now) 0 plant.rows ≡ Some c.in-Some.op = cc in
     let row = found_at (is_named c.args.name.now) plant.rows c.in-Some.op found in
     if_ok c.task_of_script.result _ _
-    (λ what h. subst (λ (o : Option ℕ). Comes what (AnswersOperator plant script o)) (sym found) (comes_of_operator plant c.in-Some.op row.0 (steps_of plant script) what row.1 h))
+    (λ what h. subst (λ (o : Option ℕ). Comes what script (AnswersOperator plant script o)) (sym found) (comes_of_operator plant c.in-Some.op row.0 script (steps_of plant script) what row.1 h))
     c.task_of_script.ensures.value
