@@ -4,7 +4,7 @@ use Rattle.toml.specs.Parse.{parse_document}
 use Rattle.plant.specs.Plant.{IsPlant}
 use Rattle.plant.specs.declared.plant.PlantFields.{PlantFields}
 use Rattle.slice_table.specs.declared.plant_fault.PlantFault.{PlantFault}
-use Rattle.run_model.specs.Changing.{RunSoFar, IsPlantChange, AreChanges, periods}
+use Rattle.run_model.specs.Changing.{RunSoFar, IsPlantChange, AreChanges, KeepsProvisioning, periods}
 use Rattle.run_model.specs.Periods.{ArePeriodsOf}
 use Rattle.run_model.specs.Opened.{started_core}
 use Rattle.run_model.proofs.Changes.{goes_through}
@@ -123,7 +123,8 @@ are_changes restarts first all is = changes_from restarts first is all
 pub rows_go_through : KeptRowsGoThroughAll
 rows_go_through restarts first all row places is keeps =
     subst (λ (run : RunSoFar). ArePeriodsOf run.plant.consts row (run.start.state row) (periods (all_periods restarts first all) places)) (begins_all restarts first is all)
-    (goes_through row (first_of_all restarts first all) (later_of_all restarts first all) places (changes_from restarts first is all) keeps)
+    (goes_through row (first_of_all restarts first all) (later_of_all restarts first all) places (changes_from restarts first is all)
+    (subst (λ (run : RunSoFar). KeepsProvisioning run.plant.consts row (all_periods restarts first all) places) (sym (begins_all restarts first is all)) keeps))
 
 pub not_noticed : RestartsAreNotNoticed
 not_noticed restarts first all row places others is keeps are same =
