@@ -1,5 +1,5 @@
 -- The beginning of a service with a journal.
-use Rattle.std.proofs.Common.{◌≡◌, inr, ℕ, ◌+◌, List, [], ◌∷◌, length, Option, Some, None, IfSome, refl, sym, ap, subst, ◌∙◌, arith}
+use Rattle.std.proofs.Common.{◌≡◌, ◌≢◌, inr, ℕ, ◌+◌, List, [], ◌∷◌, length, Option, Some, None, IfSome, refl, sym, ap, subst, ◌∙◌, arith}
 use Rattle.std.specs.Io.KnownBytes.{Appends}
 use Rattle.std.proofs.KnownBytes.{Appends-nil}
 use Rattle.run_model.specs.IsStateAfter.{CoreView}
@@ -17,13 +17,13 @@ use Rattle.state_service.specs.declared.periods.PeriodEnd.{PeriodEnd}
 use Rattle.state_service.specs.declared.periods.PeriodEnd.TheVariants.{Ended, Due}
 use Rattle.state_service.specs.Serving.{IsServing, LeadsHere, LosesNoLine, IsRestFrame, greeting}
 use Rattle.state_service.specs.Periods.{IsAfterPeriod, LeadsAtEnd, IsDueOf}
-use Rattle.state_service.specs.Beginning.{IsFoundIn, IsUnderFile, IsRestoredFrom, IsServiceSoFar, IsServiceOn, IsStateService, IsUnharmed}
+use Rattle.state_service.specs.Beginning.{IsFoundIn, IsSavedWith, IsChangedTo, IsUnderFile, IsRestoredFrom, IsServiceSoFar, IsServiceOn, IsStateService, IsUnharmed}
 use Rattle.state_service.proofs.ReadLemmas.{take_nil}
 
 -- nothing is read yet
-pub none_read : (first : CoreView) (count : ℕ) (input part : List ℕ) (written : Option (List ℕ)) → part ≡ [] → IsServing first count input input part first count written written
+pub none_read : (file : List ℕ) (first : CoreView) (count : ℕ) (input part : List ℕ) (written : Option (List ℕ)) → part ≡ [] → IsServing file first count input input part first count written written
 unfolding parts_of
-none_read first count input part written none = record {
+none_read file first count input part written none = record {
   events = [];
   lead = refl;
   count_is = omega arith;
@@ -31,25 +31,37 @@ none_read first count input part written none = record {
   written = Appends-nil written;
 }
 
-pub none_read_where : (first : CoreView) (count : ℕ) (part : List ℕ) (known written : Option (List ℕ)) → part ≡ []
-    → WhereKnown known known (λ input rest. IsServing first count input rest part first count written written)
-none_read_where first count part None written none = tt
-none_read_where first count part (Some input) written none = none_read first count input part written none
+pub none_read_where : (file : List ℕ) (first : CoreView) (count : ℕ) (part : List ℕ) (known written : Option (List ℕ)) → part ≡ []
+    → WhereKnown known known (λ input rest. IsServing file first count input rest part first count written written)
+none_read_where file first count part None written none = tt
+none_read_where file first count part (Some input) written none = none_read file first count input part written none
 
 -- the first lines are served
-pub first_served : (found : Option JournalContent) (file part : List ℕ) (end : PeriodEnd) (led first live : CoreView) (count now : ℕ) (frame : Option ℕ) (known rest old mid new : Option (List ℕ))
-    → LeadsHere found led count → IsUnderFile file led first → IsRestFrame first frame → Appends old mid (greeting (count + 1) frame)
-    → WhereKnown known rest (λ input left. IsAfterPeriod end first count input left part live now mid new)
+pub first_served : (found : Option JournalContent) (saved file part : List ℕ) (end : PeriodEnd) (led first live : CoreView) (count now : ℕ) (frame : Option ℕ) (known rest old mid new : Option (List ℕ))
+    → LeadsHere found led count → IsSavedWith found saved → IsUnderFile saved file led first → IsRestFrame first frame → Appends old mid (greeting (count + 1) frame)
+    → WhereKnown known rest (λ input left. IsAfterPeriod end file first count input left part live now mid new)
     → WhereKnown known rest (λ input left. IsServiceSoFar found file end input left part live now old new)
-first_served found file part end led first live count now frame None rest old mid new leads under rests greeted after = tt
-first_served found file part end led first live count now frame (Some input) None old mid new leads under rests greeted after = absurd after
-first_served found file part end led first live count now frame (Some input) (Some left) old mid new leads under rests greeted after =
-    record { led = led; count = count; leads = leads; first = first; is_under = under; frame = frame; is_frame = rests; mid = mid; greeted = greeted; so_far = after }
+first_served found saved file part end led first live count now frame None rest old mid new leads is_saved under rests greeted after = tt
+first_served found saved file part end led first live count now frame (Some input) None old mid new leads is_saved under rests greeted after = absurd after
+first_served found saved file part end led first live count now frame (Some input) (Some left) old mid new leads is_saved under rests greeted after = record {
+  led = led;
+  count = count;
+  leads = leads;
+  saved = saved;
+  is_saved_with = is_saved;
+  first = first;
+  is_under = under;
+  frame = frame;
+  is_frame = rests;
+  mid = mid;
+  greeted = greeted;
+  so_far = after;
+}
 
 -- and then more
 pub more_served : (found : Option JournalContent) (file part next : List ℕ) (old_end end : PeriodEnd) (mid live : CoreView) (before now : ℕ) (known a b old was new : Option (List ℕ))
-    → ((first : CoreView) (count : ℕ) (written : Option (List ℕ)) → WhereKnown known a (λ input rest. IsAfterPeriod old_end first count input rest part mid before written was)
-    → WhereKnown known b (λ input rest. IsAfterPeriod end first count input rest next live now written new))
+    → ((first : CoreView) (count : ℕ) (written : Option (List ℕ)) → WhereKnown known a (λ input rest. IsAfterPeriod old_end file first count input rest part mid before written was)
+    → WhereKnown known b (λ input rest. IsAfterPeriod end file first count input rest next live now written new))
     → WhereKnown known a (λ input rest. IsServiceSoFar found file old_end input rest part mid before old was)
     → WhereKnown known b (λ input rest. IsServiceSoFar found file end input rest next live now old new)
 more_served found file part next old_end end mid live before now None a b old was new on so_far = tt
@@ -59,6 +71,8 @@ more_served found file part next old_end end mid live before now (Some input) (S
   led = so_far.led;
   count = so_far.count;
   leads = so_far.leads;
+  saved = so_far.saved;
+  is_saved_with = so_far.is_saved_with;
   first = so_far.first;
   is_under = so_far.is_under;
   frame = so_far.frame;
@@ -83,6 +97,8 @@ all_served found content file part end live now (Some input) (Some left) old new
         led = here.led;
         count = here.count;
         leads = here.leads;
+        saved = here.saved;
+        is_saved_with = here.is_saved_with;
         first = here.first;
         is_under = here.is_under;
         frame = here.frame;
@@ -96,10 +112,10 @@ all_served found content file part end live now (Some input) (Some left) old new
 
 -- ---- what the journal leads to
 
-pub restored_leads : (content : Option JournalContent) (count : ℕ) (lines : List (List ℕ)) (first live : CoreView) (now : ℕ) → IsRestoredFrom content count lines first
+pub restored_leads : (content : Option JournalContent) (file : List ℕ) (count : ℕ) (lines : List (List ℕ)) (first live : CoreView) (now : ℕ) → IsRestoredFrom content file count lines first
     → ((stored : JournalContent) (plant : PlantFields) (saved : Snapshot) → SaysState stored.snapshot count plant saved → stored.lines ≡ lines
     → IsRestarted plant saved.frame (states_of saved) first → LeadsTo stored plant live now) → LeadsHere content live now
-restored_leads content count lines first live now restored leads =
+restored_leads content file count lines first live now restored leads =
     let stands = restored.stands in
     let stored : JournalContent = record { snapshot = stands.snapshot; lines = lines } in
     (restored.plant, record { stored = stored; stands_for = stands.stands_for; leads = leads stored restored.plant restored.saved stands.says refl restored.restored })
@@ -114,6 +130,27 @@ ended_leads end content live count is leads = subst (λ (e : PeriodEnd). LeadsAt
 pub due_kept : (end : PeriodEnd) (live : CoreView) (file : List ℕ) (count : ℕ) (kept : KeptState) → end ≡ Due kept → IsDueOf live file count end
     → IsKeptState live file count kept.snapshot kept.start.plant kept.start.saved
 due_kept end live file count kept is due = subst (λ (e : PeriodEnd). IsDueOf live file count e) is due
+
+-- ---- under which plant file
+
+-- its state was saved with the file of the core that is restored from it
+pub restored_saved : (content : Option JournalContent) (file later : List ℕ) (count : ℕ) (lines : List (List ℕ)) (first : CoreView) → IsRestoredFrom content file count lines first → later ≡ file → IsSavedWith content later
+restored_saved content file later count lines first restored same = record {
+  count = count;
+  plant = restored.plant;
+  saved = restored.saved;
+  lines = lines;
+  stands = restored.stands;
+  file_is = restored.file_is ∙ sym same;
+}
+
+-- the given plant file is the one that was saved
+pub plant_stays : (saved given : List ℕ) (live : CoreView) → given ≡ saved → IsUnderFile saved given live live
+plant_stays saved given live same = (λ is. refl, λ other. absurd (other same))
+
+-- it is another one
+pub plant_changes : (saved given : List ℕ) (led first : CoreView) → given ≢ saved → IsChangedTo given led first → IsUnderFile saved given led first
+plant_changes saved given led first other changed = (λ same. absurd (other same), λ is. changed)
 
 -- ---- the plant file of the input
 

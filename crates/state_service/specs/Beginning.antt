@@ -21,15 +21,30 @@ use Rattle.state_service.specs.Periods.{IsAfterPeriod, IsDueOf, LeadsAtEnd}
 abbrev pub IsFoundIn : List ℕ → List ℕ → Option JournalContent → Type 0
 IsFoundIn bytes file content = (bytes ≢ [] → content ≡ journal_content bytes) × (bytes ≡ [] → IsBegunWith file content)
 
--- the plant stays, or it is changed to that of the plant file
-abbrev pub IsUnderFile : List ℕ → CoreView → CoreView → Type 0
-IsUnderFile file led first = (first ≡ led) ⊎ ((plant : PlantFields) × (text_plant (parse_document file) ≡ Ok plant) × IsChangeOf led plant first)
+-- the journal has a state that was saved with this plant file
+pub record IsSavedWith (content : Option JournalContent) (file : List ℕ) : Type 0 where
+  pub count : ℕ
+  pub plant : PlantFields
+  pub saved : Snapshot
+  pub lines : List (List ℕ)
+  pub stands : StandsForState content count plant saved lines
+  pub file_is : saved.plant ≡ file
 
--- a core is restored from the state of a journal, before which so many lines were done, and these lines are since
-pub record IsRestoredFrom (content : Option JournalContent) (count : ℕ) (lines : List (List ℕ)) (live : CoreView) : Type 0 where
+-- the plant is changed to that of a plant file
+abbrev pub IsChangedTo : List ℕ → CoreView → CoreView → Type 0
+IsChangedTo given led first = (plant : PlantFields) × (text_plant (parse_document given) ≡ Ok plant) × IsChangeOf led plant first
+
+-- the plant stays if the given plant file is the one that was saved, and otherwise it is changed to that of the given one
+abbrev pub IsUnderFile : List ℕ → List ℕ → CoreView → CoreView → Type 0
+IsUnderFile saved given led first = (given ≡ saved → first ≡ led) × (given ≢ saved → IsChangedTo given led first)
+
+-- a core is restored from the state of a journal, which was saved with this plant file, before which so many lines were done, and these
+-- lines are since
+pub record IsRestoredFrom (content : Option JournalContent) (file : List ℕ) (count : ℕ) (lines : List (List ℕ)) (live : CoreView) : Type 0 where
   pub plant : PlantFields
   pub saved : Snapshot
   pub stands : StandsForState content count plant saved lines
+  pub file_is : saved.plant ≡ file
   pub restored : IsRestarted plant saved.frame (states_of saved) live
 
 -- a service from the core to which a journal leads, under the plant file: after the greeting, lines are done up to the end of the input or
@@ -38,18 +53,21 @@ pub record IsServiceSoFar (found : Option JournalContent) (file : List ℕ) (end
   pub led : CoreView
   pub count : ℕ
   pub leads : LeadsHere found led count
+  pub saved : List ℕ
+  pub is_saved_with : IsSavedWith found saved
   pub first : CoreView
-  pub is_under : IsUnderFile file led first
+  pub is_under : IsUnderFile saved file led first
   pub frame : Option ℕ
   pub is_frame : IsRestFrame first frame
   pub mid : Option (List ℕ)
   pub greeted : Appends old mid (greeting (count + 1) frame)
-  pub so_far : IsAfterPeriod end first count input rest part live now mid new
+  pub so_far : IsAfterPeriod end file first count input rest part live now mid new
 
--- such a service up to the end of a period, of a core that is not kept: a state that is due is that of the core, and otherwise the journal
--- leads to it
+-- such a service up to the end of a period, of a core that is not kept: a state that is due is that of the core with the plant file, and
+-- otherwise the journal leads to the core
 pub record IsServedTo (found content : Option JournalContent) (given file : List ℕ) (count : ℕ) (end : PeriodEnd) (part : List ℕ) (known rest old new : Option (List ℕ)) : Type 0 where
   pub live : CoreView
+  pub same_file : file ≡ given
   pub due : IsDueOf live file count end
   pub leads : LeadsAtEnd end content live count
   pub serves : WhereKnown known rest (λ input left. IsServiceSoFar found given end input left part live count old new)

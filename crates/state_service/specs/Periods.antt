@@ -11,13 +11,13 @@ use Rattle.state_service.specs.declared.periods.PeriodEnd.TheVariants.{Ended, Du
 use Rattle.state_service.specs.Serving.{IsServing, HasServed, LeadsHere}
 
 -- some of the input is left, or all its lines are done
-abbrev pub IsAfterLines : BatchEnd → CoreView → ℕ → List ℕ → List ℕ → List ℕ → CoreView → ℕ → Option (List ℕ) → Option (List ℕ) → Type 0
-IsAfterLines batch.Open first count input rest part live now old new = IsServing first count input rest part live now old new
-IsAfterLines batch.Ended first count input rest part live now old new = HasServed first count input live now old new
+abbrev pub IsAfterLines : BatchEnd → List ℕ → CoreView → ℕ → List ℕ → List ℕ → List ℕ → CoreView → ℕ → Option (List ℕ) → Option (List ℕ) → Type 0
+IsAfterLines batch.Open file first count input rest part live now old new = IsServing file first count input rest part live now old new
+IsAfterLines batch.Ended file first count input rest part live now old new = HasServed file first count input live now old new
 
-abbrev pub IsAfterPeriod : PeriodEnd → CoreView → ℕ → List ℕ → List ℕ → List ℕ → CoreView → ℕ → Option (List ℕ) → Option (List ℕ) → Type 0
-IsAfterPeriod Ended first count input rest part live now old new = HasServed first count input live now old new
-IsAfterPeriod (Due kept) first count input rest part live now old new = IsServing first count input rest part live now old new
+abbrev pub IsAfterPeriod : PeriodEnd → List ℕ → CoreView → ℕ → List ℕ → List ℕ → List ℕ → CoreView → ℕ → Option (List ℕ) → Option (List ℕ) → Type 0
+IsAfterPeriod Ended file first count input rest part live now old new = HasServed file first count input live now old new
+IsAfterPeriod (Due kept) file first count input rest part live now old new = IsServing file first count input rest part live now old new
 
 -- a state that is to be saved is that of this core, with this plant file, after so many lines
 abbrev pub IsKeptOf : CoreView → List ℕ → ℕ → Option KeptState → Type 0

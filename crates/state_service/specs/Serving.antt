@@ -33,37 +33,36 @@ text_told [] = []
 text_told (Done lines text ∷ before) = text_told before ++ text
 text_told (Saved ∷ before) = text_told before
 
--- a core is in the state that was read of what is kept of another one
-pub record GoesOnFromState (old live : CoreView) : Type 0 where
-  pub file : List ℕ
-  pub count : ℕ
+-- a core is in the state that was read of what is kept of another one, with this plant file, after so many lines
+pub record GoesOnFromState (file : List ℕ) (count : ℕ) (old live : CoreView) : Type 0 where
   pub snapshot : List (List ℕ)
   pub plant : PlantFields
   pub read : Snapshot
   pub kept : IsKeptState old file count snapshot plant read
   pub is_restarted : IsRestarted plant read.frame (states_of read) live
 
--- after so many lines, and these events, the first core has become this one
-abbrev pub LeadOn : CoreView → ℕ → List Event → CoreView → Type 0
-LeadOn first count [] live = live ≡ first
-LeadOn first count (Done lines text ∷ before) live = (old : CoreView) × LeadOn first count before old
+-- under this plant file, after so many lines, and these events, the first core has become this one
+abbrev pub LeadOn : List ℕ → CoreView → ℕ → List Event → CoreView → Type 0
+LeadOn file first count [] live = live ≡ first
+LeadOn file first count (Done lines text ∷ before) live = (old : CoreView) × LeadOn file first count before old
     × BehindEachRun old (λ plant start steps shown. AreLinesDone plant start steps shown (count + length (lines_done before) + 1) lines live text)
-LeadOn first count (Saved ∷ before) live = (old : CoreView) × LeadOn first count before old × GoesOnFromState old live
+LeadOn file first count (Saved ∷ before) live = (old : CoreView) × LeadOn file first count before old
+    × GoesOnFromState file (count + length (lines_done before)) old live
 
 -- ---- a service that goes on from a core
 
 -- these lines of the input are done and answered, and of the next one this part is read
-pub record IsServing (first : CoreView) (count : ℕ) (input rest part : List ℕ) (live : CoreView) (now : ℕ) (old new : Option (List ℕ)) : Type 0 where
+pub record IsServing (file : List ℕ) (first : CoreView) (count : ℕ) (input rest part : List ℕ) (live : CoreView) (now : ℕ) (old new : Option (List ℕ)) : Type 0 where
   pub events : List Event
-  pub lead : LeadOn first count events live
+  pub lead : LeadOn file first count events live
   pub count_is : now ≡ count + length (lines_done events)
   pub taken : AreTaken input rest (lines_done events) part
   pub written : Appends old new (text_told events)
 
 -- all lines of the input are done and answered
-pub record HasServed (first : CoreView) (count : ℕ) (input : List ℕ) (live : CoreView) (now : ℕ) (old new : Option (List ℕ)) : Type 0 where
+pub record HasServed (file : List ℕ) (first : CoreView) (count : ℕ) (input : List ℕ) (live : CoreView) (now : ℕ) (old new : Option (List ℕ)) : Type 0 where
   pub events : List Event
-  pub lead : LeadOn first count events live
+  pub lead : LeadOn file first count events live
   pub count_is : now ≡ count + length (lines_done events)
   pub taken : AreAllTaken input (lines_done events)
   pub written : Appends old new (text_told events)

@@ -41,12 +41,13 @@ fn serve_batch<D: Device, R: Read, W: Write>(
     ensures settled { OnOk result (IsJournalSettled D.seen D.may_leave journal.new.device journal.new.gate) }
     ensures reached { OnOk result (IsReachableFromStart (live_view service.new.core)) }
     ensures count { OnOk result (service.old.count ≤ service.new.count) }
+    ensures same_file { service.new.file ≡ service.old.file }
     ensures leads { OnOk result (LeadsHere (journal_content (D.seen journal.old.device)) (live_view service.old.core) service.old.count
         → LeadsHere (journal_content (D.seen journal.new.device)) (live_view service.new.core) service.new.count) }
-    ensures on { IfOk result (λ end. (first : CoreView) (count : ℕ) (known written : Option (List ℕ))
-        → WhereKnown known (R.remaining reader.old) (λ input rest. IsServing first count input rest part.old.items
+    ensures on { IfOk result (λ end. (file : List ℕ) (first : CoreView) (count : ℕ) (known written : Option (List ℕ))
+        → WhereKnown known (R.remaining reader.old) (λ input rest. IsServing file first count input rest part.old.items
         (live_view service.old.core) service.old.count written (W.contents writer.old))
-        → WhereKnown known (R.remaining reader.new) (λ input rest. IsAfterLines end first count input rest part.new.items
+        → WhereKnown known (R.remaining reader.new) (λ input rest. IsAfterLines end file first count input rest part.new.items
         (live_view service.new.core) service.new.count written (W.contents writer.new))) }
     ensures any_moment { (least : ℕ) → HasNoFewer least (journal_content (D.seen journal.old.device))
         → LeavesOnly D.moment D.left_since journal.old.device journal.new.device (λ c. HasNoFewer least (journal_content c)) }
@@ -93,12 +94,13 @@ pub(crate) fn serve_period<D: Device, R: Read, W: Write>(
     ensures settled { OnOk result (IsJournalSettled D.seen D.may_leave journal.new.device journal.new.gate) }
     ensures reached { OnOk result (IsReachableFromStart (live_view service.new.core)) }
     ensures count { OnOk result (service.old.count ≤ service.new.count) }
+    ensures same_file { service.new.file ≡ service.old.file }
     ensures leads { OnOk result (LeadsHere (journal_content (D.seen journal.old.device)) (live_view service.old.core) service.old.count
         → LeadsHere (journal_content (D.seen journal.new.device)) (live_view service.new.core) service.new.count) }
-    ensures on { IfOk result (λ end. (first : CoreView) (count : ℕ) (known written : Option (List ℕ))
-        → WhereKnown known (R.remaining reader.old) (λ input rest. IsServing first count input rest part.old.items
+    ensures on { IfOk result (λ end. (file : List ℕ) (first : CoreView) (count : ℕ) (known written : Option (List ℕ))
+        → WhereKnown known (R.remaining reader.old) (λ input rest. IsServing file first count input rest part.old.items
         (live_view service.old.core) service.old.count written (W.contents writer.old))
-        → WhereKnown known (R.remaining reader.new) (λ input rest. IsAfterPeriod end first count input rest part.new.items
+        → WhereKnown known (R.remaining reader.new) (λ input rest. IsAfterPeriod end file first count input rest part.new.items
         (live_view service.new.core) service.new.count written (W.contents writer.new))) }
     ensures kept { IfOk result (IsDueOf (live_view service.new.core) service.new.file service.new.count) }
     ensures any_moment { (least : ℕ) → HasNoFewer least (journal_content (D.seen journal.old.device))

@@ -1,6 +1,6 @@
 //! A service that starts from a restored core.
 
-ghost use Rattle.std.specs.Prelude.{◌≡◌, ◌≤◌, ◌+◌, [], Ok, ℕ, List, Option, length, IfOk, OnOk};
+ghost use Rattle.std.specs.Prelude.{◌≡◌, ◌≢◌, ◌≤◌, ◌+◌, [], Ok, ℕ, List, Option, length, IfOk, OnOk};
 ghost use Rattle.toml.specs.Parse.{parse_document};
 ghost use Rattle.slice_table.specs.ReadPlant.{text_plant};
 ghost use Rattle.live_core.specs.After.{IsReachableFromStart};
@@ -9,7 +9,7 @@ ghost use Rattle.line_service.specs.Bytes.{WhereKnown};
 ghost use Rattle.line_journal.specs.Device.{LeavesOnly};
 ghost use Rattle.line_journal.specs.Found.{texts};
 ghost use Rattle.line_journal.specs.Journal.{JournalContent, journal_content, IsJournalSettled};
-ghost use Rattle.state_service.specs.Beginning.{IsServiceSoFar, IsRestoredFrom};
+ghost use Rattle.state_service.specs.Beginning.{IsServiceSoFar, IsRestoredFrom, IsSavedWith};
 ghost use Rattle.state_service.specs.Periods.{IsDueOf, LeadsAtEnd};
 ghost use Rattle.state_service.specs.Serving.{LeadsHere, HasNoFewer};
 
@@ -49,14 +49,16 @@ fn change_service<W: Write>(
 ) -> Result<StartedService, StateServiceFault>
     requires reached { IsReachableFromStart (live_view service.core) }
     requires given { text_plant (parse_document given.file.items) ≡ Ok given.plant }
+    requires other { given.file.items ≢ service.file }
     ensures reached { IfOk result (λ started. IsReachableFromStart (live_view started.service.core)) }
     ensures count { IfOk result (λ started. started.service.count ≡ service.count) }
+    ensures same_file { IfOk result (λ started. started.service.file ≡ given.file.items) }
     ensures due { IfOk result (λ started. IsDueOf (live_view started.service.core) started.service.file started.service.count started.end) }
     ensures leads { IfOk result (λ started. (content : Option JournalContent)
         → LeadsAtEnd started.end content (live_view started.service.core) started.service.count) }
     ensures on { IfOk result (λ started. (found : Option JournalContent) (input : List ℕ) → LeadsHere found (live_view service.core) service.count
-        → IsServiceSoFar found given.file.items started.end input input [] (live_view started.service.core) started.service.count
-        (W.contents writer.old) (W.contents writer.new)) }
+        → IsSavedWith found service.file → IsServiceSoFar found given.file.items started.end input input []
+        (live_view started.service.core) started.service.count (W.contents writer.old) (W.contents writer.new)) }
 {
     let GivenPlant { file, plant } = given;
     let core = match change(alloc, &service.core, plant, rankings) {
@@ -91,12 +93,14 @@ pub(crate) fn start_service<D: Device, R: Read, W: Write>(
     writer: &mut W,
 ) -> Result<StartedService, StateServiceFault>
     requires settled { IsJournalSettled D.seen D.may_leave journal.old.device journal.old.gate }
-    requires restored { IsRestoredFrom (journal_content (D.seen journal.old.device)) service.count (texts lines.now) (live_view service.core) }
+    requires restored { IsRestoredFrom (journal_content (D.seen journal.old.device)) service.file service.count (texts lines.now)
+        (live_view service.core) }
     requires given { text_plant (parse_document given.file.items) ≡ Ok given.plant }
     requires part { part.old.items ≡ [] }
     ensures settled { OnOk result (IsJournalSettled D.seen D.may_leave journal.new.device journal.new.gate) }
     ensures reached { IfOk result (λ started. IsReachableFromStart (live_view started.service.core)) }
     ensures count { IfOk result (λ started. service.count + length lines.now ≤ started.service.count) }
+    ensures same_file { IfOk result (λ started. started.service.file ≡ given.file.items) }
     ensures due { IfOk result (λ started. IsDueOf (live_view started.service.core) started.service.file started.service.count started.end) }
     ensures leads { IfOk result (λ started. LeadsAtEnd started.end (journal_content (D.seen journal.new.device))
         (live_view started.service.core) started.service.count) }

@@ -12,14 +12,14 @@ use Rattle.state_service.proofs.KeepLemmas.{batch_moments, lines_added}
 use Rattle.state_service.proofs.periods.serve_batch.Goals as goal
 
 pub returns-then-is_empty-clause-on : goal.returns-then-is_empty-clause-on
-returns-then-is_empty-clause-on g c first count known written so_far =
+returns-then-is_empty-clause-on g c file first count known written so_far =
     let service = c.args.service.now in
     let read = c.in_ok-lines.field-0 in
     let none : length read.lines.items ≡ 0 = search rules in
     let a = g.R.Read.remaining c.args.reader.now in
     let b = g.R.Read.remaining c.read_batch.new.reader in
     let w = g.W.Write.contents c.args.writer.now in
-    none_served first count read.end c.args.part.now.items c.read_batch.new.part.items a b known written w (live_view service.core) service.count (texts read.lines.items)
+    none_served file first count read.end c.args.part.now.items c.read_batch.new.part.items a b known written w (live_view service.core) service.count (texts read.lines.items)
     (ap (λ (ls : List (Vec ℕ Global)). texts ls) (nil_from_length read.lines.items none)) (λ k before taken. c.in_ok-lines.ensures k before taken) so_far
 
 pub returns-in_err-text-clause-any_moment : goal.returns-in_err-text-clause-any_moment
@@ -46,7 +46,7 @@ pub returns-clause-no_fewer : goal.returns-clause-no_fewer
 returns-clause-no_fewer g c least has = lines_added least _ _ _ has c.in_ok-text.ensures.acknowledged.1
 
 pub returns-clause-on : goal.returns-clause-on
-returns-clause-on g c first count known written so_far =
+returns-clause-on g c file first count known written so_far =
     let old = c.args.service.now in
     let new = c.do_batch.new.service in
     let read = c.in_ok-lines.field-0 in
@@ -57,7 +57,7 @@ returns-clause-on g c first count known written so_far =
     let same : texts read.lines.items ≡ lines =
     sym (ap (λ (ls : List (Vec ℕ Global)). texts ls) c.as_slice.ensures.value) in
     let wrote : Appends w (g.W.Write.contents c.flush.new.self) c.in_ok-text.text.items = search rules in
-    batch_served first count read.end c.args.part.now.items c.read_batch.new.part.items a b known written w (g.W.Write.contents c.flush.new.self) (live_view old.core) (live_view new.core) old.count new.count
+    batch_served file first count read.end c.args.part.now.items c.read_batch.new.part.items a b known written w (g.W.Write.contents c.flush.new.self) (live_view old.core) (live_view new.core) old.count new.count
     lines c.in_ok-text.text.items
     (λ k before taken. subst (λ (ls : List (List ℕ)). WhereKnown k b (λ input rest. IsAfterBatch read.end input rest (before ++ ls) c.read_batch.new.part.items)) same (c.in_ok-lines.ensures k before taken))
     c.in_ok-text.ensures.done (c.in_ok-text.ensures.count ∙ ap (λ (n : ℕ). old.count + n) (sym (length-map c.as_slice.result.now (λ (v : Vec ℕ Global). v.items)))) wrote so_far

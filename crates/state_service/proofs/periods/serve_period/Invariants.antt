@@ -1,4 +1,4 @@
-use Rattle.std.proofs.Common.{ℕ, ◌≤◌, Option, List}
+use Rattle.std.proofs.Common.{◌≡◌, ℕ, ◌≤◌, Option, List}
 use Rattle.live_core.specs.After.{IsReachableFromStart}
 use Rattle.live_core.specs.LiveView.{live_view}
 use Rattle.run_model.specs.IsStateAfter.{CoreView}
@@ -13,11 +13,12 @@ invariant-loop g l = record {
   settled : IsJournalSettled g.D.Device.seen g.D.Device.may_leave l.journal.device l.journal.gate;
   reached : IsReachableFromStart (live_view l.service.core);
   count : l.fn.service.count ≤ l.service.count;
+  same_file : l.service.file ≡ l.fn.service.file;
   leads : LeadsHere (journal_content (g.D.Device.seen l.fn.journal.device)) (live_view l.fn.service.core) l.fn.service.count
       → LeadsHere (journal_content (g.D.Device.seen l.journal.device)) (live_view l.service.core) l.service.count;
-  on : (first : CoreView) (count : ℕ) (known written : Option (List ℕ))
-      → WhereKnown known (g.R.Read.remaining l.fn.reader) (λ input rest. IsServing first count input rest l.fn.part.items (live_view l.fn.service.core) l.fn.service.count written (g.W.Write.contents l.fn.writer))
-      → WhereKnown known (g.R.Read.remaining l.reader) (λ input rest. IsServing first count input rest l.part.items (live_view l.service.core) l.service.count written (g.W.Write.contents l.writer));
+  on : (file : List ℕ) (first : CoreView) (count : ℕ) (known written : Option (List ℕ))
+      → WhereKnown known (g.R.Read.remaining l.fn.reader) (λ input rest. IsServing file first count input rest l.fn.part.items (live_view l.fn.service.core) l.fn.service.count written (g.W.Write.contents l.fn.writer))
+      → WhereKnown known (g.R.Read.remaining l.reader) (λ input rest. IsServing file first count input rest l.part.items (live_view l.service.core) l.service.count written (g.W.Write.contents l.writer));
   any_moment : (least : ℕ) → HasNoFewer least (journal_content (g.D.Device.seen l.fn.journal.device))
       → LeavesOnly g.D.Device.moment g.D.Device.left_since l.fn.journal.device l.journal.device (λ c. HasNoFewer least (journal_content c));
   no_fewer : (least : ℕ) → HasNoFewer least (journal_content (g.D.Device.seen l.fn.journal.device)) → HasNoFewer least (journal_content (g.D.Device.seen l.journal.device));

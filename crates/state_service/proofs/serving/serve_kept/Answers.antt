@@ -1,8 +1,9 @@
+use Rattle.std.proofs.Common.{ℕ, List, subst, ◌∙◌}
 use Rattle.live_core.specs.LiveView.{live_view}
 use Rattle.line_journal.specs.Journal.{journal_content}
 use Rattle.durable_service.proofs.LeadLemmas.{restarted_reached}
 use Rattle.state_service.specs.declared.periods.PeriodEnd.TheVariants.{Due}
-use Rattle.state_service.specs.Serving.{HasNoFewer}
+use Rattle.state_service.specs.Serving.{GoesOnFromState, HasNoFewer}
 use Rattle.state_service.proofs.BeginLemmas.{more_served, leads_at_end}
 use Rattle.state_service.proofs.ServeLemmas.{saved_served, kept_goes_on}
 use Rattle.state_service.proofs.KeepLemmas.{nothing_lost, put_moments, state_put, joined}
@@ -71,14 +72,16 @@ returns-clause-on g c found given known written served =
     let w2 = g.W.Write.contents c.serve_period.new.writer in
     let part = c.args.part.now.items in
     let restarted = c.in-Ok-restore.ensures.ok in
-    let goes = kept_goes_on served.live first c.args.file c.args.count kept.snapshot plant saved served.due restarted in
+    let goes : GoesOnFromState given c.args.count served.live first =
+    subst (λ (f : List ℕ). GoesOnFromState f c.args.count served.live first) served.same_file (kept_goes_on served.live first c.args.file c.args.count kept.snapshot plant saved served.due restarted) in
     record {
       live = live_view later.core;
+      same_file = c.serve_period.ensures.same_file ∙ served.same_file;
       due = c.in_ok-end.ensures.kept;
       leads = leads_at_end c.in_ok-end.end (journal_content (g.D.Device.seen c.serve_period.new.journal.device)) (live_view later.core) later.count
           (c.in_ok-end.ensures.leads (plant, c.in_ok-put_snapshot.ensures.leads plant saved c.requires.kept.1.says restarted.reached));
       serves = more_served found given part c.serve_period.new.part.items (Due kept) c.in_ok-end.end served.live (live_view later.core) c.args.count later.count known a b written w1 w2
           (λ start count was so_far.
-          c.in_ok-end.ensures.on start count known was (saved_served start count known a was w1 part served.live first c.args.count goes so_far))
+          c.in_ok-end.ensures.on given start count known was (saved_served given start count known a was w1 part served.live first c.args.count goes so_far))
           served.serves;
     }
