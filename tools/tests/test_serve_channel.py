@@ -6,6 +6,7 @@ tools/ci/package_trial tries the same script under systemd with the real program
 import contextlib
 import fcntl
 import io
+import itertools
 import os
 import pathlib
 import re
@@ -15,6 +16,7 @@ import subprocess
 import sys
 import tempfile
 import termios
+import threading
 import time
 import unittest
 
@@ -30,16 +32,35 @@ MOST_EXPOSURE = 3.0
 # `check` refuses a plant with the word bad. `serve` answers each line; `die` kills it, `slow` keeps it busy, and `hold` until there is a file `go`. `resume` begins with a
 # plant file or a snapshot, and answers K by a snapshot with the plant file of the tests. It answers P by the plant file on a line and the
 # line of a change, unless the file is empty or has the word refused. A line `noise` gives 4,000 reasons. `serve` gives one at its end.
+# `serve --state` keeps lines in a journal, and goes on after them. It refuses a plant file with the word refused, and one in a file `slow`
+# takes a while. Of each line that it answers it says which plant file it has.
 PROGRAM = r"""#!/bin/sh
-case $1 in
-check) cat >"$FOLDER/checked"; if grep -q bad "$FOLDER/checked"; then echo fault: plant 1; echo a reason >&2; exit 3; fi; echo ok ;;
-serve) while read -r line && [ "$line" != --- ]; do echo "P $line"; done
+case $1:$2 in
+check:*) cat >"$PLACE/checked"; if grep -q bad "$PLACE/checked"; then echo fault: plant 1; echo a reason >&2; exit 3; fi; echo ok ;;
+serve:--state) journal=$3/journal file='' text=''
+    exec 8>"$3/lock"
+    flock --nonblock 8 || { echo in use >&2; echo fault: io; exit 6; }
+    while read -r line && [ "$line" != --- ]; do file="$file$line;" text="$text=$line
+"; done
+    case $file in *refused*) echo the reason >&2; echo fault: state; exit 3 ;; *slow*) sleep 0.5 ;; esac
+    lines=$(grep -c '^+' "$journal" 2>/dev/null)
+    { printf '=line 0\n=melfjits-snapshot 1 9\n%s=---\n=frame 0 0\n\n' "$text"; grep '^+' "$journal" 2>/dev/null; } >"$3/new"
+    mv "$3/new" "$journal"
+    number=$((lines + 1))
+    echo "S line $number frame 0"
     while read -r line || [ -n "$line" ]; do
-        case $line in die) kill -9 $$ ;; slow) sleep 0.3 ;; hold) until [ -e "$FOLDER/go" ]; do sleep 0.02; done ;; esac
+        echo "+$line" >>"$journal"
+        case $line in die) kill -9 $$ ;; slow) sleep 0.3 ;; hold) until [ -e "$PLACE/go" ]; do sleep 0.02; done ;; ready) echo a reason >&2 ;; esac
+        echo "A $number $line $file"
+        number=$((number + 1))
+    done ;;
+serve:*) while read -r line && [ "$line" != --- ]; do echo "P $line"; done
+    while read -r line || [ -n "$line" ]; do
+        case $line in die) kill -9 $$ ;; slow) sleep 0.3 ;; hold) until [ -e "$PLACE/go" ]; do sleep 0.02; done ;; esac
         echo "A $line"
     done
     echo end; echo a last reason >&2; exit 6 ;;
-resume) bars=1
+resume:*) bars=1
     while read -r line; do
         case $line in melfjits-snapshot*) bars=2 ;; ---) bars=$((bars - 1)); [ $bars != 0 ] || break ;; esac
         echo "P $line"
@@ -50,7 +71,7 @@ resume) bars=1
         half) kill -9 $$ ;;
         noise) number=0; while [ $number -lt 4000 ]; do echo "line 9: the plant is not changed: $number" >&2; number=$((number + 1)); done ;;
         slow) sleep 0.3 ;;
-        hold) until [ -e "$FOLDER/go" ]; do sleep 0.02; done ;;
+        hold) until [ -e "$PLACE/go" ]; do sleep 0.02; done ;;
         P) file=
             while read -r line && [ "$line" != --- ]; do file="$file$line;"; done
             case $file in '' | *refused* | *'= cut off'*) echo fault: line 9 ;; *) printf 'C %s\nP frame 7\n' "$file" ;; esac ;;
@@ -91,7 +112,7 @@ class Channel(unittest.TestCase):
         return path
 
     def start(self, plant=PLANT, words=None, **environment):
-        environment = {"PATH": os.environ["PATH"], "PLANT_SCRIPT": str(self.program), "FOLDER": str(self.folder), "ANSWERS": str(self.answers), **environment}
+        environment = {"PATH": os.environ["PATH"], "PLANT_SCRIPT": str(self.program), "PLACE": str(self.folder), "ANSWERS": str(self.answers), **environment}
         words = [self.write("plant.toml", plant)] if words is None else words
         # (SIGPIPE is ignored, as in the unit)
         process = subprocess.Popen([self.script, *words], stdin=self.pipe, stdout=subprocess.PIPE, stderr=subprocess.PIPE, text=True, env=environment, start_new_session=True, restore_signals=False)
@@ -268,7 +289,7 @@ class Channel(unittest.TestCase):
 
     def change(self, plant, pipe="in", **environment):
         """Changes the plant as a reload does. Returns the exit status, and what is said."""
-        words = {"PATH": os.environ["PATH"], "PLANT_SCRIPT": str(self.program), "FOLDER": str(self.folder), "ANSWERS": str(self.answers),
+        words = {"PATH": os.environ["PATH"], "PLANT_SCRIPT": str(self.program), "PLACE": str(self.folder), "ANSWERS": str(self.answers),
                  "STATE": str(self.folder / "state"), "CHANGE_SECONDS": "1", **environment}
         command = [self.script, "--change", self.write("plant.toml", plant), self.folder / pipe]
         done = subprocess.run(command, stdin=subprocess.DEVNULL, capture_output=True, text=True, env=words, cwd=self.folder, timeout=SECONDS, check=False)
@@ -427,7 +448,7 @@ class Channel(unittest.TestCase):
 
     def test_readiness_is_reported_once_the_plant_file_is_checked(self):
         (self.folder / "bin").mkdir()
-        self.write("bin/systemd-notify", '#!/bin/sh\n[ -e "$FOLDER/checked" ] && echo "$*" >"$FOLDER/notified"\n', 0o755)
+        self.write("bin/systemd-notify", '#!/bin/sh\n[ -e "$PLACE/checked" ] && echo "$*" >"$PLACE/notified"\n', 0o755)
         how = {"NOTIFY_SOCKET": "/nowhere", "PATH": f"{self.folder}/bin:{os.environ['PATH']}"}
         self.start(**how)
         notified = self.folder / "notified"
@@ -435,6 +456,213 @@ class Channel(unittest.TestCase):
         notified.unlink()
         self.refused(self.start(plant="bad", **how))
         self.assertFalse(notified.exists())
+
+
+class FolderChannel(Channel):
+    """A channel with a folder: its program is started again for a change, and after a failure."""
+
+    def start(self, plant=PLANT, **environment):
+        how = {"FOLDER": str(self.folder / "folder"), "STATE": str(self.folder / "state"), **environment}
+        return super().start(plant=plant, **how)
+
+    def change(self, plant, pipe="in", **environment):
+        return super().change(plant, pipe, **{"FOLDER": str(self.folder / "folder"), "CHANGE_SECONDS": "9", **environment})
+
+    def answered(self, *lines):
+        """Waits until the answers since the last call are these lines."""
+        self.wait_for("".join(f"{line}\n" for line in lines))
+        self.answers.write_text("")
+
+    def start_and_send(self):
+        process = self.start()
+        self.send("one\n")
+        self.answered("S line 1 frame 0", "A 1 one a = 1;b = 2;")
+        return process
+
+    def test_a_folder_is_made_for_its_owner_alone(self):
+        self.start_and_send()
+        self.assertEqual((self.folder / "folder").stat().st_mode & 0o777, 0o700)
+        self.assertEqual((self.folder / "folder/journal").read_text().splitlines()[-1], "+one")
+
+    def test_a_folder_goes_on_after_a_stop_and_keeps_no_state(self):
+        process = self.start_and_send()
+        self.assertEqual(self.stop(process), 0)
+        self.answers.write_text("a\nend 1 2\n")
+        words = {"PATH": os.environ["PATH"], "ANSWERS": str(self.answers), "STATE": str(self.folder / "state"), "FOLDER": str(self.folder / "folder")}
+        subprocess.run([self.script, "--keep-state"], env=words, check=True, timeout=SECONDS)
+        self.assertFalse((self.folder / "state").exists())
+        self.answers.write_text("")
+        self.start()
+        self.send("two\n")
+        self.answered("S line 2 frame 0", "A 2 two a = 1;b = 2;")
+
+    def test_a_folder_goes_on_after_a_program_that_was_killed(self):
+        """No line that waits in the pipe is lost, and the script ends at once, though no other line comes."""
+        process = self.start_and_send()
+        self.send("die\n")
+        self.assertEqual(process.wait(SECONDS), 128 + signal.SIGKILL)
+        self.send("two\n")
+        time.sleep(0.1)
+        self.start()
+        self.answered("S line 3 frame 0", "A 3 two a = 1;b = 2;")
+
+    def test_a_folder_goes_on_after_all_processes_were_killed(self):
+        process = self.start_and_send()
+        os.killpg(process.pid, signal.SIGKILL)
+        process.wait()
+        self.send("two\n")
+        self.start()
+        self.answered("S line 2 frame 0", "A 2 two a = 1;b = 2;")
+
+    def test_a_stop_with_a_folder_answers_what_has_come(self):
+        process = self.start_and_send()
+        self.send("hold\ntwo\nthr")
+        wait_until(lambda: self.waiting_bytes() == 0)
+        time.sleep(0.1)
+        self.assertEqual(self.stop(process), 0)
+        self.answered("A 2 hold a = 1;b = 2;", "A 3 two a = 1;b = 2;")
+
+    def test_a_stop_before_the_first_line_is_copied(self):
+        """A stop that comes while the folder is opened ends the script as well."""
+        for delay in (0.1, 0.2, 0.3, 0.4, 0.5, 0.6):
+            process = self.start(plant="slow = 1")
+            time.sleep(delay)
+            os.kill(process.pid, signal.SIGTERM)
+            process.wait(SECONDS)
+
+    def test_a_reload_with_a_folder_changes_the_plant(self):
+        process = self.start_and_send()
+        for number, line in ((2, "two"), (3, "three")):
+            status, errors = self.change(f"a = {number}\n---\nbad\n")
+            self.assertEqual((status, errors.count("\n")), (0, 2), errors)
+            self.assertIn(f"the plant is that of {self.folder}/plant.toml. The channel goes on: S line {number} frame 0.", errors)
+            self.send(f"{line}\n")
+            self.answered(f"S line {number} frame 0", f"A {number} {line} a = {number};")
+        self.assertEqual(sorted(path.name for path in self.folder.glob("folder*")), ["folder"])
+        self.assertIsNone(process.poll())
+        self.assertEqual(self.stop(process), 0)
+
+    def test_a_refused_reload_leaves_the_plant_of_the_folder(self):
+        process = self.start_and_send()
+        status, errors = self.change("a = 2\n")
+        self.assertEqual((status, errors.count("\n")), (0, 2), errors)
+        status, errors = self.change("refused\n")
+        self.assertEqual((status, errors.splitlines()[1:3]), (1, ["the reason", "fault: state"]))
+        self.assertIn("is refused (status 3), for the reason above. The channel goes on as before", errors)
+        self.send("two\n")
+        self.answered("S line 2 frame 0", "S line 2 frame 0", "A 2 two a = 2;")
+        self.assertIsNone(process.poll())
+
+    def test_an_invalid_plant_file_is_not_given_to_a_folder(self):
+        self.start_and_send()
+        status, errors = self.change("bad\n")
+        self.assertEqual((status, errors.splitlines()[:2]), (3, ["fault: plant 1", "a reason"]))
+        self.send("two\n")
+        self.answered("A 2 two a = 1;b = 2;")
+
+    def test_a_reload_loses_no_line(self):
+        """A client writes lines all the time, of different lengths. Each is answered once, by the old plant or by the new one."""
+        self.start_and_send()
+        lines, is_done = [], threading.Event()
+
+        def write():
+            while not is_done.wait(0.0005):
+                lines.append(f"{len(lines):0{5 + len(lines) % 50}}")
+                self.send(lines[-1] + "\n")
+
+        writer = threading.Thread(target=write)
+        writer.start()
+        try:
+            found = [self.change(f"{word} = 1\n")[0] for word in ("c", "refused", "d")]
+        finally:
+            is_done.set()
+            writer.join()
+        self.assertEqual(found, [0, 1, 0])
+        wait_until(lambda: f" {lines[-1]} " in self.answers.read_text())
+        answers = [line.split() for line in self.answers.read_text().splitlines() if line.startswith("A ")]
+        self.assertEqual([(int(number), line) for _, number, line, *_ in answers], list(enumerate(lines, 2)))
+        self.assertEqual([file for file, _ in itertools.groupby(fields[3] for fields in answers)], ["a", "c", "d"])
+
+    def test_a_line_p_of_a_client_changes_no_plant(self):
+        self.start_and_send()
+        self.send("P\ntwo\n")
+        self.answered("S line 2 frame 0", "A 2 two a = 1;b = 2;")
+
+    def test_a_reload_without_an_answer_changes_nothing(self):
+        self.start_and_send()
+        self.send("hold\n")
+        status, errors = self.change("a = 2\n", CHANGE_SECONDS="1")
+        self.assertEqual(status, 1)
+        self.assertIn("no answer in time", errors)
+        self.write("go", "")
+        self.send("two\n")
+        self.answered("A 2 hold a = 1;b = 2;", "S line 3 frame 0", "A 3 two a = 1;b = 2;")
+
+    def test_a_reload_of_no_channel(self):
+        self.start_and_send()
+        for environment in ({"FOLDER": "/nowhere"}, {"pipe": "program"}):
+            status, errors = self.change("a = 2\n", **environment)
+            self.assertEqual((status, errors[:38]), (2, "serve_channel: no channel runs with /n" if "FOLDER" in environment else "serve_channel: no channel runs with " + str(self.folder)[:2]))
+
+    def test_a_start_takes_a_changed_plant_file(self):
+        self.stop(self.start_and_send())
+        self.start(plant="a = 2")
+        self.send("two\n")
+        self.answered("S line 2 frame 0", "A 2 two a = 2;")
+
+    def test_a_start_whose_change_is_refused_says_what_to_do(self):
+        self.stop(self.start_and_send())
+        journal = (self.folder / "folder/journal").read_text()
+        process = self.start(plant="refused", NOTIFY_SOCKET="/nowhere")
+        status, errors = self.refused(process)
+        self.assertEqual((status, errors.splitlines()[1:3]), (3, ["the reason", "fault: state"]))
+        self.assertEqual((self.folder / "folder/journal").read_text(), journal)
+        command = errors.splitlines()[-1].split("printed by: ")[1]
+        self.assertEqual(subprocess.run(["sh", "-c", command], capture_output=True, text=True, check=True).stdout, "a = 1\nb = 2\n")
+        self.assertEqual(self.answers.read_text(), "")
+
+    def test_a_folder_that_is_in_use_is_refused(self):
+        self.start_and_send()
+        status, errors = self.refused(self.start())
+        self.assertEqual((status, errors.splitlines()[1:3]), (6, ["in use", "fault: io"]))
+
+    def test_readiness_is_reported_once_the_folder_is_open(self):
+        (self.folder / "bin").mkdir()
+        self.write("bin/systemd-notify", '#!/bin/sh\n[ -e "$PLACE/folder/journal" ] && echo "$*" >"$PLACE/notified"\n', 0o755)
+        self.start(NOTIFY_SOCKET="/nowhere", PATH=f"{self.folder}/bin:{os.environ['PATH']}")
+        notified = self.folder / "notified"
+        wait_until(lambda: notified.exists() and notified.read_text() == f"--ready --status=serving {self.folder}/plant.toml\n")
+
+    def test_each_start_with_a_folder_records_its_input(self):
+        (self.folder / "records").mkdir()
+        process = self.start(RECORDS=str(self.folder / "records"))
+        self.send("one\n")
+        self.answered("S line 1 frame 0", "A 1 one a = 1;b = 2;")
+        self.assertEqual(self.change("a = 2\n")[0], 0)
+        self.send("two\n")
+        self.answered("S line 2 frame 0", "A 2 two a = 2;")
+        self.assertEqual(self.stop(process), 0)
+        self.assertEqual([path.read_text() for path in sorted((self.folder / "records").iterdir())], ["a = 1\nb = 2\n---\none\n", "a = 2\n---\ntwo\n"])
+
+    def test_a_killed_program_that_is_recorded_ends_the_script(self):
+        (self.folder / "records").mkdir()
+        process = self.start(RECORDS=str(self.folder / "records"))
+        self.send("die\n")
+        self.assertEqual(process.wait(SECONDS), 128 + signal.SIGKILL)
+
+    def test_reasons_of_a_folder_have_priorities(self):
+        process = self.start(**self.JOURNAL)
+        self.send("ready\n")
+        self.answered("S line 1 frame 0", "A 1 ready a = 1;b = 2;")
+        self.assertIn("<4>the reason\n<4>fault: state\n<4>serve_channel: the change to ", self.change("refused\n", **self.JOURNAL)[1])
+        self.assertEqual(self.stop(process), 0)
+        self.assertEqual(process.stderr.read(), "ok\nS line 1 frame 0\n<3>a reason\n")
+        _, errors = self.refused(self.start(plant="refused", **self.JOURNAL))
+        self.assertIn("<3>the reason\n<3>fault: state\n<3>serve_channel: the folder ", errors)
+
+
+for name in [name for name in vars(Channel) if name.startswith("test_")]:
+    setattr(FolderChannel, name, None)
 
 
 class Units(unittest.TestCase):
