@@ -83,6 +83,12 @@ class Container:
             self.boss.wait()
         self.boss = None
 
+    def kill(self):
+        """Kills all processes of the container at once."""
+        os.kill(int(self.first), signal.SIGKILL)
+        self.boss.wait(BOOT_SECONDS)
+        self.boss = None
+
     def start(self, script):
         """Starts a script of sh in the container, and returns its process here."""
         words = ["nsenter", "--target", self.first, "--all", "--", "sh", "-c", script]

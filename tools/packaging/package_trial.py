@@ -32,6 +32,11 @@ WRITE_AT_ONCE = 4_096
 PAGES = ("plant_script", "plant_script-serve", "plant.toml", "describe_state")
 PACKAGE = "plant-script"
 NEW_MODEM = "02000000FFFF"
+REQUEST = f"M {NEW_MODEM} 0F0001180A010200010601060F0102\n"
+START = re.compile(r"(?m)^S line (\d+)(?: frame \d+)?\n")
+FOLDER = "/var/lib/plant_script/{}/folder"
+# Finds the program of a channel, whose main process is a script.
+PROGRAM_OF = "for p in $(cat /sys/fs/cgroup$(systemctl show -P ControlGroup plant@{})/cgroup.procs); do [ $(readlink /proc/$p/exe) != /usr/bin/plant_script ] || echo $p; done"
 
 
 def want(condition, what):
@@ -46,6 +51,42 @@ def answers(box, channel):
 def run_answers(box, lines, plant=PLANT):
     """Returns what `run` prints for lines."""
     return box.ask("plant_script run", plant + "---\n" + lines)
+
+
+class Lines:
+    """All lines that a channel with a folder has got, over its starts, and the answers that `serve` gives to them in one run."""
+
+    def __init__(self, channel):
+        self.channel, self.text = channel, ""
+
+    def send(self, box, lines):
+        self.text += lines
+        send(box, self.channel, lines)
+
+    def wait(self, box):
+        wanted = box.ask("plant_script serve", PLANT + "---\n" + self.text)
+        box.wait_until(f"cat /var/lib/plant_script/{self.channel}/answers", lambda output: START.sub("", output) == wanted, f"the answers of {self.channel} are not those of serve")
+
+    def next_line(self):
+        return self.text.count("\n") + 1
+
+    def started(self, box):
+        """Waits for the line of the last start, which must have the number of the next line."""
+        box.wait_until(f"cat /var/lib/plant_script/{self.channel}/answers", lambda output: (START.findall(output) or [""])[-1] == str(self.next_line()),
+                       f"{self.channel} does not go on with line {self.next_line()}")
+
+
+EAST = Lines("east")
+
+
+def begin_anew(box, channel):
+    """Removes the answers and the folder of a channel that is stopped."""
+    box.run(f"rm -rf /var/lib/plant_script/{channel}/answers {FOLDER.format(channel)}")
+
+
+def forget_failures(box):
+    """Resets how often units were started: a unit that is started five times in a minute stays down."""
+    box.ask("systemctl reset-failed 'plant@*'")
 
 
 def send(box, channel, lines):
@@ -110,8 +151,9 @@ def as_the_page_says(box):
     """Runs the commands that docs/OPERATING.md gives for the first start, and stops the channel."""
     box.run("set -e\n" + "\n".join(line for line in section(ROOT, "docs/OPERATING.md#first-start") if line.startswith("    ")))
     output = box.wait_until("cat /var/lib/plant_script/east/answers", lambda output: "MAP " in output, "no MAP after the commands of the page")
-    want(re.fullmatch("R 020000000001 .*\nF A 0 .*\nF B 0 .*\nMAP 0 .*\n", output), f"the commands of the page give\n{output}")
-    box.run("systemctl disable --now plant@east.socket plant@east; rm /var/lib/plant_script/east/answers /var/lib/plant_script/east/state")
+    want(re.fullmatch("S line 1 frame 0\nR 020000000001 .*\nF A 0 .*\nF B 0 .*\nMAP 0 .*\n", output), f"the commands of the page give\n{output}")
+    box.run("systemctl disable --now plant@east.socket plant@east")
+    begin_anew(box, "east")
     return "the commands of docs/OPERATING.md start a channel"
 
 
@@ -121,17 +163,19 @@ def first_start(box):
     want(shown(box, "plant@east", "ActiveState", "StatusText") == ["active", "serving /etc/plant_script/east.toml"], "the channel is not ready")
     want(box.run("stat -c '%F %U:%G %a' /run/plant_script/east/in") == "fifo root:_plant_script 620\n", "the pipe has other rights")
     want(box.run("stat -c '%U:%G %a' /var/lib/plant_script/east/answers") == "_plant_script:_plant_script 640\n", "the answers have other rights")
+    want(box.run(f"stat -c '%U:%G %a' {FOLDER.format('east')}") == "_plant_script:_plant_script 700\n", "the folder has other rights")
+    want(answers(box, "east") == "S line 1 frame 0\n", "the answers do not begin with the line of the start")
     rows = LINES.splitlines(keepends=True)
     for at in range(0, len(rows), 7):
-        send(box, "east", "".join(rows[at:at + 7]))
-    wait_for_answers(box, "east", run_answers(box, LINES))
-    return f"{len(rows)} lines of {len(rows) // 7 + 1} clients are answered as by run"
+        EAST.send(box, "".join(rows[at:at + 7]))
+    EAST.wait(box)
+    return f"{len(rows)} lines of {len(rows) // 7 + 1} clients are answered as by serve"
 
 
 def invalid_line(box):
-    before = answers(box, "east")
-    send(box, "east", "X\n")
-    wait_for_answers(box, "east", before + f"fault: line {len(LINES.splitlines()) + 1}\n")
+    EAST.send(box, "X\n")
+    EAST.wait(box)
+    want(answers(box, "east").endswith(f"\nfault: line {len(LINES.splitlines()) + 1}\n"), "an invalid line has another number")
     return "an invalid line is answered by its number"
 
 
@@ -141,6 +185,8 @@ def rights(box):
         for script in ("echo >> /run/plant_script/east/in", "cat /var/lib/plant_script/east/answers"):
             status, _ = box.status_of(f"runuser -u {user} -- sh -c '{script}'")
             want((status == 0) == is_allowed, f"{user}: {script} ended with status {status}")
+        want(box.status_of(f"runuser -u {user} -- ls {FOLDER.format('east')}")[0], f"{user} may look into the folder")
+    EAST.text += "\n"
     want(box.status_of("runuser -u member -- cat /run/plant_script/east/in")[0], "a member may read the pipe")
     return "members of the group write lines and read answers, others do not"
 
@@ -150,7 +196,7 @@ def second_channel(box):
     before = answers(box, "east")
     box.run("systemctl start plant@west")
     send(box, "west", LINES)
-    wait_for_answers(box, "west", run_answers(box, LINES))
+    wait_for_answers(box, "west", "S line 1 frame 0\n" + run_answers(box, LINES))
     want(answers(box, "east") == before, "lines of one channel have answers in another")
     box.run("systemctl stop plant@west.socket plant@west")
     want(not (box.folder / "run/plant_script/west/in").exists() and box.status_of("test -e /run/plant_script/west/in")[0], "the pipe is still there")
@@ -158,48 +204,93 @@ def second_channel(box):
 
 
 def killed(box):
-    """Kills the program: the channel starts anew, without its flows. Then kills the process that copies the lines: it goes on with its state."""
-    for count, which in enumerate(("systemctl show -P MainPID plant@east", "for p in /proc/[0-9]*; do case $(tr '\\0' ' ' <$p/cmdline) in sed*) basename $p ;; esac; done"), 1):
-        box.run(f"kill -KILL $({which})")
-        box.wait_until("systemctl show -P NRestarts plant@east", lambda output, count=count: output == f"{count}\n", "no restart")
+    """Kills processes of the channel: each time it goes on with its flows, its frame and the number of the next line."""
+    kinds = (f"kill -KILL $({PROGRAM_OF.format('east')})", "systemctl kill --signal=KILL plant@east", "kill -KILL $(systemctl show -P MainPID plant@east)",
+             "for p in /proc/[0-9]*; do case $(tr '\\0' ' ' <$p/cmdline) in sed*) kill -KILL ${p#/proc/} ;; esac; done")
+    for kind in kinds:
+        forget_failures(box)
+        box.run(kind)
+        box.wait_until("systemctl show -P NRestarts plant@east", lambda output: output == "1\n", f"no restart after: {kind}")
         box.wait_until("systemctl is-active plant@east", lambda output: output == "active\n", "not active")
-        before = answers(box, "east")
-        want(before.endswith("\n"), "a line of the answers was cut off")
-        beginning = PLANT if count == 1 else before[before.rindex("melfjits-snapshot "):]
-        send(box, "east", "T\n")
-        wait_for_answers(box, "east", before + box.ask("plant_script resume", beginning + "---\nT\n"))
-    return "the channel restarts with the first frame if its program is killed, and goes on if the process that copies is"
+        EAST.started(box)
+        EAST.send(box, LINES)
+        EAST.wait(box)
+    return "the channel goes on with its next line if its program, its script, the process that copies or all of them are killed"
 
 
 def goes_on(box):
-    """Restarts the channel: it answers with its state, and goes on from there."""
-    before = answers(box, "east")
+    """Restarts the channel: it goes on with its state."""
     box.run("systemctl restart plant@east")
-    state = answers(box, "east").removeprefix(before)
-    want(state.startswith("melfjits-snapshot ") and "\nend " in state, f"a stop is answered by\n{state}")
-    send(box, "east", LINES)
-    wait_for_answers(box, "east", before + state + box.ask("plant_script resume", state + "---\n" + LINES))
+    EAST.started(box)
+    EAST.send(box, LINES)
+    EAST.wait(box)
+    want(not box.ask("ls /var/lib/plant_script/east/state*"), "a stop keeps a state next to the folder")
     return "a restart keeps the state of the channel"
 
 
-def reloaded(box):
+def reloaded(box, channel="east", line=r"S line \d+ frame \d+"):
     """Lists a modem while the channel runs: its lines are answered then, and the flows of the others go on. A change that is refused
     leaves the channel as it is."""
-    before, plant = answers(box, "east"), (box.folder / "etc/plant_script/east.toml").read_text()
-    request = f"M {NEW_MODEM} 0F0001180A010200010601060F0102\n"
-    send(box, "east", request)
-    box.wait_until("tail -n 1 /var/lib/plant_script/east/answers", lambda output: output.startswith("fault: line "), "an unknown modem has an answer")
-    set_plant(box, "east", re.sub(r"(modems = \[)", rf'\1"{NEW_MODEM}", ', plant, count=1))
-    box.run("systemctl reload plant@east")
-    send(box, "east", request)
-    output = box.wait_until("cat /var/lib/plant_script/east/answers", lambda output: f"R {NEW_MODEM} " in output, "a new modem has no answer")
-    want(re.search(r"\nP frame \d+\n", output.removeprefix(before)), "the answers have no change")
-    set_plant(box, "east", plant)
-    want(box.status_of("systemctl reload plant@east")[0], "a modem with a flow is removed")
-    want(shown(box, "plant@east", "ActiveState") == ["active"], "a refused change ended the channel")
-    send(box, "east", "P\n" + request)
-    box.wait_until("tail -n 1 /var/lib/plant_script/east/answers", lambda output: output.startswith(f"R {NEW_MODEM} "), "a refused change changed the plant")
+    before, plant = answers(box, channel), (box.folder / f"etc/plant_script/{channel}.toml").read_text()
+    send(box, channel, REQUEST)
+    box.wait_until(f"tail -n 1 /var/lib/plant_script/{channel}/answers", lambda output: output.startswith("fault: line "), "an unknown modem has an answer")
+    set_plant(box, channel, re.sub(r"(modems = \[)", rf'\1"{NEW_MODEM}", ', plant, count=1))
+    box.run(f"systemctl reload plant@{channel}")
+    send(box, channel, REQUEST)
+    output = box.wait_until(f"cat /var/lib/plant_script/{channel}/answers", lambda output: f"R {NEW_MODEM} " in output, "a new modem has no answer")
+    want(re.search(rf"\n{line}\n", output.removeprefix(before)), "the answers have no change")
+    process = shown(box, f"plant@{channel}", "MainPID", "NRestarts")
+    set_plant(box, channel, plant)
+    want(box.status_of(f"systemctl reload plant@{channel}")[0], "a modem with a flow is removed")
+    want(shown(box, f"plant@{channel}", "ActiveState", "MainPID", "NRestarts") == ["active", *process], "a refused change ended the channel")
+    send(box, channel, "P\n" + REQUEST)
+    box.wait_until(f"tail -n 1 /var/lib/plant_script/{channel}/answers", lambda output: output.startswith(f"R {NEW_MODEM} "), "a refused change changed the plant")
     return "a reload adds a modem, and one that is refused leaves the channel as it is"
+
+
+def changed_while_down(box):
+    """Changes the plant file of a channel that is stopped. The start takes the change. A change that is refused keeps the channel down."""
+    plant = (box.folder / "etc/plant_script/east.toml").read_text()
+    box.run("systemctl stop plant@east")
+    want(box.status_of("systemctl start plant@east")[0], "a modem with a flow is removed by a start")
+    want(shown(box, "plant@east", "ActiveState", "ExecMainStatus", "NRestarts") == ["failed", "3", "0"], "a refused change is tried again")
+    log = box.run("journalctl --unit plant@east --output cat --no-pager")
+    command = re.findall(r"its plant file is printed by: (.*)", log)[-1]
+    box.run(f"{command} > /etc/plant_script/east.toml; systemctl reset-failed plant@east.service plant@east.socket; systemctl start plant@east")
+    send(box, "east", REQUEST)
+    box.wait_until("tail -n 1 /var/lib/plant_script/east/answers", lambda output: output.startswith(f"R {NEW_MODEM} "), "the channel forgot its flow")
+    want((box.folder / "etc/plant_script/east.toml").read_text() != plant, "the plant file of the folder is the old one")
+    box.run("systemctl stop plant@east")
+    more = re.sub(r"(modems = \[)", r'\1"02000000EEEE", ', (box.folder / "etc/plant_script/east.toml").read_text(), count=1)
+    set_plant(box, "east", more)
+    box.run("systemctl start plant@east")
+    send(box, "east", REQUEST.replace(NEW_MODEM, "02000000EEEE"))
+    box.wait_until("tail -n 1 /var/lib/plant_script/east/answers", lambda output: output.startswith("R 02000000EEEE "), "a start does not take a change")
+    return "a start takes a changed plant file; one that is refused keeps the channel down, and the journal says how to go on"
+
+
+def without_folder(box):
+    """Serves a channel with an empty FOLDER: a stop keeps the state, a reload writes the line P, and a channel that is killed begins anew."""
+    set_plant(box, "plain")
+    box.write("/etc/plant_script/plain.env", "FOLDER=\n")
+    box.run("systemctl start plant@plain")
+    send(box, "plain", LINES)
+    wait_for_answers(box, "plain", run_answers(box, LINES))
+    before = answers(box, "plain")
+    box.run("systemctl restart plant@plain")
+    state = answers(box, "plain").removeprefix(before)
+    want(state.startswith("melfjits-snapshot ") and "\nend " in state, f"a stop is answered by\n{state}")
+    send(box, "plain", LINES)
+    wait_for_answers(box, "plain", before + state + box.ask("plant_script resume", state + "---\n" + LINES))
+    reloaded(box, "plain", r"P frame \d+")
+    want("Operator A\n" in box.run("describe_state --channel plain"), "describe_state has no operator A")
+    box.run("kill -KILL $(systemctl show -P MainPID plant@plain)")
+    box.wait_until("systemctl show -P NRestarts plant@plain", lambda output: output == "1\n", "no restart")
+    before = answers(box, "plain")
+    send(box, "plain", "T\n")
+    wait_for_answers(box, "plain", before + run_answers(box, "T\n"))
+    box.run("systemctl stop plant@plain.socket plant@plain; rm -r /var/lib/plant_script/plain /etc/plant_script/plain.toml /etc/plant_script/plain.env")
+    return "without a folder a stop keeps the state, a reload is a line P, and a killed channel begins anew"
 
 
 def watched(box):
@@ -213,7 +304,10 @@ def watched(box):
     output = box.wait_until(f"cat {file}", lambda output: 'fault="line"} 1.0' in output, "an invalid line is not counted")
     want('melfjits_answers_total{channel="east",type="map"} 1.0' in output and 'program="' in output, f"the metrics are\n{output}")
     want(box.run(f"stat -c '%U %a' {file}") == "_plant_script 644\n", "the file has other rights")
+    want(re.search(r'melfjits_journal_bytes\{channel="east"\} \d', output), "no metric of the journal")
+    want("K\n" not in box.run(f"cat {FOLDER.format('east')}/journal"), "the channel is asked by the line K")
     want("Operator A\n" in box.run("describe_state --channel east"), "describe_state has no operator A")
+    want(box.status_of("runuser -u member -- describe_state --channel east")[0] == 6, "a member reads the folder")
     box.run("kill -KILL $(systemctl show -P MainPID plant-metrics@east)")
     send(box, "east", "T\n")
     box.wait_until("tail -n 1 /var/lib/plant_script/east/answers", lambda output: output.startswith("MAP "), "the channel waits for its metrics")
@@ -228,22 +322,23 @@ def reasons(box):
     set_plant(box, "east", plant.replace("frame_us = 2000", "frame_us = 4000", 1))
     want(box.status_of("systemctl reload plant@east")[0], "another frame_us is accepted")
     set_plant(box, "east", plant)
-    box.wait_until("journalctl --unit plant@east --priority warning --output cat --no-pager", lambda output: "the plant is not changed" in output, "no reason in the journal")
+    box.wait_until("journalctl --unit plant@east --priority warning --output cat --no-pager", lambda output: "the plant file does not fit the plant" in output, "no reason in the journal")
     return "the reasons of a refused change are warnings in the journal"
 
 
 def stopped_at_work(box):
-    """Stops the channel while it has much to do: what it got is answered whole, and then its state."""
+    """Stops the channel while it has much to do: what it got is answered whole."""
     lines = "T\n" * 200_000
-    box.run("systemctl stop plant@east; rm /var/lib/plant_script/east/state")
-    before = answers(box, "east")
+    box.run("systemctl stop plant@east")
+    begin_anew(box, "east")
+    set_plant(box, "east")
     box.run("systemctl start plant@east")
     sender = box.start("cat > /run/plant_script/east/in; echo sent")
     sender.stdin.write(lines)
     box.run("systemctl stop plant@east.socket plant@east")
     sender.communicate()
     want(shown(box, "plant@east", "ActiveState", "Result", "ExecMainStatus") == ["inactive", "success", "0"], "the channel did not end well")
-    done = answers(box, "east").removeprefix(before).split("melfjits-snapshot ")[0]
+    done = answers(box, "east").removeprefix("S line 1 frame 0\n")
     frames = done.count("MAP ")
     want(0 < frames < 200_000 and done == run_answers(box, "T\n" * frames), "the answers are not those of whole lines")
     return f"a stop in the middle of the work leaves whole answers ({frames} of 200,000 frames)"
@@ -260,7 +355,7 @@ def invalid_plant(box):
     set_plant(box, "bad")
     box.run("systemctl reset-failed plant@bad.service plant@bad.socket; systemctl start plant@bad")
     send(box, "bad", LINES)
-    wait_for_answers(box, "bad", run_answers(box, LINES))
+    wait_for_answers(box, "bad", "S line 1 frame 0\n" + run_answers(box, LINES))
     box.run("systemctl stop plant@bad.socket plant@bad")
     want(box.status_of("systemctl start plant@none")[0], "a channel without a plant file starts")
     return "an invalid plant file is reported, and not tried again; once it is mended, the channel starts"
@@ -298,25 +393,29 @@ def full_disk(box):
 
 def recorded(box):
     box.write("/etc/systemd/system/plant@east.service.d/record.conf", "[Service]\nEnvironment=RECORDS=/var/lib/plant_script/east\n")
-    before = answers(box, "east")
-    box.run("rm -f /var/lib/plant_script/east/state; systemctl daemon-reload; systemctl start plant@east")
-    send(box, "east", LINES)
-    wanted = run_answers(box, LINES)
-    wait_for_answers(box, "east", before + wanted)
+    begin_anew(box, "east")
+    EAST.text = ""
+    box.run("systemctl daemon-reload; systemctl start plant@east")
+    EAST.send(box, LINES)
+    EAST.wait(box)
     box.run("systemctl stop plant@east")
-    want(box.run("cat /var/lib/plant_script/east/*.txt | plant_script run") == wanted, "the record does not give the answers")
+    want(box.run("cat /var/lib/plant_script/east/*.txt | plant_script run") == run_answers(box, LINES), "the record does not give the answers")
     return "run gives the same answers from a record"
 
 
 def rebooted(box):
-    box.stop()
-    state = (box.folder / "var/lib/plant_script/east/state").read_text()
-    box.boot()
-    box.wait_until("systemctl is-active plant@east", lambda output: output == "active\n", "the channel is not there after a reboot")
-    before = answers(box, "east")
-    send(box, "east", LINES)
-    wait_for_answers(box, "east", before + box.ask("plant_script resume", state + "---\n" + LINES))
-    return "an enabled channel is there after a reboot, and goes on with its state"
+    """Powers the machine off, and then takes its power away."""
+    for end in (box.stop, box.kill):
+        box.run("systemctl start plant@east")
+        EAST.send(box, LINES)
+        EAST.wait(box)
+        end()
+        box.boot()
+        box.wait_until("systemctl is-active plant@east", lambda output: output == "active\n", "the channel is not there after a reboot")
+        EAST.started(box)
+    EAST.send(box, LINES)
+    EAST.wait(box)
+    return "an enabled channel is there after a reboot and after a machine that was killed, and goes on"
 
 
 def newer(package, work):
@@ -329,16 +428,23 @@ def newer(package, work):
 
 
 def upgraded(box, package, work):
-    process, before = shown(box, "plant@east", "MainPID", "NRestarts"), answers(box, "east")
+    process = shown(box, "plant@east", "MainPID", "NRestarts")
     box.copy(newer(package, work), "/root/newer.deb")
     box.run("dpkg --install /root/newer.deb")
     want(box.run(f"dpkg-query -W -f '${{Version}}' {PACKAGE}").endswith(".1"), "the package has not the later version")
     want(shown(box, "plant@east", "MainPID", "NRestarts") == process, "the upgrade restarted the channel")
-    send(box, "east", "T A\n")
-    box.wait_until("cat /var/lib/plant_script/east/answers", lambda output: len(output) > len(before), "no answer after the upgrade")
+    program = box.run(PROGRAM_OF.format("east").replace("!= /usr/bin/plant_script", "!= '/usr/bin/plant_script (deleted)'").replace("$(readlink", '"$(readlink').replace("/exe)", '/exe)"'))
+    want(program, "the program of the channel is not the old one")
+    EAST.send(box, "T A\n")
+    EAST.wait(box)
+    box.run("systemctl reload plant@east")
+    want(box.run(PROGRAM_OF.format("east")), "a reload does not take the new program")
     box.run("systemctl restart plant@east")
     want(shown(box, "plant@east", "MainPID") != process[:1], "no restart")
-    return "an upgrade leaves the channel running; a restart takes the new program"
+    EAST.started(box)
+    EAST.send(box, "T B\nT\n")
+    EAST.wait(box)
+    return "an upgrade leaves the channel running with its folder; a reload or a restart takes the new program and goes on"
 
 
 def purged(box):
@@ -346,7 +452,7 @@ def purged(box):
     box.run(f"dpkg --remove {PACKAGE}")
     left = box.run("systemctl list-units --no-legend --state=active,activating,deactivating 'plant@*'")
     want(not left, f"left after the removal:\n{left}")
-    want(answers(box, "east"), "the answers are gone after the removal")
+    want(answers(box, "east") and (box.folder / FOLDER.format("east")[1:] / "journal").exists(), "answers or folder are gone after the removal")
     box.run(f"dpkg --purge {PACKAGE}")
     left = box.run("find / -xdev '(' -path '*plant[-_]script*' -o -path '*/plant@*' -o -path '*/plant-ticker@*' -o -path '*/plant-metrics@*' -o -name 'describe_state*' -o -name '__pycache__' -path '*plant*' ')' ! -path '/proc/*' ! -path '/var/log/*' ! -path '/var/cache/man/*'").split()
     owners = ["/etc/plant_script", "/etc/plant_script/bad.toml", "/etc/plant_script/east.toml", "/etc/plant_script/west.toml",
@@ -361,7 +467,7 @@ def from_tarball(box, package):
     box.run("tar --extract --strip-components=1 --directory=/ --file=/root/package.tar.gz; systemd-sysusers; systemd-tmpfiles --create; systemctl daemon-reload")
     box.run("rm -r /etc/systemd/system/plant@east.service.d; systemctl daemon-reload; systemctl start plant@east")
     send(box, "east", LINES)
-    wait_for_answers(box, "east", run_answers(box, LINES))
+    wait_for_answers(box, "east", "S line 1 frame 0\n" + run_answers(box, LINES))
     return "the files of the tarball serve a channel"
 
 
@@ -369,8 +475,9 @@ def trials(box, package, work):
     """Yields a line for each trial."""
     yield lintian(package)
     yield install(box, package)
-    for trial in (complete, verify_units, as_the_page_says, first_start, invalid_line, rights, second_channel, killed, goes_on, reloaded, reasons, watched, ticked,
-                  stopped_at_work, invalid_plant, full_disk, recorded, rebooted):
+    for trial in (complete, verify_units, as_the_page_says, first_start, invalid_line, rights, second_channel, killed, goes_on, reloaded, reasons, changed_while_down, without_folder, watched,
+                  ticked, stopped_at_work, invalid_plant, full_disk, recorded, rebooted):
+        forget_failures(box)
         yield trial(box)
     yield upgraded(box, package, work)
     yield purged(box)
