@@ -21,7 +21,7 @@ from unittest import mock
 
 from tools import ROOT
 from tools.manual.documents import section
-from tools.watching import describe_state, metrics, watch_channel
+from tools.watching import describe_state, folder_states, metrics, watch_channel
 from tools.watching.figures import Figures
 from tools.watching.operator_state import Unreadable, operators_of_modems, read_state
 from tools.watching.outputs import Outputs
@@ -181,8 +181,9 @@ class Metrics(unittest.TestCase):
         self.assertTrue(all('channel="east"' in key for key in self.found(figures, name)))
 
     def test_answers_by_type(self):
-        self.assert_values(figures_of(ANSWERS + SNAPSHOT), "answers_total", reply=5, drop=3, frame=4, map=2, fault=3, change=1, snapshot=1)
-        self.assert_values(figures_of(b""), "answers_total", reply=0, drop=0, frame=0, map=0, fault=0, change=0, snapshot=0)
+        self.assert_values(figures_of(ANSWERS + SNAPSHOT), "answers_total", reply=5, drop=3, frame=4, map=2, fault=3, change=1, start=0, snapshot=1)
+        self.assert_values(figures_of(b""), "answers_total", reply=0, drop=0, frame=0, map=0, fault=0, change=0, start=0, snapshot=0)
+        self.assert_values(figures_of(b"S line 18 frame 9\nS line 19\nS line x\n"), "answers_total", reply=0, drop=0, frame=0, map=0, fault=0, change=0, start=2, snapshot=0)
 
     def test_replies_by_code(self):
         """The labels are in the order of their names: the code and the operator. A modem that is not listed has none."""
@@ -233,6 +234,16 @@ class Metrics(unittest.TestCase):
         records = RECORDS.replace(f"=258 - ={BEST_EFFORT} ={BEST_EFFORT} - 9 70 15", "- - - - - 9 0 15")
         self.assertEqual(self.found(figures_of(snapshot_text(records)), "flows")['melfjits_flows{channel="east",operator="Alfa",state="null"}'], 1)
 
+    def test_the_journal(self):
+        """The time is that at which a saved state was first seen."""
+        figures = figures_of(ANSWERS)
+        self.assertEqual(self.found(figures, "journal_bytes"), {})
+        for measured, now, last in (((500, True), 100, 100), ((600, False), 110, 100), (None, 120, 100), ((90, True), 130, 130)):
+            figures.take_journal(measured, now)
+            if measured:
+                self.assertEqual(self.found(figures, "journal_bytes"), {'melfjits_journal_bytes{channel="east"}': measured[0]})
+            self.assertEqual(self.found(figures, "saved_state_timestamp_seconds"), {'melfjits_saved_state_timestamp_seconds{channel="east"}': last})
+
     def test_build(self):
         self.assertEqual(self.found(figures_of(b""), "build_info"), {
             'melfjits_build_info{channel="east",kit="rattle-kit 1",package="0.1-1",program="proved",version="0.1"}': 1})
@@ -257,12 +268,16 @@ class Metrics(unittest.TestCase):
     @unittest.skipUnless(shutil.which("promtool"), "promtool is not installed: the metrics were not checked")
     def test_promtool_has_no_remark(self):
         for data in (b"", ANSWERS + SNAPSHOT):
-            text = metrics.text_of_metrics("east", figures_of(data), BUILD)
+            figures = figures_of(data)
+            figures.take_journal((1_000, True) if data else None, 100)
+            text = metrics.text_of_metrics("east", figures, BUILD)
             done = subprocess.run(["promtool", "check", "metrics"], input=text, capture_output=True, check=False)
             self.assertEqual((done.returncode, done.stdout, done.stderr), (0, b"", b""))
 
     def test_the_page_lists_these_metrics(self):
-        text = metrics.text_of_metrics("east", figures_of(ANSWERS + SNAPSHOT), BUILD).decode()
+        figures = figures_of(ANSWERS + SNAPSHOT)
+        figures.take_journal((1_000, True), 100)
+        text = metrics.text_of_metrics("east", figures, BUILD).decode()
         written = dict(line.split()[2:] for line in text.splitlines() if line.startswith("# TYPE"))
         rows = [re.match(r"\| `(melfjits_\w+)`[^|]*\| (\w+) \|", line) for line in section(ROOT, "docs/OPERATING.md#metrics")]
         self.assertEqual({row[1]: row[2] for row in rows if row}, written)
@@ -485,13 +500,33 @@ class Process(unittest.TestCase):
         self.append(b"F B 17 0/6/40/32\nMAP 17 01\n")
         wait_until(lambda: self.waiting() == b"K\n")
 
+    def last_snapshot(self):
+        return re.search("last_snapshot_timestamp_seconds{.*", self.file.read_text())[0]
+
     def waiting(self):
         with contextlib.suppress(BlockingIOError):
             return os.read(self.pipe, 65_536)
         return b""
 
+    def test_a_channel_with_a_folder_is_not_asked(self):
+        program, folder = self.folder / "program", self.folder / "folder"
+        program.write_text(f"#!/bin/sh\n[ $1 = resume ] || exit 2\nPYTHONPATH={ROOT} exec {sys.executable} -P -m tools.reference resume\n")
+        program.chmod(0o755)
+        folder.mkdir()
+        (folder / "journal").write_bytes(journal_text())
+        self.start(FOLDER=str(folder), PLANT_SCRIPT=str(program), SNAPSHOT_SECONDS="600")
+        wait_until(lambda: self.has('melfjits_committed_minislots{channel="east",operator="Alfa"} 6.0\n'))
+        self.assertTrue(self.has(f'melfjits_journal_bytes{{channel="east"}} {len(journal_text())}.0\n'))
+        self.assertTrue(self.has('melfjits_saved_state_timestamp_seconds{channel="east"} '))
+        # A start may be with another plant, so its state is computed at once.
+        (folder / "journal").write_bytes(journal_text(b"Z 30 8/24/24 40/32/29"))
+        self.append(b"S line 7 frame 17\n")
+        first = self.last_snapshot()
+        wait_until(lambda: self.has('type="start"} 1.0\n') and self.last_snapshot() != first)
+        self.assertEqual(self.waiting(), b"")
+
     def test_a_channel_without_a_state_is_not_asked(self):
-        self.start(SNAPSHOT_SECONDS="1", STATE="")
+        self.start(SNAPSHOT_SECONDS="1", STATE="", FOLDER="")
         time.sleep(0.5)
         self.assertEqual(self.waiting(), b"")
 
@@ -560,6 +595,115 @@ Operator B
     def test_a_budget_below_what_is_committed_cannot_be_read(self):
         with self.assertRaises(Unreadable):
             read_state(snapshot_text(RECORDS.replace("slice 8 30 28", "slice 8 30 5")))
+
+
+def journal_text(*lines, since=5, rest=b"-"):
+    """Returns a journal of the snapshot and of lines since."""
+    saved = b"".join(b"=" + line + b"\n" for line in (b"line %d" % since, *SNAPSHOT.splitlines()))
+    return saved + b"\n" + b"".join(b"+" + line + b"\n" for line in lines) + rest
+
+
+class Folder(unittest.TestCase):
+    """The state in the folder of a channel. The second implementation does the lines again."""
+
+    def setUp(self):
+        folder = tempfile.TemporaryDirectory()
+        self.addCleanup(folder.cleanup)
+        self.top, self.folder = pathlib.Path(folder.name), pathlib.Path(folder.name, "folder")
+        self.folder.mkdir()
+        self.program = self.top / "program"
+        self.program.write_text(f"#!/bin/sh\nPYTHONPATH={ROOT} exec {sys.executable} -P -m tools.reference \"$@\"\n")
+        self.program.chmod(0o755)
+
+    def write(self, data):
+        (self.folder / "journal").write_bytes(data)
+
+    def describe(self, *words):
+        environment = {**os.environ, "PLANT_SCRIPT": str(self.program)}
+        done = subprocess.run([ROOT / "tools/describe_state", *words], capture_output=True, text=True, check=False, env=environment)
+        return done.returncode, done.stdout, done.stderr
+
+    def frame(self, data):
+        self.write(data)
+        return read_state(folder_states.snapshot_of_folder(self.folder, self.program)).frame
+
+    def test_the_saved_state(self):
+        self.write(journal_text())
+        before = (self.folder / "journal").stat()
+        self.assertEqual(self.describe("--folder", self.folder), (0, Words.WORDS, ""))
+        self.assertEqual(sorted(path.name for path in self.folder.iterdir()), ["journal"])
+        self.assertEqual((self.folder / "journal").stat().st_mtime_ns, before.st_mtime_ns)
+
+    def test_lines_since_count(self):
+        self.assertEqual(self.frame(journal_text(b"T", b"T Alfa", b"X", b"", b"T B", b"T")), 20)
+
+    def test_lines_that_only_resume_knows_are_invalid(self):
+        """A change of the plant would take the ticks as lines of its file, and another frame number would show."""
+        self.assertEqual(self.frame(journal_text(b"K", b"P", b"T", b"N 536870929", b"T")), 19)
+
+    def test_a_copy_that_ends_within_a_batch_is_cut(self):
+        whole = journal_text(b"T", b"T", rest=b"")
+        for cut, frame in ((1, 18), (2, 18), (3, 18), (4, 17), (6, 17)):
+            self.assertEqual(self.frame(whole[:-cut]), frame, cut)
+        self.assertEqual(self.frame(journal_text(b"T", rest=b"-T\n+T\n-")), 18)
+
+    def test_operators_that_have_ticked_apart_have_no_state(self):
+        self.write(journal_text(b"T", b"T B"))
+        status, output, errors = self.describe("--folder", self.folder)
+        self.assertEqual((status, output), (1, ""))
+        self.assertIn("some operators may have ticked and others not: the program answers fault: line 3", errors)
+
+    def test_what_is_no_journal_has_no_state(self):
+        for data in (b"", b"=line 5\n", b"=line 5\n\n-", SNAPSHOT):
+            self.write(data)
+            self.assertEqual(self.describe("--folder", self.folder)[0], 1, data)
+        self.assertEqual(self.describe("--folder", "/nowhere")[0], 6)
+        self.assertEqual((self.describe("--folder", self.folder, "-")[0], self.describe("--folder", self.folder, "--channel", "east")[0]), (2, 2))
+
+    def test_the_folder_of_a_channel(self):
+        with mock.patch.object(describe_state, "SETTINGS", str(self.top / "{}.env")):
+            self.assertEqual(describe_state.folder_of("east"), "/var/lib/plant_script/east/folder")
+            for text, folder in (("FOLDER=\n", ""), ('RECORDS=/x\nFOLDER="/srv/a b"\n', "/srv/a b"), ("STATE=\n", "/var/lib/plant_script/east/folder")):
+                (self.top / "east.env").write_text(text)
+                self.assertEqual(describe_state.folder_of("east"), folder)
+
+    def taken(self, states, now):
+        """Returns the next snapshot that is computed, if the time stays."""
+        wait_until(lambda: states.replay is None or not states.replay.is_running())
+        return states.take(now)
+
+    def test_a_state_once_a_period(self):
+        states = folder_states.FolderStates(self.folder, self.program, 60, 1_000)
+        self.write(journal_text(b"T"))
+        self.assertIsNone(states.take(999))
+        self.assertIsNone(states.replay)
+        self.assertIsNone(states.take(1_000))
+        self.assertEqual(read_state(self.taken(states, 1_001)).frame, 18)
+        self.assertIsNone(states.replay)
+        states.hasten(1_002)
+        states.take(1_002)
+        self.write(journal_text(b"T B"))
+        self.assertEqual(read_state(self.taken(states, 1_062)).frame, 18)
+        self.assertIsNone(self.taken(states, 1_063))
+        self.assertIsNone(states.take(1_064))
+
+    def test_no_period_and_no_folder(self):
+        states = folder_states.FolderStates(self.folder, self.program, 0, 0)
+        self.write(journal_text())
+        states.hasten(1)
+        self.assertIsNone(states.take(2))
+        self.assertIsNone(states.replay)
+        none = folder_states.FolderStates("/nowhere", self.program, 1, 0)
+        self.assertIsNone(none.take(2))
+        self.assertIsNone(none.measure())
+
+    def test_a_saved_state_is_known_by_its_line(self):
+        states = folder_states.FolderStates(self.folder, self.program, 0, 0)
+        for data, is_new in ((journal_text(), True), (journal_text(b"T"), False), (journal_text(since=6), True), (journal_text(since=6), False)):
+            self.write(data)
+            self.assertEqual(states.measure(), (len(data), is_new))
+        self.write(b"=line\n")
+        self.assertIsNone(states.measure())
 
 
 class Asking(unittest.TestCase):

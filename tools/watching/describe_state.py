@@ -1,10 +1,16 @@
 """Prints the state of a channel in words: its frame, and for each operator slice, budget, flows, what is committed, responses and inbox.
 
-    describe_state [--json] FILE             reads a snapshot, such as /var/lib/plant_script/NAME/state; - is standard input
-    describe_state [--json] --channel NAME   asks the channel NAME of this machine for a snapshot, by the line K
+    describe_state [--json] --channel NAME    says it of the channel NAME of this machine
+    describe_state [--json] --folder FOLDER   reads the folder of a channel, such as /var/lib/plant_script/NAME/folder
+    describe_state [--json] FILE              reads a snapshot; - is standard input
 
---json prints an object in place of the words. --channel needs the rights of a client: a member of the group _plant_script has them.
-The channel must run with a STATE, and its answers must be in a file. The snapshot is one more answer there. Its readers skip it.
+--json prints an object in place of the words. Of a channel with a folder the state is computed from a copy of the journal there, also while
+the channel is stopped. Only root and the user _plant_script may read the folder. The program PLANT_SCRIPT, or /usr/bin/plant_script, does
+the lines of the copy again.
+
+If /etc/plant_script/NAME.env has an empty FOLDER=, --channel asks the channel for a snapshot by the line K. This needs the rights of a
+client: a member of the group _plant_script has them. The channel must run with a STATE, and its answers must be in a file. The snapshot is
+one more answer there. Its readers skip it.
 
 Exit status: 0 success; 1 the channel gave no snapshot; 2 wrong arguments; 3 the text is not a snapshot; 6 a file cannot be read or written.
 """
@@ -12,17 +18,21 @@ Exit status: 0 success; 1 the channel gave no snapshot; 2 wrong arguments; 3 the
 import argparse
 import dataclasses
 import json
+import os
 import pathlib
+import re
 import sys
 import time
 
 from tools.reference.resuming import SNAPSHOT
 
+from .folder_states import NoState, snapshot_of_folder
 from .operator_state import Unreadable, read_state
 from .outputs import Outputs
 from .snapshot_requests import write_request
 
 PIPE, ANSWERS = "/run/plant_script/{}/in", "/var/lib/plant_script/{}/answers"
+SETTINGS, FOLDER, PROGRAM = "/etc/plant_script/{}.env", "/var/lib/plant_script/{}/folder", "/usr/bin/plant_script"
 SECONDS = 5
 PAUSE_SECONDS = 0.05
 
@@ -94,15 +104,33 @@ def ask_channel(pipe, answers, seconds=SECONDS):
 def read_arguments():
     ask = argparse.ArgumentParser("describe_state", description=__doc__, formatter_class=argparse.RawDescriptionHelpFormatter)
     ask.add_argument("--json", action="store_true", help="print an object")
-    ask.add_argument("--channel", metavar="NAME", help="ask this channel of the machine")
+    ask.add_argument("--channel", metavar="NAME", help="a channel of the machine")
+    ask.add_argument("--folder", metavar="FOLDER", help="the folder of a channel")
     ask.add_argument("file", metavar="FILE", nargs="?", help="a snapshot")
     asked = ask.parse_args()
-    if (asked.channel is None) == (asked.file is None):
-        ask.error("give a FILE or --channel NAME")
+    if (asked.channel, asked.folder, asked.file).count(None) != 2:
+        ask.error("give --channel NAME, --folder FOLDER or a FILE")
     return asked
 
 
+def folder_of(channel):
+    """Returns the folder of a channel, or an empty text if its settings say that it has none."""
+    path = pathlib.Path(SETTINGS.format(channel))
+    found = re.findall(r"(?m)^FOLDER=(.*)$", path.read_text()) if path.exists() else []
+    return found[-1].strip("\"' ") if found else FOLDER.format(channel)
+
+
+def state_in_folder(folder):
+    try:
+        return snapshot_of_folder(folder, os.environ.get("PLANT_SCRIPT") or PROGRAM)
+    except NoState as fault:
+        raise NoAnswer(f"the journal in {folder} gives no state: {fault}") from fault
+
+
 def snapshot_of(asked):
+    folder = asked.folder if asked.channel is None else folder_of(asked.channel)
+    if folder:
+        return state_in_folder(folder)
     if asked.channel is not None:
         return ask_channel(PIPE.format(asked.channel), ANSWERS.format(asked.channel))
     return sys.stdin.buffer.read() if asked.file == "-" else pathlib.Path(asked.file).read_bytes()

@@ -15,6 +15,7 @@ LINES = {kind: re.compile(pattern) for kind, pattern in (
     ("map", rb"MAP (\d+) [0-9A-F]+"),
     ("fault", rb"fault: (\w+)(?: .*)?"),
     ("change", rb"P frame \d+"),
+    ("start", rb"S line \d+(?: frame \d+)?"),
 )}
 ELEMENT = re.compile(rb" (\d+)/(\d+|P)(?:/\d+/(\d+))?")
 POLL = b"1"
@@ -32,6 +33,7 @@ class Figures:
         self.replies, self.drops = Counter(), Counter()
         self.minislots, self.pending, self.intervals = Counter(), Counter(), Counter()
         self.seconds_of_intervals, self.frame, self.last_map, self.last_snapshot = 0.0, None, None, None
+        self.journal_bytes = self.last_saved = None
         self.is_at_rest = True
 
     def take(self, output, now):
@@ -46,13 +48,20 @@ class Figures:
         return None
 
     def take_snapshot(self, output, now):
-        try:
-            self.state = read_state(output)
-        except Unreadable:
+        """Counts a snapshot among the answers, and takes its state."""
+        if not self.take_state(output, now):
             return None
         self.outputs["snapshot"] += 1
-        self.operator_of, self.last_snapshot = self.state.operator_of, now
         return "snapshot"
+
+    def take_state(self, snapshot, now):
+        """Takes the state of a snapshot, and returns whether it can be read."""
+        try:
+            self.state = read_state(snapshot)
+        except Unreadable:
+            return False
+        self.operator_of, self.last_snapshot = self.state.operator_of, now
+        return True
 
     def operator(self, modem):
         return self.operator_of.get(modem.decode(), "")
@@ -68,6 +77,15 @@ class Figures:
 
     def take_change(self, now):
         """Does no more than the count of the line."""
+
+    def take_start(self, now):
+        """Does no more than the count of the line."""
+
+    def take_journal(self, measured, now):
+        """Notes how many bytes the journal has, and when it has another saved state."""
+        if measured is not None:
+            self.journal_bytes, is_new = measured
+            self.last_saved = now if is_new else self.last_saved
 
     def take_frame(self, name, elements, now):
         self.is_at_rest, name = False, name.decode()

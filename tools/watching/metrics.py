@@ -38,6 +38,8 @@ class Collector:
             yield from self.maps()
         if self.figures.state is not None:
             yield from self.states()
+        if self.figures.journal_bytes is not None:
+            yield from self.journal()
         yield self.gauge("build_info", "The installed program: version, toolchain kit, package, and whether it is the proved one. Always 1.",
                          [(tuple(self.build.values()), 1)], *self.build)
 
@@ -67,6 +69,12 @@ class Collector:
             "melfjits_map_interval_seconds", "Time from one MAP to the next as a reader of the answers sees it. It is not the time of a tick.", labels=("channel",))
         histogram.add_metric((self.channel,), buckets, figures.seconds_of_intervals)
         yield histogram
+
+    def journal(self):
+        figures = self.figures
+        yield self.gauge("journal_bytes", "Bytes of the journal: the saved state and the lines since.", [((), figures.journal_bytes)])
+        yield self.gauge("saved_state_timestamp_seconds", "Time at which the journal was first seen with its saved state, in seconds since 1970.",
+                         [((), figures.last_saved)])
 
     def states(self):
         operators = self.figures.state.operators

@@ -6,8 +6,10 @@ CHANNEL is the value of the label `channel`. PLANT is the plant file, PIPE the p
 
     ANSWERS            the file to which the channel appends its answers
     METRICS            the folder in which melfjits_CHANNEL.prom is replaced each second
-    SNAPSHOT_SECONDS   how often the channel is asked for its state by the line K (60); with 0, never
-    STATE              if it is empty, the channel knows no line K, and is not asked
+    FOLDER             the folder of the channel: its state is computed from a copy of the journal there
+    SNAPSHOT_SECONDS   how often that is done (60); with 0, never. Without a FOLDER, the channel is asked as often by the line K
+    STATE              if this and FOLDER are empty, the channel knows no line K, and is not asked
+    PLANT_SCRIPT       the program (/usr/bin/plant_script)
 
 It begins at the end of ANSWERS, and follows the file: also after `copytruncate`, and when a new file has its name. It never makes the
 channel wait. The unit removes the file once this has ended. Exit status: 2 wrong arguments or no ANSWERS; 6 METRICS cannot be
@@ -26,6 +28,7 @@ from tools import show_help
 
 from . import metrics
 from .figures import Figures
+from .folder_states import FolderStates
 from .operator_state import Unreadable, operators_of_modems
 from .outputs import Outputs
 from .snapshot_requests import SnapshotRequests
@@ -81,17 +84,24 @@ def replace_file(path, data):
 class Watch:
     """What is read of a channel, and the file of its metrics."""
 
-    def __init__(self, channel, figures, requests, path, build):
-        self.channel, self.figures, self.requests, self.path, self.build = channel, figures, requests, path, build
-        self.outputs = Outputs()
+    def __init__(self, channel, figures, requests, states, path, build):
+        self.channel, self.figures, self.requests, self.states = channel, figures, requests, states
+        self.path, self.build, self.outputs = path, build, Outputs()
 
     def take(self, data):
         for output in self.outputs.take(data):
             kind = self.figures.take(output, time.time())
             if kind in ("snapshot", "fault"):
                 self.requests.answered(kind == "fault")
-            elif kind == "change":
+            elif kind in ("change", "start"):
                 self.requests.hasten(time.monotonic())
+                self.states.hasten(time.monotonic())
+
+    def take_folder(self, now):
+        """Takes the state from the folder of the channel, if it has one."""
+        self.figures.take_journal(self.states.measure(), time.time())
+        if snapshot := self.states.take(now):
+            self.figures.take_state(snapshot, time.time())
 
     def write(self):
         replace_file(self.path, metrics.text_of_metrics(self.channel, self.figures, self.build))
@@ -102,6 +112,8 @@ class Watch:
         while True:
             now = time.monotonic()
             if now >= due:
+                if self.states.folder:
+                    self.take_folder(now)
                 self.write()
                 due = max(due + PERIOD_SECONDS, now)
             if self.figures.is_at_rest:
@@ -126,9 +138,11 @@ def watch_channel(channel, plant, pipe, environment):
         raise Ended(2, "the answers are in no file (ANSWERS), or no folder is given (METRICS)")
     # (what is answered from here on is read, also if tail starts late)
     place = os.path.getsize(answers) if os.path.exists(answers) else 0
-    period = period_of(environment.get("SNAPSHOT_SECONDS") or "60") * (environment.get("STATE") != "")
-    watch = Watch(channel, Figures(modems_of_file(plant)), SnapshotRequests(pipe, period, time.monotonic()),
-                  pathlib.Path(folder, f"melfjits_{channel}.prom"), build_of(environment.get("PLANT_SCRIPT", "/usr/bin/plant_script")))
+    program, state_folder, now = environment.get("PLANT_SCRIPT", "/usr/bin/plant_script"), environment.get("FOLDER", ""), time.monotonic()
+    period = period_of(environment.get("SNAPSHOT_SECONDS") or "60")
+    is_asked = not state_folder and environment.get("STATE") != ""
+    watch = Watch(channel, Figures(modems_of_file(plant)), SnapshotRequests(pipe, period * is_asked, now),
+                  FolderStates(state_folder, program, period, now), pathlib.Path(folder, f"melfjits_{channel}.prom"), build_of(program))
     words = ["tail", f"--bytes=+{place + 1}", "--follow=name", "--retry", "--", answers]
     with subprocess.Popen(words, stdout=subprocess.PIPE, env={**environment, "LC_ALL": "C"}) as tail:
         # (tail ends once nobody reads its output, also if this process is killed)
