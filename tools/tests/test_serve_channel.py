@@ -613,9 +613,12 @@ class FolderChannel(Channel):
     def test_a_start_whose_change_is_refused_says_what_to_do(self):
         self.stop(self.start_and_send())
         journal = (self.folder / "folder/journal").read_text()
-        process = self.start(plant="refused", NOTIFY_SOCKET="/nowhere")
+        (self.folder / "bin").mkdir()
+        self.write("bin/systemd-notify", '#!/bin/sh\ntouch "$PLACE/notified"\n', 0o755)
+        process = self.start(plant="refused", NOTIFY_SOCKET="/nowhere", PATH=f"{self.folder}/bin:{os.environ['PATH']}")
         status, errors = self.refused(process)
         self.assertEqual((status, errors.splitlines()[1:3]), (3, ["the reason", "fault: state"]))
+        self.assertFalse((self.folder / "notified").exists())
         self.assertEqual((self.folder / "folder/journal").read_text(), journal)
         command = errors.splitlines()[-1].split("printed by: ")[1]
         self.assertEqual(subprocess.run(["sh", "-c", command], capture_output=True, text=True, check=True).stdout, "a = 1\nb = 2\n")
@@ -656,7 +659,7 @@ class FolderChannel(Channel):
         self.answered("S line 1 frame 0", "A 1 ready a = 1;b = 2;")
         self.assertIn("<4>the reason\n<4>fault: state\n<4>serve_channel: the change to ", self.change("refused\n", **self.JOURNAL)[1])
         self.assertEqual(self.stop(process), 0)
-        self.assertEqual(process.stderr.read(), "ok\nS line 1 frame 0\n<3>a reason\n")
+        self.assertEqual(process.stderr.read(), "ok\n<6>serve_channel: the channel goes on: S line 1 frame 0\n<3>a reason\n")
         _, errors = self.refused(self.start(plant="refused", **self.JOURNAL))
         self.assertIn("<3>the reason\n<3>fault: state\n<3>serve_channel: the folder ", errors)
 
@@ -693,7 +696,7 @@ EDITS = [
     ("the_plant_file_ends_at_its_separator", "'/^---$/ { exit } ", "'"),
     ("the_plant_file_ends_at_its_separator", "plant_file && echo ---; }", "plant_file; }"),
     ("a_missing_plant_file_is_refused", "    exit 3\n", "    exit 1\n"),
-    ("an_invalid_plant_file_is_refused_with_its_reason", '    exit "$status"\n', "    exit 1\n"),
+    ("an_invalid_plant_file_is_refused_with_its_reason", '        exit "$status"\n', "        exit 1\n"),
     ("an_invalid_plant_file_is_refused_with_its_reason", "check 2>&1 | ", "check 2>/dev/null | "),
     ("an_invalid_plant_file_is_refused_with_its_reason", "status=${PIPESTATUS[1]}", "status=${PIPESTATUS[0]}"),
     ("answers_that_cannot_be_written_are_refused", '>>"$ANSWERS"; } || exit 6', '>>"$ANSWERS"; } || true'),
@@ -711,22 +714,22 @@ EDITS = [
     ("a_reload_changes_the_plant", "    echo P >>", "    echo p >>"),
     ("a_reload_changes_the_plant", "from frame ${answer#P frame } on", "from frame ${answer} on"),
     ("a_refused_change_is_reported", '--bytes="+$(($1 + 1))"', "--bytes=+1"),
-    ("a_refused_change_is_reported", "        exit 1\n", "        exit 0\n"),
-    ("a_change_waits_for_its_answer", "((tries-- > 0)) || return", "return 1"),
+    ("a_refused_change_is_reported", "$ANSWERS\"\n        exit 1\n", "$ANSWERS\"\n        exit 0\n"),
+    ("a_change_waits_for_its_answer", "'^P frame '; do\n        ((tries-- > 0)) || return", "'^P frame '; do\n        return 1"),
     ("no_line_of_a_client_comes_into_a_plant_file", "    echo P >>\"$1\"", "    { echo P; plant_and_separator; } >>\"$1\""),
-    ("an_invalid_plant_file_is_not_sent", "    check_plant 4\n    {", "    {"),
+    ("an_invalid_plant_file_is_not_sent", "    check_plant 4\n    before", "    before"),
     ("a_client_changes_no_plant", '[ -z "$change" ] || rm -f -- "$change"\n', ""),
     ("a_channel_without_a_state_is_not_changed", '[ -z "$change" ] || script=', "script="),
     ("a_channel_without_a_state_is_not_changed", 'if [ -z "$change" ] || ', "if "),
     ("a_channel_without_a_state_is_not_changed", '[ ! -f "${ANSWERS-}" ] || ', ""),
-    ("a_channel_without_a_state_is_not_changed", ' || [ ! -p "$1" ]', ""),
+    ("a_channel_without_a_state_is_not_changed", '"${ANSWERS-}" ] || [ ! -p "$1" ]', '"${ANSWERS-}" ]'),
     ("each_start_records_all_input", "$(date --utc +%Y%m%dT%H%M%S.%3NZ)", "record"),
-    ("the_end_of_the_program_is_the_end_of_the_script", 'exec "$program" serve', '"$program" serve'),
+    ("the_end_of_the_program_is_the_end_of_the_script", 'exec "$program" serve < ', '"$program" serve < '),
     ("readiness_is_reported_once_the_plant_file_is_checked", "systemd-notify --ready", "true --ready"),
     ("reasons_have_priorities_in_the_journal", "trap - TERM && give_input) 2> >(pass_on)", "trap - TERM && give_input)"),
     ("reasons_have_priorities_in_the_journal", "/^ok\\$/!s", "s"),
     ("reasons_have_priorities_in_the_journal", 'check_plant 3\n', 'check_plant 4\n'),
-    ("a_refused_reload_is_a_warning", "    check_plant 4\n", "    check_plant 3\n"),
+    ("a_refused_reload_is_a_warning", "    check_plant 4\n    before", "    check_plant 3\n    before"),
     ("a_refused_reload_is_a_warning", "${JOURNAL_STREAM:+<$1>}serve_channel", "serve_channel"),
     ("reasons_are_held_back", "end_cut_file; echo K) 2> >(pass_on)", "end_cut_file; echo K)"),
     ("reasons_are_held_back", '"${REASONS_PER_SECOND-}"', '""'),
@@ -737,20 +740,58 @@ EDITS = [
     ("wrong_arguments_are_refused", ' || [ "$1" = --change ]', ""),
     ("wrong_arguments_are_refused", '[ "$#:${1-}" != 3:--change ]', "[ $# != 3 ]"),
 ]
+# The same for a channel with a folder.
+FOLDER_EDITS = [
+    ("a_folder_is_made_for_its_owner_alone", " --mode=700", ""),
+    ("a_folder_goes_on_after_a_stop_and_keeps_no_state", '[ -z "$folder" ] && ', ""),
+    ("a_folder_goes_on_after_a_program_that_was_killed", '    [ "$status" = 0 ] || kill "$copier" 2>/dev/null\n', ""),
+    ("a_folder_goes_on_after_a_program_that_was_killed", '    exit "$status"\n}\n\nif [ -n "$folder" ]', '    exit\n}\n\nif [ -n "$folder" ]'),
+    ("a_stop_with_a_folder_answers_what_has_come", "exec 9> >(trap '' TERM; exec \"$program\"", 'exec 9> >(exec "$program"'),
+    ("a_stop_with_a_folder_answers_what_has_come", "; [ \"$status\" = 143 ]; do", "; false; do"),
+    ("a_stop_with_a_folder_answers_what_has_come", "    trap stop TERM\n", ""),
+    ("a_stop_with_a_folder_answers_what_has_come", "9>&- &\n", "&\n"),
+    ("a_stop_before_the_first_line_is_copied", '    [ -z "$stopping" ] || kill "$copier"\n', ""),
+    ("a_reload_with_a_folder_changes_the_plant", "sed -n '1,2d; /^=---$/q; s/^=//p' \"$folder/journal\"; }", 'cat "$plant"; }'),
+    ("a_reload_with_a_folder_changes_the_plant", '    rm -f -- "$plant"\n', ""),
+    ("a_reload_with_a_folder_changes_the_plant", '    rm -f -- "$folder.answer"\n    if', "    if"),
+    ("a_reload_with_a_folder_changes_the_plant", "if [ -n \"$folder\" ]; then change_folder", "if false; then change_folder"),
+    ("a_refused_reload_leaves_the_plant_of_the_folder", '    if [ "$status" != 0 ]; then\n        echo', "    if false; then\n        echo"),
+    ("a_refused_reload_leaves_the_plant_of_the_folder", "1,2d; /^=---$/q; s/^=//p' \"", "/^=---$/q; s/^=//p' \""),
+    ("an_invalid_plant_file_is_not_given_to_a_folder", '    check_plant 4\n    rm', "    rm"),
+    ("a_reload_loses_no_line", "sed --unbuffered", "sed"),
+    ("a_reload_loses_no_line", "/Q$line_p", "/q$line_p"),
+    ("a_line_p_of_a_client_changes_no_plant", ' 2>/dev/null || return 0', " || exit 1"),
+    ("a_reload_without_an_answer_changes_nothing", '        rm -f -- "$change"\n', ""),
+    ("a_reload_of_no_channel", ' || [ ! -p "$1" ]; then\n        say 4 "no channel runs with $folder', '; then\n        say 4 "no channel runs with $folder'),
+    ("a_reload_of_no_channel", '[ ! -f "$folder/journal" ] || ', ""),
+    ("a_start_takes_a_changed_plant_file", "    open_folder\n", ""),
+    ("a_start_whose_change_is_refused_says_what_to_do", '$folder/journal"\n    exit "$status"\n', '$folder/journal"\n    exit 1\n'),
+    ("a_start_whose_change_is_refused_says_what_to_do", "    open_folder\n    notify\n", "    notify\n    open_folder\n"),
+    ("a_folder_that_is_in_use_is_refused", '$folder/journal"\n    exit "$status"\n', '$folder/journal"\n    exit 3\n'),
+    ("readiness_is_reported_once_the_folder_is_open", "    open_folder\n    notify\n", "    open_folder\n"),
+    ("each_start_with_a_folder_records_its_input", '        exec 9> >(trap \'\' TERM; exec tee -- "$(new_record)" >&9 9>&-)\n', "        true\n"),
+    ("a_killed_program_that_is_recorded_ends_the_script", "server=$!\n", "server=''\n"),
+    ("reasons_of_a_folder_have_priorities", '"$folder" 2> >(pass_on))', '"$folder")'),
+    ("reasons_of_a_folder_have_priorities", "| with_priority 4", "| with_priority 3"),
+    ("reasons_of_a_folder_have_priorities", "| with_priority 3", "| with_priority 4"),
+]
 
 
-def is_noticed(test, old, new):
+def is_noticed(channel, test, old, new):
     """Returns whether a test fails once the script has the edit."""
     global SECONDS
     text, seconds = TEXTS["serve_channel"], SECONDS
     assert text.count(old) == 1, f"serve_channel has {text.count(old)} times: {old}"
     TEXTS["serve_channel"], SECONDS = text.replace(old, new), SECONDS_OF_EDIT
     try:
-        return not unittest.TextTestRunner(stream=io.StringIO()).run(Channel(f"test_{test}")).wasSuccessful()
+        return not unittest.TextTestRunner(stream=io.StringIO()).run(channel(f"test_{test}")).wasSuccessful()
     finally:
         TEXTS["serve_channel"], SECONDS = text, seconds
 
 
 class Edits(unittest.TestCase):
     def test_each_edit_is_noticed(self):
-        self.assertEqual([edit for edit in EDITS if not is_noticed(*edit)], [])
+        self.assertEqual([edit for edit in EDITS if not is_noticed(Channel, *edit)], [])
+
+    def test_each_edit_of_what_a_folder_needs_is_noticed(self):
+        self.assertEqual([edit for edit in FOLDER_EDITS if not is_noticed(FolderChannel, *edit)], [])
