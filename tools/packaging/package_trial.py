@@ -36,7 +36,7 @@ REQUEST = f"M {NEW_MODEM} 0F0001180A010200010601060F0102\n"
 START = re.compile(r"(?m)^S line (\d+)(?: frame \d+)?\n")
 FOLDER = "/var/lib/plant_script/{}/folder"
 # Finds the program of a channel, whose main process is a script.
-PROGRAM_OF = "for p in $(cat /sys/fs/cgroup$(systemctl show -P ControlGroup plant@{})/cgroup.procs); do [ $(readlink /proc/$p/exe) != /usr/bin/plant_script ] || echo $p; done"
+PROGRAM_OF = "for p in /proc/[0-9]*; do case $(tr '\\0' ' ' <$p/cmdline) in *'serve --state /var/lib/plant_script/{}/folder ') echo ${{p#/proc/}} ;; esac; done"
 
 
 def want(condition, what):
@@ -433,12 +433,12 @@ def upgraded(box, package, work):
     box.run("dpkg --install /root/newer.deb")
     want(box.run(f"dpkg-query -W -f '${{Version}}' {PACKAGE}").endswith(".1"), "the package has not the later version")
     want(shown(box, "plant@east", "MainPID", "NRestarts") == process, "the upgrade restarted the channel")
-    program = box.run(PROGRAM_OF.format("east").replace("!= /usr/bin/plant_script", "!= '/usr/bin/plant_script (deleted)'").replace("$(readlink", '"$(readlink').replace("/exe)", '/exe)"'))
-    want(program, "the program of the channel is not the old one")
+    is_old = f"ls -l /proc/$({PROGRAM_OF.format('east')})/exe"
+    want("(deleted)" in box.run(is_old), "the program of the channel is not the old one")
     EAST.send(box, "T A\n")
     EAST.wait(box)
     box.run("systemctl reload plant@east")
-    want(box.run(PROGRAM_OF.format("east")), "a reload does not take the new program")
+    want("(deleted)" not in box.run(is_old), "a reload does not take the new program")
     box.run("systemctl restart plant@east")
     want(shown(box, "plant@east", "MainPID") != process[:1], "no restart")
     EAST.started(box)
