@@ -563,12 +563,15 @@ class FolderChannel(Channel):
     def test_a_reload_loses_no_line(self):
         """A client writes lines all the time, of different lengths. Each is answered once, by the old plant or by the new one."""
         self.start_and_send()
-        lines, is_done = [], threading.Event()
+        lines, is_done, pipe = [], threading.Event(), os.open(self.folder / "in", os.O_WRONLY | os.O_NONBLOCK)
+        self.addCleanup(os.close, pipe)
 
         def write():
-            while not is_done.wait(0.0005):
+            # (a pipe that is full takes no part of a line, and the test fails)
+            while not is_done.wait(0.002):
                 lines.append(f"{len(lines):0{5 + len(lines) % 50}}")
-                self.send(lines[-1] + "\n")
+                with contextlib.suppress(BlockingIOError):
+                    os.write(pipe, f"{lines[-1]}\n".encode())
 
         writer = threading.Thread(target=write)
         writer.start()
