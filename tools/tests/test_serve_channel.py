@@ -523,12 +523,14 @@ class FolderChannel(Channel):
         self.answered("A 2 hold a = 1;b = 2;", "A 3 two a = 1;b = 2;")
 
     def test_a_stop_before_the_first_line_is_copied(self):
-        """A stop that comes while the folder is opened ends the script as well."""
-        for delay in (0.1, 0.2, 0.3, 0.4, 0.5, 0.6):
-            process = self.start(plant="slow = 1")
-            time.sleep(delay)
-            os.kill(process.pid, signal.SIGTERM)
-            process.wait(SECONDS)
+        """A stop that comes before there is a process that copies ends the script as well."""
+        (self.folder / "bin").mkdir()
+        self.write("bin/sed", '#!/bin/sh\ncase $1 in -n) touch "$PLACE/reading"; sleep 0.5 ;; esac\nPATH=${PATH#*:} exec sed "$@"\n', 0o755)
+        process = self.start(PATH=f"{self.folder}/bin:{os.environ['PATH']}")
+        wait_until((self.folder / "reading").exists)
+        os.kill(process.pid, signal.SIGTERM)
+        self.assertEqual(process.wait(SECONDS), 0)
+        self.answered("S line 1 frame 0")
 
     def test_a_reload_with_a_folder_changes_the_plant(self):
         process = self.start_and_send()
@@ -752,7 +754,6 @@ FOLDER_EDITS = [
     ("a_stop_with_a_folder_answers_what_has_come", "exec 9> >(trap '' TERM; exec \"$program\"", 'exec 9> >(exec "$program"'),
     ("a_stop_with_a_folder_answers_what_has_come", "; [ \"$status\" = 143 ]; do", "; false; do"),
     ("a_stop_with_a_folder_answers_what_has_come", "    trap stop TERM\n", ""),
-    ("a_stop_with_a_folder_answers_what_has_come", "9>&- &\n", "&\n"),
     ("a_stop_before_the_first_line_is_copied", '    [ -z "$stopping" ] || kill "$copier"\n', ""),
     ("a_reload_with_a_folder_changes_the_plant", "sed -n '1,2d; /^=---$/q; s/^=//p' \"$folder/journal\"; }", 'cat "$plant"; }'),
     ("a_reload_with_a_folder_changes_the_plant", '    rm -f -- "$plant"\n', ""),
