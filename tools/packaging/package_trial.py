@@ -164,7 +164,7 @@ def first_start(box):
     want(box.run("stat -c '%F %U:%G %a' /run/plant_script/east/in") == "fifo root:_plant_script 620\n", "the pipe has other rights")
     want(box.run("stat -c '%U:%G %a' /var/lib/plant_script/east/answers") == "_plant_script:_plant_script 640\n", "the answers have other rights")
     want(box.run(f"stat -c '%U:%G %a' {FOLDER.format('east')}") == "_plant_script:_plant_script 700\n", "the folder has other rights")
-    want(answers(box, "east") == "S line 1 frame 0\n", "the answers do not begin with the line of the start")
+    wait_for_answers(box, "east", "S line 1 frame 0\n")
     rows = LINES.splitlines(keepends=True)
     for at in range(0, len(rows), 7):
         EAST.send(box, "".join(rows[at:at + 7]))
