@@ -1,4 +1,4 @@
-use Rattle.std.proofs.Common.{rules, ◌≡◌, ℕ, List, refl, sym, subst, arith}
+use Rattle.std.proofs.Common.{rules, ◌≡◌, ◌∙◌, ℕ, List, refl, sym, subst, arith}
 use Rattle.live_core.specs.LiveView.{live_view}
 use Rattle.script_format.proofs.Outcomes.{if_ok}
 use Rattle.line_service.proofs.ServiceLemmas.{known_same}
@@ -43,6 +43,12 @@ returns-in_err-write_greeting-clause-any_moment g c least has =
 
 pub returns-clause-count : goal.returns-clause-count
 returns-clause-count g c = omega (arith, c.in_ok-redo_lines.ensures.count, c.in_ok-end.ensures.count)
+
+pub returns-clause-same_file : goal.returns-clause-same_file
+returns-clause-same_file g c =
+    let service = c.redo_lines.new.service in
+    let same : c.args.given.file.items ≡ service.file = search rules in
+    c.in_ok-end.ensures.same_file ∙ sym same
 
 pub returns-clause-leads : goal.returns-clause-leads
 returns-clause-leads g c =
