@@ -224,7 +224,7 @@ def goes_on(box):
     EAST.started(box)
     EAST.send(box, LINES)
     EAST.wait(box)
-    want(not box.ask("ls /var/lib/plant_script/east/state*"), "a stop keeps a state next to the folder")
+    want(box.status_of("ls /var/lib/plant_script/east/state*")[0], "a stop keeps a state next to the folder")
     return "a restart keeps the state of the channel"
 
 
