@@ -752,7 +752,7 @@ FOLDER_EDITS = [
     ("a_folder_goes_on_after_a_program_that_was_killed", '    [ "$status" = 0 ] || kill "$copier" 2>/dev/null\n', ""),
     ("a_folder_goes_on_after_a_program_that_was_killed", '    exit "$status"\n}\n\nif [ -n "$folder" ]', '    exit\n}\n\nif [ -n "$folder" ]'),
     ("a_stop_with_a_folder_answers_what_has_come", "(trap '' TERM; exec \"$program\"", '(exec "$program"'),
-    ("a_stop_with_a_folder_answers_what_has_come", "; [ \"$status\" = 143 ] && kill", "; false && kill"),
+    ("a_stop_with_a_folder_answers_what_has_come", 'wait "$server"; status=$?; [ "$status" = 143 ] && kill -0 "$server" 2>/dev/null; do :; done\n    [ "$status" != 143 ] ||', 'false; do :; done\n    true &&'),
     ("a_stop_with_a_folder_answers_what_has_come", "    trap stop TERM\n", ""),
     ("a_stop_before_the_first_line_is_copied", '    [ -z "$stopping" ] || kill "$copier"\n', ""),
     ("a_reload_with_a_folder_changes_the_plant", "sed -n '1,2d; /^=---$/q; s/^=//p' \"$folder/journal\"; }", 'cat "$plant"; }'),
