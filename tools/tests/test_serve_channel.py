@@ -634,6 +634,14 @@ class FolderChannel(Channel):
         status, errors = self.refused(self.start())
         self.assertEqual((status, errors.splitlines()[1:3]), (6, ["in use", "fault: io"]))
 
+    def test_a_state_that_a_new_folder_does_not_take_is_reported(self):
+        self.write("state", "melfjits-snapshot 1\n")
+        process = self.start(STATE=str(self.folder / "state"))
+        self.send("one\n")
+        self.answered("S line 1 frame 0", "A 1 one a = 1;b = 2;")
+        self.assertEqual(self.stop(process), 0)
+        self.assertIn(f"the state in {self.folder}/state is not taken", process.stderr.read())
+
     def test_readiness_is_reported_once_the_folder_is_open(self):
         (self.folder / "bin").mkdir()
         self.write("bin/systemd-notify", '#!/bin/sh\n[ -e "$PLACE/folder/journal" ] && echo "$*" >"$PLACE/notified"\n', 0o755)
@@ -776,6 +784,7 @@ FOLDER_EDITS = [
     ("each_start_with_a_folder_records_its_input", '        exec 9> >(trap \'\' TERM; exec tee -- "$(new_record)" >&9 9>&-)\n', "        true\n"),
     ("a_stop_with_a_folder_answers_what_has_come", "server=$!\n", "server=''\n"),
     ("reasons_of_a_folder_have_priorities", '"$folder" 2> >(pass_on);', '"$folder";'),
+    ("a_state_that_a_new_folder_does_not_take_is_reported", '[ ! -s "$folder/journal" ]', "false"),
     ("reasons_of_a_folder_have_priorities", "| with_priority 4", "| with_priority 3"),
     ("reasons_of_a_folder_have_priorities", "| with_priority 3", "| with_priority 4"),
 ]
