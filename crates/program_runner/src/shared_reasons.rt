@@ -1,27 +1,9 @@
 //! What standard error says if a new plant file does not keep what all operators share.
 
 use plant::{Backoffs, Channel, Class, Consts, Plant};
+use plant_file_laws::plant_fields;
 use slice_table::Field;
 use std::alloc::{AllocError, Global};
-
-/// The keys of the table `plant`.
-const SHARED_KEYS: [Field; 15] = [
-    Field::FrameMinislots,
-    Field::Head,
-    Field::FrameUs,
-    Field::BytesPerMinislot,
-    Field::ShortMax,
-    Field::Channel,
-    Field::UcdCount,
-    Field::RangingStart,
-    Field::RangingEnd,
-    Field::DataStart,
-    Field::DataEnd,
-    Field::AckWait,
-    Field::Resends,
-    Field::Hold,
-    Field::FirstFrame,
-];
 
 /// What a new plant file has otherwise than the plant in service, of what all operators share.
 #[derive(Clone, Copy)]
@@ -92,7 +74,7 @@ fn class_difference(old: &[Class], new: &[Class]) -> Option<Difference> {
 
 /// Returns the first difference, or nothing if there is none.
 fn first_difference(old: &Consts, new: &Consts) -> Option<Difference> {
-    for field in SHARED_KEYS {
+    for field in plant_fields() {
         if let Some(difference) = key_difference(old, new, field) {
             return Some(difference);
         }
