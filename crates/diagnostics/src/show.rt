@@ -5,7 +5,7 @@ use std::alloc::AllocError;
 /// The most characters that are shown of a text.
 const SHOWN: usize = 80;
 
-/// Returns a character: a tab and a carriage return by their escapes, another control character as
+/// Appends a character: a tab and a carriage return by their escapes, another control character as
 /// a question mark.
 fn put_char(text: &mut String, c: char) -> Result<(), AllocError> {
     match c {
@@ -16,7 +16,7 @@ fn put_char(text: &mut String, c: char) -> Result<(), AllocError> {
     }
 }
 
-/// Returns the first characters of a text, and two dots where there are more.
+/// Appends the first characters of a text, and two dots if there are more.
 pub(crate) fn put_shown(text: &mut String, shown: &str) -> Result<(), AllocError> {
     for (place, c) in shown.chars().enumerate() {
         if place == SHOWN {

@@ -15,7 +15,7 @@ const MOST_BYTES: usize = 1_048_576;
 /// The bytes of the line after it, with its end.
 const BAR_BYTES: usize = 4;
 
-/// Returns a line has ended: it joins the text, and the next begins.
+/// Appends a line that has ended to the text, and begins the next one.
 fn end_line(text: &mut Vec<u8>, line: &mut Vec<u8>) -> Result<(), AllocError>
     ensures text { OnOk result (text.new.items ≡ text.old.items ++ (line.old.items ++ 10 ∷ [])) }
     ensures line { OnOk result (line.new.items ≡ []) }

@@ -114,8 +114,8 @@ impl LiveSlot {
         }
     }
 
-    /// Returns the frame that waits longest goes into the assembly, which takes it: only memory can
-    /// be wanting. Then it waits as before.
+    /// Puts the frame that waits longest into the assembly, and returns the MAP that it completes.
+    /// This fails only if memory runs out, and the frame waits as before then.
     pub fn put_oldest(
         &mut self,
         alloc: Global,
@@ -139,8 +139,7 @@ impl LiveSlot {
         }
     }
 
-    /// Returns the frame that waits longest goes into the assembly, which takes it: only memory can
-    /// be wanting. A MAP that it makes is added.
+    /// Puts the frame that waits longest into the assembly, and appends the MAP that it completes.
     #[inline(always)]
     pub(crate) fn collect_into(
         &mut self,

@@ -20,7 +20,7 @@ use run_model::{Out, Step};
 use std::alloc::Global;
 
 impl LiveCore {
-    /// Returns the operator at this place acts, if there is one.
+    /// Performs an action of the operator at this place, if there is one.
     #[inline(always)]
     fn act_if(
         &mut self,
@@ -44,7 +44,7 @@ impl LiveCore {
         self.desks[op].act_into(alloc, op, action, outs)
     }
 
-    /// Returns the operator that has this modem takes what was received of it into its inbox.
+    /// Puts what was received of a modem into the inbox of the operator that has this modem.
     #[inline(always)]
     fn arrive(
         &mut self,
@@ -65,8 +65,8 @@ impl LiveCore {
         }
     }
 
-    /// Returns the oldest frame that waits of the operator at this place goes into the assembly, if
-    /// there is one.
+    /// Puts the oldest waiting frame of the operator at this place into the assembly, if there is
+    /// one.
     #[inline(always)]
     fn collect(&mut self, alloc: Global, op: Op, outs: &mut Vec<Out>) -> Result<(), CoreFault>
         ensures ok { OnOk result ((now : List Out) × (outs.new.items ≡ outs.old.items ++ now)
@@ -92,7 +92,7 @@ impl LiveCore {
         }
     }
 
-    /// Returns one step, whose outputs are added. A refused step changes nothing, and adds nothing.
+    /// Performs a step, and appends its outputs. A refused step changes nothing, and appends nothing.
     #[inline(always)]
     pub fn step_into(
         &mut self,
@@ -116,7 +116,7 @@ impl LiveCore {
         }
     }
 
-    /// Does one step, whose outputs replace those that are in `outs`. A refused step changes nothing of the core, and has no outputs.
+    /// Performs a step, whose outputs replace those that are in `outs`. A refused step changes nothing of the core, and has no outputs.
     #[inline(always)]
     pub fn step_over(
         &mut self,
@@ -137,7 +137,7 @@ impl LiveCore {
         Ok(())
     }
 
-    /// Returns one step, and what it outputs. A refused step changes nothing.
+    /// Performs a step, and returns its outputs. A refused step changes nothing.
     pub fn step(&mut self, alloc: Global, step: Step) -> Result<Vec<Out>, CoreFault>
         ensures ok { IfOk result (λ outs. GoesOn (Steps step) (live_view self.old) (live_view self.new) outs.items) }
         ensures reached { IfOk result (λ outs. LeadsOnFromStart (live_view self.old) (step ∷ []) outs.items (live_view self.new)) }

@@ -111,8 +111,7 @@ impl OperatorSlot {
         oldest_from(alloc, self.book.history(), self.collected)
     }
 
-    /// Returns the frame that waits longest goes into the assembly, which takes it: only memory can
-    /// be wanting. Its MAP is added, if it makes one.
+    /// Puts the frame that waits longest into the assembly, and appends the MAP that it completes.
     pub(crate) fn collect_into(
         &mut self,
         alloc: Global,

@@ -78,8 +78,8 @@ pub fn slices_of(alloc: Global, rows: &[SliceRow]) -> Result<Vec<Slice>, AllocEr
 }
 
 impl PlantCore {
-    /// Returns each operator takes its row, and the assembly all slices, from a later frame on. All
-    /// memory is taken first.
+    /// Gives each operator its row, and the assembly all slices, from a later frame on. All memory
+    /// is taken first.
     pub(crate) fn give(
         &mut self,
         alloc: Global,

@@ -131,7 +131,7 @@ impl PlantCore {
         self.row_fault(from, rows)
     }
 
-    /// Returns new slices for all operators from a later frame on, where they have no fault.
+    /// Gives all operators new slices from a later frame on, if these have no fault.
     pub(crate) fn reslice(
         &mut self,
         alloc: Global,

@@ -46,8 +46,8 @@ impl PlantCore {
         Ok(())
     }
 
-    /// Returns the steps one after the other, up to the first that is refused, and all that they
-    /// output in order. The core then is as after the steps before it.
+    /// Performs steps one after the other, up to the first that is refused, and returns their
+    /// outputs in order. The core then is as after the steps before it.
     pub fn run(&mut self, alloc: Global, steps: &[Step]) -> Result<Vec<Out>, RunStop>
         ensures reached { IfOk result (λ outs. LeadsOn (core_view self.old) steps.now outs.items (core_view self.new)) }
         ensures stopped { IfErr result (λ stop. LeadsOn (core_view self.old) (take stop.at steps.now) stop.outs.items
@@ -67,7 +67,7 @@ impl PlantCore {
         Ok(outs)
     }
 
-    /// Returns one step that the caller keeps.
+    /// Performs a step that the caller keeps.
     fn step_copied(
         &mut self,
         alloc: Global,
@@ -89,8 +89,8 @@ impl PlantCore {
         }
     }
 
-    /// Returns the operator that has this modem takes a copy of what was received of it into its
-    /// inbox.
+    /// Puts a copy of what was received of a modem into the inbox of the operator that has this
+    /// modem.
     fn arrive_copied(
         &mut self,
         alloc: Global,

@@ -55,7 +55,7 @@ pub fn core_fault_of(fault: GatherFault) -> CoreFault
 }
 
 impl PlantCore {
-    /// Returns the operator at this place acts, if there is one.
+    /// Performs an action of the operator at this place, if there is one.
     pub(crate) fn act_if(
         &mut self,
         alloc: Global,
@@ -78,7 +78,7 @@ impl PlantCore {
         self.desks[op].act_into(alloc, op, action, outs)
     }
 
-    /// Returns the operator that has this modem takes what was received of it into its inbox.
+    /// Puts what was received of a modem into the inbox of the operator that has this modem.
     fn arrive(
         &mut self,
         alloc: Global,
@@ -98,8 +98,8 @@ impl PlantCore {
         }
     }
 
-    /// Returns the oldest frame that waits of the operator at this place goes into the assembly, if
-    /// there is one.
+    /// Puts the oldest waiting frame of the operator at this place into the assembly, if there is
+    /// one.
     pub(crate) fn collect(
         &mut self,
         alloc: Global,
@@ -121,7 +121,7 @@ impl PlantCore {
         self.desks[op].collect_into(alloc, op, gather, outs)
     }
 
-    /// Returns one step, whose outputs are added.
+    /// Performs a step, and appends its outputs.
     pub(crate) fn step_into(
         &mut self,
         alloc: Global,
@@ -143,7 +143,7 @@ impl PlantCore {
         }
     }
 
-    /// Returns one step, and what it outputs. A refused step changes nothing.
+    /// Performs a step, and returns its outputs. A refused step changes nothing.
     pub fn step(&mut self, alloc: Global, step: Step) -> Result<Vec<Out>, CoreFault>
         ensures ok { IfOk result (λ outs. Steps step (core_view self.old) (core_view self.new) outs.items) }
         ensures reached { IfOk result (λ outs. LeadsOn (core_view self.old) (step ∷ []) outs.items (core_view self.new)) }

@@ -39,7 +39,7 @@ impl<T: Drop> From<AllocFailed<T>> for AnswerFault {
     }
 }
 
-/// Returns the next bytes of a reader, into the chunk. Whether the read failed is noted, and none
+/// Reads the next bytes of a reader into the chunk. Whether the read failed is noted, and none
 /// is tried after one that failed.
 fn read_chunk<R: Read>(reader: &mut R, chunk: &mut [u8], failed: &mut bool) -> io::Result<usize>
     requires untried { failed.old ≡ false }

@@ -46,7 +46,7 @@ fn steps_in(alloc: Global, lines: &[LineStep]) -> Result<Vec<Step>, AllocError>
     Ok(steps)
 }
 
-/// Returns the lines of an operator's outputs.
+/// Appends the lines of an operator's outputs.
 fn put_outputs(
     alloc: Global,
     text: &mut String,
@@ -63,7 +63,7 @@ fn put_outputs(
     Ok(())
 }
 
-/// Returns the lines of all that an operator's history output.
+/// Appends the lines of all that an operator's history output.
 fn put_history(
     alloc: Global,
     text: &mut String,
@@ -80,7 +80,7 @@ fn put_history(
     Ok(())
 }
 
-/// Returns the lines of all that the operators' books output, book by book.
+/// Appends the lines of all that the operators' books output, book by book.
 fn put_books(
     alloc: Global,
     text: &mut String,
@@ -96,7 +96,7 @@ fn put_books(
     Ok(())
 }
 
-/// Returns the lines of MAPs.
+/// Appends the lines of MAPs.
 fn put_maps(alloc: Global, text: &mut String, maps: &[MapBytes]) -> Result<(), AllocError>
     ensures { OnOk result (string_bytes text.new ≡ string_bytes text.old ++ flat_map map_line maps.now) }
 {

@@ -18,7 +18,7 @@ use script_format::cause_name;
 use std::alloc::{AllocError, Global};
 use tlv24::Bytes;
 
-/// Returns the line of an output.
+/// Appends the line of an output.
 fn put_line(alloc: Global, text: &mut Vec<u8>, output: &Output) -> Result<(), AllocError>
     ensures { OnOk result (text.new.items ≡ text.old.items ++ line_of output.now) }
 {
@@ -40,7 +40,7 @@ fn put_line(alloc: Global, text: &mut Vec<u8>, output: &Output) -> Result<(), Al
     text.extend_from_slice(b"\n")
 }
 
-/// Returns the lines of outputs.
+/// Appends the lines of outputs.
 fn put_lines(alloc: Global, text: &mut Vec<u8>, outputs: &[Output]) -> Result<(), AllocError>
     ensures { OnOk result (text.new.items ≡ text.old.items ++ text_of_outputs outputs.now) }
 {
@@ -50,7 +50,7 @@ fn put_lines(alloc: Global, text: &mut Vec<u8>, outputs: &[Output]) -> Result<()
     Ok(())
 }
 
-/// Returns one action on operator A's book, and the lines of its outputs.
+/// Performs an action on operator A's book, and appends the lines of its outputs.
 fn put_action(
     alloc: Global,
     book: &mut Book,
@@ -74,7 +74,7 @@ fn put_action(
     }
 }
 
-/// Returns a message of the first modem on operator A's book, and the lines of its outputs.
+/// Performs the arrival and the handling of a message of the first modem, and appends the lines of its outputs.
 fn put_message(
     alloc: Global,
     book: &mut Book,

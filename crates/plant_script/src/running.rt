@@ -65,7 +65,7 @@ fn answer_of_text(mut text: String, refused: Option<u64>) -> Result<Answer, Allo
     Ok(Answer { status, text })
 }
 
-/// Returns the lines of all that an operator did; none past the last operator.
+/// Appends the lines of all that an operator did; none past the last operator.
 fn put_history(alloc: Global, text: &mut String, core: &PlantCore, op: Op) -> Result<(), AllocError>
     ensures { OnOk result (string_bytes text.new ≡ string_bytes text.old
         ++ book_text (slice_get (core_view core.now).books op)) }

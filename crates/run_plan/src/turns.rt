@@ -70,8 +70,7 @@ fn is_of(plant: &Plant, modem: Modem, op: Op) -> bool
     plant.operator_of(modem) == Some(op)
 }
 
-/// Returns the turn of the step at a place, if it is one of this operator's; the operator goes on
-/// by it.
+/// Returns the turn of the step at a place, if it is a step of this operator, and counts it.
 fn turn_of(
     plant: &Plant,
     op: Op,
@@ -162,7 +161,7 @@ fn pass_all(
     Ok(())
 }
 
-/// Returns the turn of the step at a place, which is this operator's; the operator alone goes on by it.
+/// Returns the turn of the step at a place, which is a step of this operator, and counts it.
 fn own_turn(
     plant: &Plant,
     op: Op,
@@ -189,7 +188,7 @@ fn own_turn(
     }
 }
 
-/// Returns the turn of the step at a place; the operators go on by it. Its operator is looked up once.
+/// Returns the turn of the step at a place, and counts it. The operator is looked up once.
 fn next_turn(
     plant: &Plant,
     courses: &mut [Course],

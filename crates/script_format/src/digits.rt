@@ -201,7 +201,7 @@ pub(crate) fn reply_head(modem: Modem) -> [u8; 15]
     [b'R', b' ', a, b, c, d, e, f, g, h, i, j, k, l, b' ']
 }
 
-/// Returns the address of a modem.
+/// Appends the address of a modem.
 pub(crate) fn put_address(text: &mut String, modem: Modem) -> Result<(), AllocError>
     ensures { OnOk result (string_bytes text.new ≡ string_bytes text.old ++ address modem) }
 {

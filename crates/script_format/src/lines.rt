@@ -57,7 +57,7 @@ pub fn parts_of(alloc: Global, mark: u8, input: &[u8]) -> Result<Vec<&[u8]>, All
     Ok(parts)
 }
 
-/// Returns the parts of bytes, in the place of those that are there.
+/// Splits bytes into parts, which replace those in `parts`.
 pub fn put_parts<'a>(mark: u8, input: &'a [u8], parts: &mut Vec<&'a [u8]>) -> Result<(), AllocError>
     ensures { OnOk result (map (λ part. part.now) parts.new.items ≡ parts_of mark input.now) }
 {

@@ -90,7 +90,7 @@ fn operator_in(plant: &Plant, field: &[u8]) -> Result<Op, FieldFault>
     }
 }
 
-/// Returns the steps of what is received of a modem.
+/// Appends the steps of what is received of a modem.
 #[inline(always)]
 fn put_heard(
     number: u64,
@@ -110,7 +110,7 @@ fn put_heard(
     Ok(())
 }
 
-/// Returns the steps of a message.
+/// Appends the steps of a message.
 #[tactic(auto, using(crate::proofs::FirstFields::message_stop, crate::proofs::FirstFields::message_read, crate::proofs::FirstFields::message_unread))]
 #[inline(always)]
 fn put_message(
@@ -129,7 +129,7 @@ fn put_message(
     put_heard(number, sender, Heard::Message(bytes), steps)
 }
 
-/// Returns the steps of a request for minislots.
+/// Appends the steps of a request for minislots.
 #[tactic(auto, using(crate::proofs::FirstFields::request_stop, crate::proofs::FirstFields::request_alone, crate::proofs::FirstFields::request_sid_unread, crate::proofs::FirstFields::request_unread, crate::proofs::FirstFields::request_read))]
 #[inline(always)]
 fn put_request(
@@ -151,7 +151,7 @@ fn put_request(
     put_heard(number, sender, Heard::Request { sid, minislots }, steps)
 }
 
-/// Returns the steps of one operator's tick.
+/// Appends the steps of one operator's tick.
 fn put_tick(number: u64, op: Op, steps: &mut Vec<LineStep>) -> Result<(), FieldFault>
     ensures said { Gives field_cause (λ _. steps.new.items) result (behind steps.old.items (Ok (tick_steps number op))) }
     ensures memory { IfErr result (λ fault. fault ≡ NoMemory) }
@@ -163,7 +163,7 @@ fn put_tick(number: u64, op: Op, steps: &mut Vec<LineStep>) -> Result<(), FieldF
     Ok(())
 }
 
-/// Returns the steps of a tick of each operator in order.
+/// Appends the steps of a tick of each operator in order.
 fn put_all_ticks(
     number: u64,
     rows: &[OperatorRow],
@@ -178,7 +178,7 @@ fn put_all_ticks(
     Ok(())
 }
 
-/// Returns the steps of an operator's tick by its name.
+/// Appends the steps of an operator's tick by its name.
 #[tactic(auto, unfolding(crate::specs::Script::ticked_steps))]
 fn put_ticked(
     plant: &Plant,
@@ -238,7 +238,7 @@ fn shares_in(alloc: Global, plant: &Plant, fields: &[&[u8]]) -> Result<SliceRows
     }
 }
 
-/// Returns the step of a slice change.
+/// Appends the step of a slice change.
 #[tactic(auto, unfolding(crate::specs::Script::resliced_steps))]
 fn put_resliced(
     alloc: Global,
@@ -261,7 +261,7 @@ fn put_resliced(
     Ok(())
 }
 
-/// Returns the steps of a line of one field.
+/// Appends the steps of a line of one field.
 fn put_alone(
     plant: &Plant,
     number: u64,
@@ -279,7 +279,7 @@ fn put_alone(
     }
 }
 
-/// Returns the steps of a line by its first field, of which the others are these.
+/// Appends the steps of a line of this first field and these other ones.
 #[tactic(auto, unfolding(crate::specs::Script::steps_in))]
 #[inline(always)]
 fn put_word<'a>(
@@ -309,8 +309,8 @@ fn put_word<'a>(
     }
 }
 
-/// Returns the steps of a line, after those that are there; an empty one says nothing. The fields
-/// are room for the line's parts, to be used again for the next line.
+/// Appends the steps of a line. An empty line has none. `fields` is room for the parts of the line,
+/// and is used again for the next one.
 #[tactic(auto, unfolding(crate::specs::Script::line_steps))]
 pub fn put_line<'a>(
     alloc: Global,

@@ -47,7 +47,7 @@ fn put_elements(text: &mut String, elements: &Elements) -> Result<(), AllocError
     put_pending(text, elements.get_pending())
 }
 
-/// Returns the name of an operator.
+/// Appends the name of an operator.
 pub fn put_name(text: &mut String, plant: &Plant, op: Op) -> Result<(), AllocError>
     ensures { OnOk result (string_bytes text.new ≡ string_bytes text.old ++ operator_name (slice_get plant.now.rows op)) }
 {
@@ -60,7 +60,7 @@ pub fn put_name(text: &mut String, plant: &Plant, op: Op) -> Result<(), AllocErr
     }
 }
 
-/// Returns the address of a modem; a dash for none.
+/// Appends the address of a modem; a dash for none.
 fn put_sender(text: &mut String, modem: Option<Modem>) -> Result<(), AllocError>
     ensures { OnOk result (string_bytes text.new ≡ string_bytes text.old ++ sender_text modem) }
 {
@@ -70,7 +70,7 @@ fn put_sender(text: &mut String, modem: Option<Modem>) -> Result<(), AllocError>
     }
 }
 
-/// Returns the line of a cause for which nothing is answered.
+/// Appends the line of a cause for which nothing is answered.
 fn put_silent(text: &mut String, modem: Option<Modem>, cause: Cause) -> Result<(), AllocError>
     ensures { OnOk result (string_bytes text.new ≡ string_bytes text.old ++ output_line [] (Silent modem cause)) }
 {
@@ -80,7 +80,7 @@ fn put_silent(text: &mut String, modem: Option<Modem>, cause: Cause) -> Result<(
     write!(text, " {name}\n")
 }
 
-/// Returns the line of a MAP.
+/// Appends the line of a MAP.
 pub fn put_map(alloc: Global, text: &mut String, made: &MapBytes) -> Result<(), AllocError>
     ensures { OnOk result (string_bytes text.new ≡ string_bytes text.old ++ map_line made.now) }
 {
@@ -89,7 +89,7 @@ pub fn put_map(alloc: Global, text: &mut String, made: &MapBytes) -> Result<(), 
     write!(text, "MAP {frame} {digits}\n")
 }
 
-/// Returns the rest of a reply's line.
+/// Appends the rest of a reply's line.
 fn put_rest(text: &mut String, reply: &str) -> Result<(), AllocError>
     ensures { OnOk result (string_bytes text.new ≡ string_bytes text.old
         ++ (codes " " ++ (reply.now ++ 10 ∷ []))) }
@@ -99,7 +99,7 @@ fn put_rest(text: &mut String, reply: &str) -> Result<(), AllocError>
     text.push_str("\n")
 }
 
-/// Returns the line of a reply.
+/// Appends the line of a reply.
 fn put_reply(text: &mut String, modem: Modem, reply: &str) -> Result<(), AllocError>
     ensures { OnOk result (string_bytes text.new ≡ string_bytes text.old
         ++ (codes "R " ++ (address modem ++ (codes " " ++ (reply.now ++ 10 ∷ []))))) }
@@ -109,7 +109,7 @@ fn put_reply(text: &mut String, modem: Modem, reply: &str) -> Result<(), AllocEr
     put_rest(text, reply)
 }
 
-/// Returns the line of an operator's output.
+/// Appends the line of an operator's output.
 pub fn put_output(
     alloc: Global,
     text: &mut String,
@@ -136,7 +136,7 @@ pub fn put_output(
     }
 }
 
-/// Returns the line of what was received of a modem.
+/// Appends the line of what was received of a modem.
 fn put_heard(
     alloc: Global,
     text: &mut String,
@@ -157,7 +157,7 @@ fn put_heard(
     }
 }
 
-/// Returns the line of an action.
+/// Appends the line of an action.
 fn put_action(alloc: Global, text: &mut String, action: &Action) -> Result<(), AllocError>
     ensures { OnOk result (string_bytes text.new ≡ string_bytes text.old ++ action_line action.now) }
 {
@@ -176,7 +176,7 @@ fn put_action(alloc: Global, text: &mut String, action: &Action) -> Result<(), A
     }
 }
 
-/// Returns the lines of the actions of a history.
+/// Appends the lines of the actions of a history.
 pub fn put_actions(alloc: Global, text: &mut String, history: &[Entry]) -> Result<(), AllocError>
     ensures { OnOk result (string_bytes text.new ≡ string_bytes text.old ++ actions_text (actions_of history.now)) }
 {

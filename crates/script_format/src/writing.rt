@@ -22,7 +22,7 @@ use slice_scheduler::{Elements, Span};
 use std::io;
 use std::io::Write;
 
-/// Returns the address of a modem.
+/// Writes the address of a modem.
 fn write_address<W: Write>(writer: &mut W, modem: Modem) -> io::Result<()>
     ensures { OnOk result (Appends (W.contents writer.old) (W.contents writer.new) (address modem)) }
 {
@@ -85,7 +85,7 @@ fn write_elements<W: Write>(writer: &mut W, elements: &Elements) -> io::Result<(
     write_pending(writer, elements.get_pending())
 }
 
-/// Returns the name of an operator.
+/// Writes the name of an operator.
 fn write_name<W: Write>(writer: &mut W, plant: &Plant, op: Op) -> io::Result<()>
     ensures { OnOk result (Appends (W.contents writer.old) (W.contents writer.new) (operator_name (slice_get plant.now.rows op))) }
 {
@@ -95,7 +95,7 @@ fn write_name<W: Write>(writer: &mut W, plant: &Plant, op: Op) -> io::Result<()>
     }
 }
 
-/// Returns the address of a modem; a dash for none.
+/// Writes the address of a modem; a dash for none.
 fn write_sender<W: Write>(writer: &mut W, modem: Option<Modem>) -> io::Result<()>
     ensures { OnOk result (Appends (W.contents writer.old) (W.contents writer.new) (sender_text modem)) }
 {
@@ -105,7 +105,7 @@ fn write_sender<W: Write>(writer: &mut W, modem: Option<Modem>) -> io::Result<()
     }
 }
 
-/// Returns the line of a cause for which nothing is answered.
+/// Writes the line of a cause for which nothing is answered.
 fn write_silent<W: Write>(writer: &mut W, modem: Option<Modem>, cause: Cause) -> io::Result<()>
     ensures { OnOk result (Appends (W.contents writer.old) (W.contents writer.new) (output_line [] (Silent modem cause))) }
 {
@@ -116,7 +116,7 @@ fn write_silent<W: Write>(writer: &mut W, modem: Option<Modem>, cause: Cause) ->
     writer.write_all(b"\n")
 }
 
-/// Returns the line of a reply.
+/// Writes the line of a reply.
 fn write_reply<W: Write>(writer: &mut W, modem: Modem, bytes: &[u8]) -> io::Result<()>
     ensures { OnOk result (Appends (W.contents writer.old) (W.contents writer.new)
         (codes "R " ++ (address modem ++ (codes " " ++ (encode_upper bytes.now ++ 10 ∷ []))))) }
@@ -125,7 +125,7 @@ fn write_reply<W: Write>(writer: &mut W, modem: Modem, bytes: &[u8]) -> io::Resu
     write_hex_line(writer, bytes)
 }
 
-/// Returns the line of a frame of an operator.
+/// Writes the line of a frame of an operator.
 fn write_frame<W: Write>(
     writer: &mut W,
     plant: &Plant,
@@ -143,7 +143,7 @@ fn write_frame<W: Write>(
     writer.write_all(b"\n")
 }
 
-/// Returns the line of an operator's output.
+/// Writes the line of an operator's output.
 fn write_output<W: Write>(writer: &mut W, plant: &Plant, op: Op, output: &Output) -> io::Result<()>
     ensures { OnOk result (Appends (W.contents writer.old) (W.contents writer.new)
         (output_line (operator_name (slice_get plant.now.rows op)) output.now)) }
@@ -155,7 +155,7 @@ fn write_output<W: Write>(writer: &mut W, plant: &Plant, op: Op, output: &Output
     }
 }
 
-/// Returns the line of a MAP.
+/// Writes the line of a MAP.
 fn write_map<W: Write>(writer: &mut W, made: &MapBytes) -> io::Result<()>
     ensures { OnOk result (Appends (W.contents writer.old) (W.contents writer.new) (map_line made.now)) }
 {
@@ -164,7 +164,7 @@ fn write_map<W: Write>(writer: &mut W, made: &MapBytes) -> io::Result<()>
     write_hex_line(writer, made.bytes.as_slice())
 }
 
-/// Returns the line of an output.
+/// Writes the line of an output.
 fn write_out<W: Write>(writer: &mut W, plant: &Plant, out: &Out) -> io::Result<()>
     ensures { OnOk result (Appends (W.contents writer.old) (W.contents writer.new) (out_line plant.now out.now)) }
 {

@@ -40,7 +40,7 @@ fn code_name(code: Code) -> &'static str {
     }
 }
 
-/// Returns what a reply says besides its code.
+/// Appends what a reply says besides its code.
 fn put_detail(text: &mut String, detail: Detail) -> Result<(), AllocError> {
     match detail {
         Detail::Nothing => Ok(()),
@@ -89,7 +89,7 @@ fn put_listed(
     Ok(())
 }
 
-/// Returns the sets of a flow: those it has, and those that wait for an acknowledgement.
+/// Appends the sets of a flow: those it has, and those that wait for an acknowledgement.
 fn put_sets(text: &mut String, units: Units, sfid: u32, flow: &Flow) -> Result<(), AllocError> {
     write!(text, "SFID {sfid}: ")?;
     let has = flow.sets.get_fields();
@@ -108,7 +108,7 @@ fn put_sets(text: &mut String, units: Units, sfid: u32, flow: &Flow) -> Result<(
     text.push_str("\n")
 }
 
-/// Returns a flow of an operator that was added or changed, and how much of the budget is held
+/// Appends a flow of an operator that was added or changed, and how much of the budget is held
 /// then.
 fn put_flow(
     alloc: Global,
@@ -130,7 +130,7 @@ fn put_flow(
     write!(text, "the budget of {budget} minislots holds {held}\n")
 }
 
-/// Returns a reply that was read.
+/// Appends a reply that was read.
 fn put_read(text: &mut String, modem: Modem, reply: &Reply) -> Result<(), AllocError> {
     let (name, tid) = (response_name(reply.get_kind()), reply.get_tid());
     let code = code_name(reply.get_code());
@@ -161,7 +161,7 @@ fn put_reply(
     }
 }
 
-/// Returns what a step is about that is not answered.
+/// Appends what a step is about that is not answered.
 fn put_about(text: &mut String, about: About) -> Result<(), AllocError> {
     match about {
         About::Nothing => Ok(()),
@@ -223,7 +223,7 @@ fn put_pending(text: &mut String, pending: &[u16]) -> Result<(), AllocError> {
     Ok(())
 }
 
-/// Returns a frame of an operator.
+/// Appends a frame of an operator.
 fn put_frame(
     text: &mut String,
     core: &PlantCore,
