@@ -92,9 +92,12 @@ const THREADS_INPUT: &str = "Further options, before the command or after it:
     --input FILE    read FILE in place of standard input
 
 Standard input: a plant file, a line --- and a script.
-Standard output: as of `run`, written when all threads have ended.
+Standard output: as of `run`, but operator by operator, and then the MAPs. It is written when all threads have ended.
 
     plant_script threads < script.txt
+
+The command is there to run and to check the concurrent code: at the end the program compares what the threads did with the
+script. It is slower than `run`.
 
 Exit status: 0 success, 3 invalid plant file, 4 invalid line or refused step, 5 out of memory, 6 I/O error,
 7 internal error: the threads did not follow the script.";
