@@ -1,8 +1,9 @@
 -- Where two lists differ first.
 use Rattle.std.proofs.Common.{◌≡◌, ℕ, zero, suc, ◌+◌, ◌<◌, ◌≤◌, List, [], ◌∷◌, ◌++◌, length, take, drop, get_or, append-nil, Option, Some, None, refl, sym, ap, ◌∙◌, arith}
 use Rattle.std.specs.Prelude.{slice_get, filter_map}
-use Rattle.std.proofs.lemmas.List.{length-take-le, drop_more}
-use Rattle.std.proofs.lemmas.Option.{none-some, same_Some}
+use Rattle.std.proofs.lemmas.List.{length-take-le, drop_more, take_more}
+use Rattle.std.proofs.lemmas.List.Elements.{filter_map-append}
+use Rattle.std.proofs.lemmas.Option.{none-some, same_Some, slice_get_within, get_or_from_slice_get}
 use Rattle.run_audit.specs.Straying.{DifferFirst}
 
 nothing_left : {X : Type 0} (xs : List X) (i : ℕ) → length xs ≤ i → drop i xs ≡ []
@@ -81,6 +82,23 @@ module _ {X Y : Type 0} (f : X → Option Y) where
 
   pub gives_some : (x : X) (xs : List X) (y : Y) → f x ≡ Some y → filter_map f (x ∷ xs) ≡ y ∷ filter_map f xs
   gives_some x xs y e = rw e refl
+
+  -- what the first elements give, with one element more
+  module _ (all : List X) (at : ℕ) (x : X) (here : slice_get all at ≡ Some x) where
+    one_more : filter_map f (take (at + 1) all) ≡ filter_map f (take at all) ++ filter_map f (x ∷ [])
+    one_more =
+        ap (λ (xs : List X). filter_map f xs)
+        (take_more all at x (slice_get_within all at x here) ∙ ap (λ (y : X). take at all ++ y ∷ []) (get_or_from_slice_get all at x x here))
+        ∙ filter_map-append f (take at all) (x ∷ [])
+
+    pub more_none : f x ≡ None → filter_map f (take (at + 1) all) ≡ filter_map f (take at all)
+    more_none e =
+        one_more
+        ∙ (ap (λ (ys : List Y). filter_map f (take at all) ++ ys) (gives_none x [] e)
+        ∙ append-nil (filter_map f (take at all)))
+
+    pub more_some : (y : Y) → f x ≡ Some y → filter_map f (take (at + 1) all) ≡ filter_map f (take at all) ++ y ∷ []
+    more_some y e = one_more ∙ ap (λ (ys : List Y). filter_map f (take at all) ++ ys) (gives_some x [] y e)
 
   module _ (all due : List Y) (xs : List X) (n i : ℕ) (x : X) (walked : all ≡ take n due ++ filter_map f (drop i xs)) (lt : i < length xs) (here : x ≡ get_or xs i x) where
     left_is : drop i xs ≡ x ∷ drop (i + 1) xs

@@ -9,3 +9,4 @@ pub mod Least
 pub mod Judging
 pub mod Exact
 pub mod Dues
+pub mod Advanced

@@ -65,11 +65,11 @@ own_is_taken row i (steps.Tick op) own = by (op == i) own
 own_is_taken row i (steps.Collect op) own = refl
 own_is_taken row i (steps.Reslice from rows) own = refl
 
-some_is : {A : Type 0} (o : Option A) → is_some o ≡ true → (x : A) × (o ≡ Some x)
+pub some_is : {A : Type 0} (o : Option A) → is_some o ≡ true → (x : A) × (o ≡ Some x)
 some_is None h = absurd (false≢true h)
 some_is (Some x) h = (x, refl)
 
-none_is : {A : Type 0} (o : Option A) → is_some o ≡ false → o ≡ None
+pub none_is : {A : Type 0} (o : Option A) → is_some o ≡ false → o ≡ None
 none_is None h = refl
 none_is (Some x) h = absurd (false≢true (sym h))
 
@@ -114,3 +114,11 @@ others_none plant (steps.Collect other) op i row is waits ne here = record {
   collection = ne_eqb other i (λ same. ne (sym same ∙ same_Some other op waits));
 }
 others_none plant (steps.Reslice from rows) op i row is waits ne here = absurd (none-some op waits)
+
+-- a step that waits in an operator's history is, for this operator, the action that it is taken as
+pub waits_as_taken : (plant : PlantFields) (step : Step) (op : ℕ) (row : RowFields) → IsPlant plant → waiting_operator plant step ≡ Some op → slice_get plant.rows op ≡ Some row → action_of row op step ≡ taken_by op step
+waits_as_taken plant (steps.Arrive modem heard) op row is waits here = (arrive_at plant modem heard op is waits).here op row here refl
+waits_as_taken plant (steps.Work other) op row is waits here = (work_at plant other).here op row here (sym (same_Some other op waits))
+waits_as_taken plant (steps.Tick other) op row is waits here = (tick_at plant other).here op row here (sym (same_Some other op waits))
+waits_as_taken plant (steps.Collect other) op row is waits here = refl
+waits_as_taken plant (steps.Reslice from rows) op row is waits here = absurd (none-some op waits)

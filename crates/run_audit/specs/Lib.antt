@@ -3,5 +3,7 @@ pub mod Outs
 pub mod Straying
 pub mod Taken
 pub mod Numbering
+pub mod Advancing
+pub mod Counting
 pub mod Outcome
 pub mod Due

@@ -1,52 +1,19 @@
 //! The comparison of what a plant's threads have done with the steps of their run.
 
-ghost use Rattle.std.specs.Prelude.{◌≡◌, ◌↔◌, length, map, vec_len, IsTrue, MatchOption, ℕ, All, Err, IfOk, OnOk, IfErr};
+ghost use Rattle.std.specs.Prelude.{◌≡◌, ◌↔◌, length, map, vec_len, MatchOption, ℕ, All, Err, IfOk, OnOk, IfErr};
 ghost use Rattle.operator_book.specs.ViewOf.{view_of};
 ghost use Rattle.run_receipts.specs.Callers.{AreByCallers};
 ghost use Rattle.run_audit.specs.Straying.{AreOwnRuns, ArePut, IsStrayHistory, IsMapStray, IsFound};
-ghost use Rattle.run_audit.specs.Outcome.{AreMerged, AreTicked, ticks_of, is_tick_of, IsOutcome};
+ghost use Rattle.run_audit.specs.Outcome.{AreMerged, AreTicked, IsOutcome};
 
+use crate::advancing::first_stray;
 use crate::assembly::Assembly;
-use crate::following::first_stray;
-use crate::putting::{count_collects, first_put_stray};
+use crate::putting::first_put_stray;
 use operator_book::Book;
-use plant::{Op, Plant};
+use plant::Plant;
 use plant_comparison::is_same_plant;
 use run_model::Step;
 use run_receipts::{RunFault, Settled};
-
-/// Returns whether a step is a tick of this operator.
-fn is_tick_of(op: Op, step: &Step) -> bool
-    ensures { result ≡ is_tick_of op step.now }
-{
-    match step {
-        Step::Tick { op: other } => *other == op,
-        Step::Arrive { modem: _, heard: _ }
-        | Step::Work { op: _ }
-        | Step::Collect { op: _ }
-        | Step::Reslice { from: _, rows: _ } => false,
-    }
-}
-
-/// Returns how often an operator ticks.
-fn count_ticks(op: Op, steps: &[Step]) -> usize
-    ensures { result ≡ ticks_of op steps.now }
-{
-    steps.iter().filter(|step| is_tick_of(op, step)).count()
-}
-
-/// Returns whether no operator's frames are collected more often than it ticks. What `compare` asks
-/// for.
-pub fn are_ticked(plant: &Plant, steps: &[Step]) -> bool
-    ensures { IsTrue result ↔ AreTicked plant.now steps.now }
-{
-    for op in 0..plant.rows().len() {
-        if count_ticks(op, steps) < count_collects(op, steps) {
-            return false;
-        }
-    }
-    true
-}
 
 /// Returns the first frame of which the assembly strays. Takes no memory.
 fn first_map_stray(

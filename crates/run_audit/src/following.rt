@@ -1,6 +1,6 @@
 //! Whether operators' histories follow the steps of a run.
 
-ghost use Rattle.std.specs.Prelude.{◌≡◌, ◌↔◌, ◌<◌, length, map, IsTrue, is_some, Some, slice_get, MatchOption};
+ghost use Rattle.std.specs.Prelude.{◌≡◌, ◌↔◌, ◌<◌, length, IsTrue, is_some, Some, slice_get, MatchOption};
 ghost use Rattle.plant.specs.Row.{is_listed};
 ghost use Rattle.operator_model.specs.declared.action.Action.{Action};
 ghost use Rattle.plant.specs.declared.operator_row.RowFields.{RowFields};
@@ -8,7 +8,7 @@ ghost use Rattle.operator_model.specs.Replay.{actions_of};
 ghost use Rattle.operator_book.specs.ViewOf.{view_of};
 ghost use Rattle.run_model.specs.OwnSteps.{action_of, own_steps};
 ghost use Rattle.run_model.specs.IsStateAfter.{IsBookAfter};
-ghost use Rattle.run_audit.specs.Straying.{DifferFirst, AreOwnRuns, HistoryStraysAt, IsStrayHistory};
+ghost use Rattle.run_audit.specs.Straying.{DifferFirst, HistoryStraysAt};
 ghost use Rattle.run_audit.specs.Taken.{taken_by, waiting_operator};
 
 use dsx_messages::Modem;
@@ -32,7 +32,7 @@ fn is_of(plant: &Plant, modem: Modem, op: Op) -> bool
 }
 
 /// Returns whether a step is one of this operator's own.
-fn is_own(plant: &Plant, op: Op, step: &Step) -> bool
+pub(crate) fn is_own(plant: &Plant, op: Op, step: &Step) -> bool
     ensures { (row : RowFields) → slice_get plant.now.rows op ≡ Some row
         → result ≡ is_some (action_of row op step.now) }
 {
@@ -69,7 +69,7 @@ fn is_action(op: Op, step: &Step, action: &Action) -> bool
 
 /// Returns whether a step, taken as this operator's own, is the action at this place of the
 /// history.
-fn is_next(op: Op, step: &Step, history: &[Entry], place: usize) -> bool
+pub(crate) fn is_next(op: Op, step: &Step, history: &[Entry], place: usize) -> bool
     ensures value { (action : Action) → taken_by op step.now ≡ Some action
         → (IsTrue result ↔ (slice_get (actions_of history.now) place ≡ Some action)) }
     ensures within { IsTrue result → place < length history.now }
@@ -129,18 +129,4 @@ pub fn waiting_operator(plant: &Plant, step: &Step) -> Option<Op>
         Step::Work { op } | Step::Tick { op } | Step::Collect { op } => Some(*op),
         Step::Reslice { from: _, rows: _ } => None,
     }
-}
-
-/// Returns the least operator whose history strays, and where it does.
-pub(crate) fn first_stray(plant: &Plant, books: &[Book], steps: &[Step]) -> Option<(Op, usize)>
-    requires { length books.now ≡ length plant.now.rows }
-    ensures { MatchOption result (AreOwnRuns plant.now steps.now (map view_of books.now))
-        (λ stray. IsStrayHistory plant.now steps.now (map view_of books.now) stray.0 stray.1) }
-{
-    for (op, book) in books.iter().enumerate() {
-        if let Some(index) = stray_at(plant, op, book, steps) {
-            return Some((op, index));
-        }
-    }
-    None
 }

@@ -2,7 +2,6 @@
 
 ghost use Rattle.std.specs.Prelude.{◌≡◌, ℕ, All, map, take, option_map, MatchOption, Option, Some, None};
 ghost use Rattle.operator_book.specs.ViewOf.{view_of};
-ghost use Rattle.run_model.specs.OwnSteps.{is_collect, collects_of};
 ghost use Rattle.run_model.specs.IsStateAfter.{AreNumbered};
 ghost use Rattle.plant_core.specs.Waiting.{frames_in, IsOneFrame};
 ghost use Rattle.run_receipts.specs.Framing.{numbered_frame};
@@ -11,6 +10,7 @@ ghost use Rattle.run_audit.specs.Straying.{ArePut, IsPutStray};
 ghost use Rattle.run_audit.specs.Numbering.{AllAreNumbered, IsMissed};
 ghost use Rattle.run_receipts.specs.Straying.{lesser};
 
+use crate::counting::{MOST_OPERATORS, collects_of, count_all_collects};
 use crate::due::{behind_due, next_due};
 use crate::placing::Placing;
 use operator_book::Book;
@@ -18,26 +18,6 @@ use operator_model::Entry;
 use plant::Op;
 use run_model::Step;
 use run_receipts::Frame;
-
-/// Returns whether a step collects a frame of this operator.
-fn is_collect(op: Op, step: &Step) -> bool
-    ensures { result ≡ is_collect op step.now }
-{
-    match step {
-        Step::Collect { op: other } => *other == op,
-        Step::Arrive { modem: _, heard: _ }
-        | Step::Work { op: _ }
-        | Step::Tick { op: _ }
-        | Step::Reslice { from: _, rows: _ } => false,
-    }
-}
-
-/// Returns how often an operator's frames are collected.
-pub(crate) fn count_collects(op: Op, steps: &[Step]) -> usize
-    ensures { result ≡ collects_of op steps.now }
-{
-    steps.iter().filter(|step| is_collect(op, step)).count()
-}
 
 /// Returns the frame that a placing put of this operator, if it put one.
 fn put_by(op: Op, placing: &Placing) -> Option<Frame<'_>>
@@ -105,11 +85,13 @@ pub(crate) fn first_put_stray(books: &[Book], placings: &[Placing], steps: &[Ste
         → MatchOption result (ArePut steps.now (map view_of books.now) placings.now)
         (IsPutStray first steps.now (map view_of books.now) placings.now) }
 {
+    let mut counts = [0; MOST_OPERATORS];
+    count_all_collects(&mut counts, steps);
     let mut least = None;
     for (op, book) in books.iter().enumerate() {
         // For the proof: the frames of the history are numbered without a gap.
         book.always_replayed();
-        let due = count_collects(op, steps);
+        let due = collects_of(&counts, op, steps);
         least = lesser(least, first_missed(op, book.history(), due, placings));
     }
     least

@@ -12,7 +12,7 @@ use Rattle.operator_model.specs.declared.action.Action.TheVariants.{Tick}
 use Rattle.operator_model.specs.Frames.{is_tick}
 use Rattle.run_model.specs.declared.step.Step.{Step}
 use Rattle.run_model.specs.OwnSteps.{action_of, own_steps, is_collect}
-use Rattle.run_audit.proofs.Differing.{gives_none, gives_some}
+use Rattle.run_audit.proofs.Differing.{gives_none, gives_some, more_none, more_some}
 use Rattle.run_plan.specs.declared.turns.Course.{Course}
 use Rattle.run_plan.specs.Turns.{IsTickAt}
 use Rattle.run_plan.specs.Courses.{IsCourse}
@@ -66,47 +66,30 @@ module _ (own : List Action) (a : Action) (count place : ℕ) (at : IsTickAt (ow
 
 -- ---- one step more
 module _ (row : RowFields) (op : ℕ) (all : List Step) (at : ℕ) (step : Step) (here : slice_get all at ≡ Some step) where
-  split : take (at + 1) all ≡ take at all ++ step ∷ []
-  split =
-      take_more all at step (slice_get_within all at step here)
-      ∙ ap (λ (s : Step). take at all ++ s ∷ []) (get_or_from_slice_get all at step step here)
-
-  own_more : own_steps row op (take (at + 1) all) ≡ own_steps row op (take at all) ++ own_steps row op (step ∷ [])
-  own_more = ap (λ (ss : List Step). own_steps row op ss) split ∙ filter_map-append (action_of row op) (take at all) (step ∷ [])
-
-  own_none : action_of row op step ≡ None → own_steps row op (take (at + 1) all) ≡ own_steps row op (take at all)
-  own_none e =
-      own_more
-      ∙ (ap (λ (done : List Action). own_steps row op (take at all) ++ done) (gives_none (action_of row op) step [] e)
-      ∙ append-nil (own_steps row op (take at all)))
-
-  own_some : (a : Action) → action_of row op step ≡ Some a → own_steps row op (take (at + 1) all) ≡ own_steps row op (take at all) ++ a ∷ []
-  own_some a e = own_more ∙ ap (λ (done : List Action). own_steps row op (take at all) ++ done) (gives_some (action_of row op) step [] a e)
-
   module _ (c : Course) (is : IsCourse row op (take at all) c) where
     pub course_none : action_of row op step ≡ None → is_collect op step ≡ false → IsCourse row op (take (at + 1) all) c
     course_none e not_so = record {
-      actions = is.actions ∙ ap (λ (done : List Action). length done) (sym (own_none e));
+      actions = is.actions ∙ ap (λ (done : List Action). length done) (sym (more_none (action_of row op) all at step here e));
       collects = is.collects ∙ sym (no_more (is_collect op) all at step here not_so);
-      many = is.many ∙ ap (λ (done : List Action). count_by is_tick done) (sym (own_none e));
-      ticks = λ count place t. is.ticks count place (subst (λ (done : List Action). IsTickAt done count place) (own_none e) t);
+      many = is.many ∙ ap (λ (done : List Action). count_by is_tick done) (sym (more_none (action_of row op) all at step here e));
+      ticks = λ count place t. is.ticks count place (subst (λ (done : List Action). IsTickAt done count place) (more_none (action_of row op) all at step here e) t);
     }
 
     pub course_collects : action_of row op step ≡ None → is_collect op step ≡ true → IsCourse row op (take (at + 1) all) (record c { collects = c.collects + 1 })
     course_collects e is_so = record {
-      actions = is.actions ∙ ap (λ (done : List Action). length done) (sym (own_none e));
+      actions = is.actions ∙ ap (λ (done : List Action). length done) (sym (more_none (action_of row op) all at step here e));
       collects = ap (λ (n : ℕ). n + 1) is.collects ∙ sym (one_more (is_collect op) all at step here is_so);
-      many = is.many ∙ ap (λ (done : List Action). count_by is_tick done) (sym (own_none e));
-      ticks = λ count place t. is.ticks count place (subst (λ (done : List Action). IsTickAt done count place) (own_none e) t);
+      many = is.many ∙ ap (λ (done : List Action). count_by is_tick done) (sym (more_none (action_of row op) all at step here e));
+      ticks = λ count place t. is.ticks count place (subst (λ (done : List Action). IsTickAt done count place) (more_none (action_of row op) all at step here e) t);
     }
 
     module _ (a : Action) (e : action_of row op step ≡ Some a) (not_so : is_collect op step ≡ false) where
       grown : length (own_steps row op (take (at + 1) all)) ≡ length (own_steps row op (take at all)) + 1
-      grown = ap (λ (done : List Action). length done) (own_some a e) ∙ length_end (own_steps row op (take at all)) a
+      grown = ap (λ (done : List Action). length done) (more_some (action_of row op) all at step here a e) ∙ length_end (own_steps row op (take at all)) a
 
       counted : count_by is_tick (own_steps row op (take (at + 1) all)) ≡ count_by is_tick (own_steps row op (take at all)) + cond (is_tick a) 1 0
       counted =
-          ap (λ (done : List Action). count_by is_tick done) (own_some a e)
+          ap (λ (done : List Action). count_by is_tick done) (more_some (action_of row op) all at step here a e)
           ∙ (sum_by-append (λ (x : Action). cond (is_tick x) 1 0) (own_steps row op (take at all)) (a ∷ [])
           ∙ ap (λ (n : ℕ). count_by is_tick (own_steps row op (take at all)) + n) (zero-add (cond (is_tick a) 1 0)))
 
@@ -116,7 +99,7 @@ module _ (row : RowFields) (op : ℕ) (all : List Step) (at : ℕ) (step : Step)
         collects = is.collects ∙ sym (no_more (is_collect op) all at step here not_so);
         many = let none : cond {A = ℕ} (is_tick a) 1 0 ≡ 0 = ap (λ (b : Bool). cond b 1 0) other in omega (arith, is.many, counted, none);
         ticks = λ count place t.
-            let there : IsTickAt (own_steps row op (take at all) ++ a ∷ []) count place = subst (λ (done : List Action). IsTickAt done count place) (own_some a e) t in
+            let there : IsTickAt (own_steps row op (take at all) ++ a ∷ []) count place = subst (λ (done : List Action). IsTickAt done count place) (more_some (action_of row op) all at step here a e) t in
             by count place there (one_of (own_steps row op (take at all)) a count place there);
       }
         where
@@ -135,7 +118,7 @@ module _ (row : RowFields) (op : ℕ) (all : List Step) (at : ℕ) (step : Step)
             ∙ (length_end c.behind.items (c.actions + 1)
             ∙ (let one : cond {A = ℕ} (is_tick a) 1 0 ≡ 1 = ap (λ (b : Bool). cond b 1 0) is_so in omega (arith, is.many, counted, one)));
         ticks = λ count place t.
-            let there : IsTickAt (own_steps row op (take at all) ++ a ∷ []) count place = subst (λ (done : List Action). IsTickAt done count place) (own_some a e) t in
+            let there : IsTickAt (own_steps row op (take at all) ++ a ∷ []) count place = subst (λ (done : List Action). IsTickAt done count place) (more_some (action_of row op) all at step here a e) t in
             ap (λ (ns : List ℕ). slice_get ns count) behind ∙ by count place there (one_of (own_steps row op (take at all)) a count place there);
       }
         where

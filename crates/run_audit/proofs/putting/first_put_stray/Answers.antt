@@ -5,7 +5,10 @@ use Rattle.plant_core.specs.Waiting.{frames_in, IsOneFrame}
 use Rattle.plant_core.proofs.WaitingLemmas.{replay_one}
 use Rattle.run_audit.proofs.Least.{first_more, first_of_all, map_there}
 use Rattle.run_audit.proofs.putting.first_put_stray.Goals as goal
-use Rattle.std.proofs.lemmas.List.{length-map}
+use Rattle.std.proofs.lemmas.List.{length-map, get_or-replicate}
+
+pub count_all_collects-requires : goal.count_all_collects-requires
+count_all_collects-requires g c i lt = get_or-replicate 32 i 0 0 lt
 
 pub first_missed-requires : goal.first_missed-requires
 first_missed-requires g c =
@@ -20,9 +23,9 @@ pub loop-op-preserved : goal.loop-op-preserved
 loop-op-preserved g c first are =
     first_more first c.args.steps.now _ c.args.placings.now c.loop-op.op (view_of c.index-books-op.result)
     (map_there view_of c.args.books.now c.loop-op.op c.index-books-op.result c.loop-op-test.true c.index-books-op.is)
-    (take c.count_collects-due.result (frames_in c.history.result.now))
-    (ap (λ (h : List Entry). take c.count_collects-due.result (frames_in h)) c.history.ensures
-    ∙ ap (λ (n : ℕ). take n (frames_in (view_of c.index-books-op.result).history)) c.count_collects-due.ensures)
+    (take c.collects_of-due.result (frames_in c.history.result.now))
+    (ap (λ (h : List Entry). take c.collects_of-due.result (frames_in h)) c.history.ensures
+    ∙ ap (λ (n : ℕ). take n (frames_in (view_of c.index-books-op.result).history)) c.collects_of-due.ensures)
     c.loop-op.least c.first_missed.result c.lesser-least.result c.lesser-least.ensures are (c.first_missed.ensures first) (c.loop-op.invariant first are)
 
 pub loop-op-init : goal.loop-op-init

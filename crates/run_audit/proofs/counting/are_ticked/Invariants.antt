@@ -1,7 +1,7 @@
 use Rattle.std.proofs.Common.{ℕ, ◌<◌, ◌≤◌}
 use Rattle.run_model.specs.OwnSteps.{collects_of}
 use Rattle.run_audit.specs.Outcome.{ticks_of}
-use Rattle.run_audit.proofs.comparing.are_ticked.Given as goal
+use Rattle.run_audit.proofs.counting.are_ticked.Given as goal
 
 abbrev pub invariant-loop-op : goal.invariant-loop-op
 invariant-loop-op l = (i : ℕ) → i < l.op → collects_of i l.steps ≤ ticks_of i l.steps

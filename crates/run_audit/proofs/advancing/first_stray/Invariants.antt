@@ -4,7 +4,7 @@ use Rattle.plant.specs.declared.operator_row.RowFields.{RowFields}
 use Rattle.operator_model.specs.Replay.{BookView}
 use Rattle.operator_book.specs.ViewOf.{view_of}
 use Rattle.run_model.specs.IsStateAfter.{IsBookAfter}
-use Rattle.run_audit.proofs.following.first_stray.Given as goal
+use Rattle.run_audit.proofs.advancing.first_stray.Given as goal
 
 abbrev pub invariant-loop-op : goal.invariant-loop-op
 invariant-loop-op g l =

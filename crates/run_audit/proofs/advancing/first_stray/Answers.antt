@@ -6,7 +6,7 @@ use Rattle.operator_book.specs.ViewOf.{view_of}
 use Rattle.run_model.specs.IsStateAfter.{IsBookAfter}
 use Rattle.run_model.proofs.Entries.{some_at}
 use Rattle.run_audit.proofs.Least.{next_place, map_there}
-use Rattle.run_audit.proofs.following.first_stray.Goals as goal
+use Rattle.run_audit.proofs.advancing.first_stray.Goals as goal
 
 pub returns-in-Some : goal.returns-in-Some
 returns-in-Some g c =
