@@ -18,8 +18,9 @@ def main():
     words = sys.argv[1:]
     if has_state_option(words):
         sys.exit(run(words))
-    # The lines of a service have no limit.
-    status, text = reference_answer(words, sys.stdin.buffer.read(-1 if words in (["serve"], ["resume"]) else MOST_INPUT + 1))
+    # The lines of a service have no limit. `run` may begin one, with a snapshot.
+    has_limit = words[:1] not in (["serve"], ["resume"], ["restore"], ["snapshot"], ["run"])
+    status, text = reference_answer(words, sys.stdin.buffer.read(MOST_INPUT + 1 if has_limit else -1))
     sys.stdout.buffer.write(text)
     sys.exit(status)
 

@@ -2,7 +2,7 @@
 
 from .captures import captured
 from .program import answer
-from .resuming import resumed
+from .resuming import is_snapshot, restored, resumed, saved
 from .services import served
 from .traces import traced
 
@@ -14,8 +14,12 @@ def reference_answer(words, data):
         status, text = traced(data)
     elif words == ["serve"]:
         status, text = served(data)
-    elif words == ["resume"]:
+    elif words == ["resume"] or words in (["run"], ["run", "--"]) and is_snapshot(data):
         status, text = resumed(data)
+    elif words == ["restore"]:
+        status, text = restored(data)
+    elif words == ["snapshot"]:
+        status, text = saved(data)
     else:
         status, text = answer(words, data)
     return status, text.encode()

@@ -1,4 +1,7 @@
-"""Runs the command `resume`: serves from a plant file or a snapshot, writes snapshots (`K`), and changes the plant (`P`) and frame numbers (`N`)."""
+"""Runs the command `resume`: serves from a plant file or a snapshot, writes snapshots (`K`), and changes the plant (`P`) and frame numbers (`N`).
+
+Runs `restore`, which takes a snapshot alone, and `snapshot`, which writes the snapshot after the last line.
+"""
 
 import re
 
@@ -15,13 +18,39 @@ SNAPSHOT = b"melfjits-snapshot "
 MOST_FRONT = 1_048_640
 
 
+def is_snapshot(data):
+    return data.startswith(SNAPSHOT)
+
+
 def resumed(data):
     """Returns the exit status of `resume`, and what it prints."""
     try:
-        core, plant_text, lines = snapshot_begun(data) if data.startswith(SNAPSHOT) else plant_begun(data)
+        service, lines = begun(data)
     except Fault as fault:
         return fault.status, fault.last_line + "\n"
-    return 0, "".join(Service(core, plant_text).answers(lines))
+    return 0, "".join(service.answers(lines))
+
+
+def restored(data):
+    """Returns the exit status of `restore`, and what it prints."""
+    return resumed(data) if is_snapshot(data) else (PLANT, "fault: snapshot 1\n")
+
+
+def saved(data):
+    """Returns the exit status of `snapshot`, and what it prints."""
+    try:
+        service, lines = begun(data)
+        for _answer in service.answers(lines):
+            pass
+        return 0, service.last_snapshot()
+    except Fault as fault:
+        return fault.status, fault.last_line + "\n"
+
+
+def begun(data):
+    """Returns the service that begins with a plant file or a snapshot, and its lines."""
+    core, plant_text, lines = snapshot_begun(data) if is_snapshot(data) else plant_begun(data)
+    return Service(core, plant_text), lines
 
 
 class Service:
@@ -50,6 +79,13 @@ class Service:
 
     def snapshot(self, number):
         return snapshot_of(self.core, self.plant_text) or invalid_line(number)
+
+    def last_snapshot(self):
+        """Returns the snapshot after the last line."""
+        snapshot = snapshot_of(self.core, self.plant_text)
+        if not snapshot:
+            raise Fault(PLANT, "fault: state")
+        return snapshot
 
     def change(self, number, file):
         """Changes the plant to that of a file. A file that is not ended is None, and refused."""
