@@ -1,5 +1,5 @@
 -- What a text before the lines says, and why it says nothing.
-use Rattle.std.proofs.Common.{◌≡◌, ℕ, List, Bool, true, false, MatchBool, Ok, refl, sym, subst}
+use Rattle.std.proofs.Common.{◌≡◌, ℕ, List, Bool, true, false, MatchBool, Option, Some, None, IfSome, IfErr, Result, Ok, Err, refl, sym, subst}
 use Rattle.std.specs.Str.{IsUtf8, is_utf8}
 use Rattle.std.proofs.lemmas.Str.{IsUtf8-from_is_utf8}
 use Rattle.plant.specs.declared.plant.PlantFields.{PlantFields}
@@ -7,7 +7,7 @@ use Rattle.snapshot_format.specs.declared.saved.Snapshot.{Snapshot}
 use Rattle.snapshot_format.specs.Snapshot.{snapshot_of}
 use Rattle.resumed_service.specs.declared.begin_fault.BeginFault.{BeginFault}
 use Rattle.resumed_service.specs.declared.begin_fault.BeginFault.TheVariants.{NotText, InvalidSnapshot, InvalidPlant, NotRestored, NoMemory}
-use Rattle.resumed_service.specs.Beginning.{is_snapshot_head, GoesOnFrom, BeginsAnew, IsBeginning, IsSavedFile, IsPlantFile, IsFileFault, IsTextFault, IsRestoringFault, IsBeginFault}
+use Rattle.resumed_service.specs.Beginning.{is_snapshot_head, front_text, GoesOnFrom, BeginsAnew, IsBeginning, IsSavedFile, IsPlantFile, IsFileFault, IsTextFault, IsRestoringFault, IsBeginFault}
 
 -- bytes that are no text
 pub no_text : (file : List ℕ) → ¬ IsUtf8 file → is_utf8 file ≡ false
@@ -52,3 +52,12 @@ state_fault text plant saved (InvalidSnapshot number wrong) begins is = absurd i
 state_fault text plant saved (InvalidPlant why) begins is = absurd is
 state_fault text plant saved (NotRestored why) begins is = record { plant = plant; saved = saved; begins = begins; refused = is }
 state_fault text plant saved NoMemory begins is = tt
+
+-- ---- the text is read
+
+-- a fault of the text that was read
+pub fault_read : {T : Type 0} (known : Option (List ℕ)) (text : List ℕ) (r : Result T BeginFault) → IfSome known (λ input. text ≡ front_text input) → IfErr r (IsTextFault text)
+    → IfErr r (λ fault. IfSome known (λ input. IsTextFault (front_text input) fault))
+fault_read known text (Ok begun) is why = tt
+fault_read None text (Err fault) is why = tt
+fault_read (Some input) text (Err fault) is why = subst (λ (t : List ℕ). IsTextFault t fault) is why

@@ -22,21 +22,21 @@ use Rattle.plant_restart.specs.Restarted.{IsRestarted}
 use Rattle.plant_restart.specs.Saving.{states_by_name}
 use Rattle.resumed_service.specs.declared.line_break.LineBreak.{LineBreak}
 use Rattle.resumed_service.specs.declared.line_break.LineBreak.TheVariants.{Another, End}
-use Rattle.resumed_service.specs.declared.begin_fault.BeginFault.{BeginFault}
 use Rattle.resumed_service.specs.declared.new_plant_fault.NewPlantFault.{NewPlantFault}
 use Rattle.resumed_service.specs.declared.new_plant_fault.NewPlantFault.TheVariants as new_faults
 use Rattle.resumed_service.specs.declared.kept_text.Keeping.{Keeping}
 use Rattle.resumed_service.specs.declared.plant_file.PlantFileEnd.{PlantFileEnd}
-use Rattle.resumed_service.specs.declared.serving.ServiceEnd.{ServiceEnd}
 use Rattle.resumed_service.specs.declared.serving.ServiceEnd.TheVariants as ends
-use Rattle.resumed_service.specs.Beginning.{front_text, lines_after, IsBeginning, IsTextFault, IsBeginFault}
+use Rattle.resumed_service.specs.declared.last_state.AtEnd.{AtEnd}
+use Rattle.resumed_service.specs.declared.last_state.LastState.{LastState}
+use Rattle.resumed_service.specs.Beginning.{IsBeginningRead}
 use Rattle.resumed_service.specs.Lines.{IsLineRead}
 use Rattle.resumed_service.specs.NewPlants.{IsNewFileFault, IsChangeRefusal, IsNewPlantFault, refusal_text}
 use Rattle.resumed_service.specs.PlantFiles.{lines_taken, lines_left, break_after, file_text, IsFileOf, IsFileKept, IsFileRead, IsNumberAfter}
-use Rattle.resumed_service.specs.Items.{InService, ItemAnswer, IsRunSoFarOf, IsItemAnswer, AreItemAnswers, IsServedFrom, begins_plant, change_text, texts_of}
-use Rattle.resumed_service.specs.Resumed.{resumed_service, EndsBegun, EndsInput}
+use Rattle.resumed_service.specs.Items.{InService, ItemAnswer, IsRunSoFarOf, IsItemAnswer, AreItemAnswers, begins_plant, change_text, texts_of}
+use Rattle.resumed_service.specs.LastStates.{IsLastState, IsServedTo}
+use Rattle.resumed_service.specs.Resumed.{resumed_service, EndsInput}
 use Rattle.resumed_service.specs.Served.{in_service, ItemIsAnswered, AreServedSoFar, HoldsLine, AwaitsPlant}
-use Rattle.resumed_service.proofs.BeginLemmas.{text_fault, state_fault}
 
 -- nothing is read yet
 pub begun : (first : InService) (input : List ℕ) (live : CoreView) (file : List ℕ) (known : Option (List ℕ)) → IsRunSoFarOf first.run live → first.file ≡ file
@@ -46,7 +46,7 @@ begun first input live file known leads same = record {
   text = [];
   leads = leads;
   file_is = same;
-  goes_on = λ more are. (more, are, refl);
+  goes_on = λ more are. (more, are, refl, refl);
   written = Appends-nil known;
 }
 
@@ -76,7 +76,7 @@ module _ (first : InService) (input line : List ℕ) (lines : List (List ℕ)) (
         let here = renumber end rest (number + answer.lines) next counted answer.next more are in
         let tail = subst (λ (ls : List (List ℕ)). AreItemAnswers answer.next (number + answer.lines) ls more) (sym left) here in
         let all = so_far.goes_on (answer ∷ more) (is, tail) in
-        (all.0, all.1, all.2 ∙ sym (append_assoc so_far.text answer.text (texts_of more)));
+        (all.0, all.1, all.2 ∙ sym (append_assoc so_far.text answer.text (texts_of more)), all.3);
     written = Appends-trans w0 w1 w2 so_far.text answer.text so_far.written wrote;
   }
 
@@ -169,17 +169,19 @@ service_begun plant saved live core file number after known w0 is same_core same
     (subst (λ (f : List ℕ). AreServedSoFar first input (lines_of input) 1 live f w0 w0) (sym same_file) (begun first input live saved.plant w0 is.reached refl)))))
 
 -- the end of the input
-pub all_served : (first : InService) (number : ℕ) (live : CoreView) (file : List ℕ) (w0 w1 : Option (List ℕ)) (end : LineBreak) (a b : Option (List ℕ)) → end ≡ End
-    → WhereKnown a b (λ input rest. AreServedSoFar first input (lines_left end rest) number live file w0 w1) → IfSome a (λ input. IsServedFrom first input w0 w1)
-all_served first number live file w0 w1 end None b is h = tt
-all_served first number live file w0 w1 end (Some input) None is h = absurd h
-all_served first number live file w0 w1 end (Some input) (Some rest) is h =
+pub all_served : (first : InService) (number : ℕ) (live : CoreView) (file : List ℕ) (w0 w1 : Option (List ℕ)) (end : LineBreak) (a b : Option (List ℕ)) (at_end : AtEnd) (last : LastState) → end ≡ End
+    → IsLastState at_end file live last → WhereKnown a b (λ input rest. AreServedSoFar first input (lines_left end rest) number live file w0 w1) → IfSome a (λ input. IsServedTo first input w0 w1 at_end last)
+all_served first number live file w0 w1 end None b at_end last is made h = tt
+all_served first number live file w0 w1 end (Some input) None at_end last is made h = absurd h
+all_served first number live file w0 w1 end (Some input) (Some rest) at_end last is made h =
     let so_far = subst (λ (e : LineBreak). AreServedSoFar first input (lines_left e rest) number live file w0 w1) is h in
     let all = so_far.goes_on [] tt in
+    let here = subst (λ (f : List ℕ). IsLastState at_end f live last) (sym so_far.file_is) made in
     record {
-      answers = all.0;
-      answer = all.1;
+      live = live;
+      performed = record { answers = all.0; answer = all.1; leads = subst (λ (now : InService). IsRunSoFarOf now.run live) (sym all.3) so_far.leads };
       written = subst (λ (t : List ℕ). Appends w0 w1 t) (sym (all.2 ∙ append-nil so_far.text)) so_far.written;
+      last_is = subst (λ (now : InService). IsLastState at_end now.file live last) (sym all.3) here;
     }
 
 -- an item is read: its first line, and what is left
@@ -273,20 +275,15 @@ module _ (first : InService) (end : LineBreak) (number next : ℕ) (old : CoreVi
 
 -- ---- the whole
 
-pub begun_ends : (known mid : Option (List ℕ)) (text : List ℕ) (plant : PlantFields) (saved : Snapshot) (w0 w1 : Option (List ℕ)) (end : ServiceEnd)
-    → IfSome known (λ input. text ≡ front_text input) → IfSome known (λ input. mid ≡ Some (lines_after input)) → IsBeginning text plant saved
-    → EndsBegun plant saved mid w0 w1 end → EndsInput known w0 w1 end
-begun_ends None mid text plant saved w0 w1 end is behind begins ends_so = tt
-begun_ends (Some input) mid text plant saved w0 w1 ends.Served is behind begins served = record {
-  plant = plant;
-  saved = saved;
-  begins = subst (λ (t : List ℕ). IsBeginning t plant saved) is begins;
-  served = subst (λ (m : Option (List ℕ)). IfSome m (λ lines. IsServedFrom (resumed_service plant saved) lines w0 w1)) behind served;
-}
-begun_ends (Some input) mid text plant saved w0 w1 (ends.NotBegun fault) is behind begins refused =
-    (subst (λ (t : List ℕ). IsBeginFault t fault) is (state_fault text plant saved fault begins refused.0), refused.1)
-
-pub text_ends : (known : Option (List ℕ)) (text : List ℕ) (w0 : Option (List ℕ)) (fault : BeginFault) → IfSome known (λ input. text ≡ front_text input) → IsTextFault text fault
-    → EndsInput known w0 w0 (ends.NotBegun fault)
-text_ends None text w0 fault is why = tt
-text_ends (Some input) text w0 fault is why = (subst (λ (t : List ℕ). IsBeginFault t fault) is (text_fault text fault why), refl)
+-- the lines are answered
+pub begun_served : (known mid : Option (List ℕ)) (plant : PlantFields) (saved : Snapshot) (w0 w1 : Option (List ℕ)) (at_end : AtEnd) (last : LastState)
+    → IfSome known (λ input. IsBeginningRead input mid plant saved) → IfSome mid (λ lines. IsServedTo (resumed_service plant saved) lines w0 w1 at_end last) → EndsInput known w0 w1 ends.Served
+begun_served None mid plant saved w0 w1 at_end last read served = tt
+begun_served (Some input) mid plant saved w0 w1 at_end last read served =
+    let to = subst (λ (m : Option (List ℕ)). IfSome m (λ lines. IsServedTo (resumed_service plant saved) lines w0 w1 at_end last)) read.left_is served in
+    record {
+      plant = plant;
+      saved = saved;
+      begins = read.begins;
+      served = record { answers = to.performed.answers; answer = to.performed.answer; written = to.written };
+    }

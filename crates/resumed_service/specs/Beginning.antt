@@ -1,5 +1,5 @@
 -- What is before the lines of a service: a plant file, or a snapshot in its place (implementation-specific).
-use Rattle.std.specs.Prelude.{◌≡◌, ◌≢◌, ⊤, ℕ, List, [], ◌∷◌, ◌++◌, Bool, true, false, MatchBool, map, take, Ok, Err, if◌then◌else◌, codes}
+use Rattle.std.specs.Prelude.{◌≡◌, ◌≢◌, ⊤, ℕ, List, [], ◌∷◌, ◌++◌, Bool, true, false, MatchBool, Option, Some, map, take, Ok, Err, if◌then◌else◌, codes}
 use Rattle.std.specs.Str.{bytes_eq, is_utf8}
 use Rattle.toml.specs.Parse.{parse_document}
 use Rattle.plant.specs.declared.plant.PlantFields.{PlantFields}
@@ -50,6 +50,11 @@ pub record GoesOnFrom (text : List ℕ) (plant : PlantFields) (saved : Snapshot)
 -- the plant and the states that a text says
 abbrev pub IsBeginning : List ℕ → PlantFields → Snapshot → Type 0
 IsBeginning text plant saved = MatchBool (is_snapshot_head text) (GoesOnFrom text plant saved) (BeginsAnew text plant saved)
+
+-- the text before the lines of an input is read, it says this plant and these states, and the lines are left
+pub record IsBeginningRead (input : List ℕ) (left : Option (List ℕ)) (plant : PlantFields) (saved : Snapshot) : Type 0 where
+  pub begins : IsBeginning (front_text input) plant saved
+  pub left_is : left ≡ Some (lines_after input)
 
 -- ---- why there is none
 

@@ -183,6 +183,11 @@ AreItemAnswers old number (line ∷ lines) [] = ⊥
 AreItemAnswers old number (line ∷ lines) (answer ∷ more) =
     IsItemAnswer old number line lines answer × AreItemAnswers answer.next (number + answer.lines) (drop answer.lines (line ∷ lines)) more
 
+-- what goes on after them
+abbrev pub after_items : InService → List ItemAnswer → InService
+after_items old [] = old
+after_items old (answer ∷ more) = after_items answer.next more
+
 abbrev pub texts_of : List ItemAnswer → List ℕ
 texts_of answers = flat_map (λ answer. answer.text) answers
 

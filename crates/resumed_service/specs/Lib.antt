@@ -1,9 +1,11 @@
 pub mod Beginning
 pub mod Items
+pub mod LastStates
 pub mod Lines
 pub mod NewFrames
 pub mod NewPlants
 pub mod PlantFiles
 pub mod Renumbering
 pub mod Resumed
+pub mod SavedAfter
 pub mod Served

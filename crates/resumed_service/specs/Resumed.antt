@@ -6,7 +6,7 @@ use Rattle.snapshot_format.specs.States.{states_of}
 use Rattle.plant_restart.specs.ByName.{start_by_name}
 use Rattle.resumed_service.specs.declared.serving.ServiceEnd.{ServiceEnd}
 use Rattle.resumed_service.specs.declared.serving.ServiceEnd.TheVariants.{Served, NotBegun}
-use Rattle.resumed_service.specs.Beginning.{front_text, lines_after, IsBeginning, IsRestoringFault, IsBeginFault}
+use Rattle.resumed_service.specs.Beginning.{front_text, lines_after, IsBeginning, IsBeginFault}
 use Rattle.resumed_service.specs.Items.{InService, IsServedFrom}
 
 -- a run that begins at the snapshot's frame: each operator goes on in the state that is saved under its name, and without one it is
@@ -23,11 +23,6 @@ pub record IsResumedService (text lines : List ℕ) (old new : Option (List ℕ)
   pub saved : Snapshot
   pub begins : IsBeginning text plant saved
   pub served : IsServedFrom (resumed_service plant saved) lines old new
-
--- the plant serves its lines in the saved states; or it does not, for this reason, and nothing is written
-abbrev pub EndsBegun : PlantFields → Snapshot → Option (List ℕ) → Option (List ℕ) → Option (List ℕ) → ServiceEnd → Type 0
-EndsBegun plant saved read old new Served = IfSome read (λ lines. IsServedFrom (resumed_service plant saved) lines old new)
-EndsBegun plant saved read old new (NotBegun fault) = IsRestoringFault plant saved fault × (new ≡ old)
 
 -- what is written: the answers; or nothing, for this reason
 abbrev pub ServiceEnds : List ℕ → List ℕ → Option (List ℕ) → Option (List ℕ) → ServiceEnd → Type 0

@@ -17,7 +17,7 @@ use Rattle.resumed_service.specs.declared.new_plant.WaitingItem.{WaitingItem}
 use Rattle.resumed_service.specs.declared.new_plant.WaitingItem.TheVariants.{NewPlant, NewFrame}
 use Rattle.resumed_service.specs.NewFrames.{asks_frame, NamesFrame, IsCoreRenumbered}
 use Rattle.resumed_service.specs.PlantFiles.{file_text, lines_taken, lines_left, IsFileOf, IsNumberAfter}
-use Rattle.resumed_service.specs.Items.{InService, IsRunSoFarOf, ItemAnswer, begins_plant, IsItemAnswer, AreItemAnswers, SnapshotIsAnswered, texts_of}
+use Rattle.resumed_service.specs.Items.{InService, IsRunSoFarOf, ItemAnswer, begins_plant, IsItemAnswer, AreItemAnswers, SnapshotIsAnswered, after_items, texts_of}
 
 -- a run so far, with the text of the plant file in force
 abbrev pub in_service : List ℕ → PlantFields → Start → List Step → List Out → InService
@@ -38,7 +38,8 @@ pub record WritesSnapshot (file : List ℕ) (live : CoreView) (number : ℕ) (be
   pub answered : SnapshotIsAnswered file live number text
   pub written : Appends before after text
 
--- Items up to some line are answered, and these lines are left: whatever answers them makes answers of the whole input.
+-- Items up to some line are answered, and these lines are left: whatever answers them makes answers of the whole input, and leads to
+-- the same.
 pub record AreServedSoFar (first : InService) (input : List ℕ) (left : List (List ℕ)) (number : ℕ) (live : CoreView) (file : List ℕ) (before after : Option (List ℕ)) : Type 0 where
   pub now : InService
   pub text : List ℕ
@@ -46,6 +47,7 @@ pub record AreServedSoFar (first : InService) (input : List ℕ) (left : List (L
   pub file_is : now.file ≡ file
   pub goes_on : (more : List ItemAnswer) → AreItemAnswers now number left more
       → (all : List ItemAnswer) × AreItemAnswers first 1 (lines_of input) all × (texts_of all ≡ text ++ texts_of more)
+      × (after_items first all ≡ after_items now more)
   pub written : Appends before after text
 
 -- A line `P` and the plant file after it are read, and not answered yet. The file is valid.

@@ -1,16 +1,20 @@
 //! The plant and the states that a service begins with.
 
-ghost use Rattle.std.specs.Prelude.{◌≡◌, true, Ok, IfOk, IfErr};
+ghost use Rattle.std.specs.Prelude.{◌≡◌, true, Ok, IfOk, IfErr, IfSome};
 ghost use Rattle.toml.specs.Parse.{parse_document};
 ghost use Rattle.slice_table.specs.ReadPlant.{text_plant};
-ghost use Rattle.resumed_service.specs.Beginning.{is_snapshot_head, IsBeginning, BeginsAnew, GoesOnFrom, IsFileFault, IsTextFault};
+ghost use Rattle.resumed_service.specs.declared.begin_fault.BeginFault.TheVariants.{NoMemory};
+ghost use Rattle.resumed_service.specs.Beginning.{is_snapshot_head, front_text, IsBeginning, BeginsAnew, GoesOnFrom, IsFileFault, IsTextFault, IsBeginningRead};
 
 use crate::begin_fault::BeginFault;
+use crate::reading::read_front;
 use lists::Listed;
 use plant::Plant;
 use slice_table::{PlantFault, read_plant};
 use snapshot_format::{Snapshot, SnapshotFault, read_snapshot};
 use std::alloc::Global;
+use std::io;
+use std::io::Read;
 use tlv24::Bytes;
 
 /// The first bytes of a snapshot of any version.
@@ -25,7 +29,7 @@ pub(crate) struct Beginning {
 }
 
 /// Returns whether a text begins as a snapshot does.
-pub(crate) fn is_snapshot_head(text: &[u8]) -> bool
+pub fn is_snapshot_head(text: &[u8]) -> bool
     ensures { result ≡ is_snapshot_head text.now }
 {
     text.strip_prefix(SNAPSHOT_HEAD).is_some()
@@ -93,5 +97,30 @@ pub(crate) fn beginning_of(alloc: Global, text: Vec<u8>) -> Result<Beginning, Be
         go_on_from(alloc, text.as_slice())
     } else {
         begin_anew(alloc, text)
+    }
+}
+
+/// Returns the fault of a text that cannot be read: out of memory. Any other error stays one.
+fn fault_of_failed_read(error: io::Error) -> io::Result<BeginFault>
+    ensures { IfOk result (λ fault. fault ≡ NoMemory) }
+{
+    if error.kind() == io::ErrorKind::OutOfMemory {
+        return Ok(BeginFault::NoMemory);
+    }
+    Err(error)
+}
+
+/// Reads the text before the lines. Returns the plant and the states that it says, or why it says none.
+pub(crate) fn read_beginning<R: Read>(
+    alloc: Global,
+    reader: &mut R,
+) -> io::Result<Result<Beginning, BeginFault>>
+    ensures begun { IfOk result (λ read. IfOk read (λ begun. IfSome (R.remaining reader.old) (λ input.
+        IsBeginningRead input (R.remaining reader.new) begun.plant begun.saved))) }
+    ensures fault { IfOk result (λ read. IfErr read (λ fault. IfSome (R.remaining reader.old) (λ input. IsTextFault (front_text input) fault))) }
+{
+    match read_front(alloc, reader) {
+        Ok(text) => Ok(beginning_of(alloc, text)),
+        Err(error) => Ok(Err(fault_of_failed_read(error)?)),
     }
 }

@@ -41,8 +41,13 @@ pub(crate) fn saved_core(
 }
 
 /// Returns the text of a snapshot of a core, with this plant file. It fails if the core does not rest, or if memory runs out.
-fn snapshot_of_core(alloc: Global, core: &LiveCore, file: &Bytes) -> Result<Vec<u8>, SaveFault>
+pub(crate) fn snapshot_of_core(
+    alloc: Global,
+    core: &LiveCore,
+    file: &Bytes,
+) -> Result<Vec<u8>, SaveFault>
     ensures ok { IfOk result (λ text. SnapshotIsGiven file.now (live_view core.now) text.items) }
+    ensures fault { (why : RestFault) → result ≡ Err (save_faults.Unfinished why) → IsRestFault (live_view core.now) why }
     ensures none { (why : RestFault) → result ≡ Err (save_faults.Unfinished why)
         → (frame : ℕ) → Rests (live_view core.now) frame → ⊥ }
     ensures memory { result ≡ Err save_faults.NoMemory → (frame : ℕ) × Rests (live_view core.now) frame }

@@ -12,25 +12,27 @@ ghost use Rattle.plant_restart.specs.declared.fault.RestoreFault.TheVariants as 
 ghost use Rattle.plant_restart.specs.declared.fault.RestartFault.TheVariants as restart;
 ghost use Rattle.plant_restart.specs.Restarted.{IsRestoreFault};
 ghost use Rattle.resumed_service.specs.declared.begin_fault.BeginFault.TheVariants as faults;
-ghost use Rattle.resumed_service.specs.declared.serving.ServiceEnd.TheVariants as ends;
+ghost use Rattle.resumed_service.specs.declared.last_state.BegunEnd.TheVariants as ends;
 ghost use Rattle.resumed_service.specs.Beginning.{IsRestoringFault};
 ghost use Rattle.resumed_service.specs.Items.{InService};
+ghost use Rattle.resumed_service.specs.LastStates.{EndsBegun};
 ghost use Rattle.resumed_service.specs.PlantFiles.{lines_left};
-ghost use Rattle.resumed_service.specs.Resumed.{EndsBegun, EndsInput};
+ghost use Rattle.resumed_service.specs.Resumed.{EndsInput};
 ghost use Rattle.resumed_service.specs.Served.{AreServedSoFar, IsAfterItem};
 
 use crate::begin_fault::BeginFault;
-use crate::beginning::{Beginning, beginning_of};
+use crate::beginning::{Beginning, read_beginning};
 use crate::changing::{answer_change, answer_refusal};
 use crate::holding::is_held;
 use crate::items::answer_item;
 use crate::kept_text::KeptText;
+use crate::last_state::{AtEnd, BegunEnd, last_state};
 use crate::line_break::LineBreak;
 use crate::new_frame::{answer_frame, asks_frame, take_frame};
 use crate::new_plant::{ItemOutcome, WaitingItem, WaitingLine};
 use crate::notes::RefusalNotes;
 use crate::plant_file::{break_after, plant_of_file, read_plant_file};
-use crate::reading::{read_front, read_line};
+use crate::reading::read_line;
 use crate::service::{ServiceState, number_after};
 use grant_policy::{RankInput, Ranking, rank_by};
 use line_service::LineBuffer;
@@ -154,26 +156,29 @@ fn restore_fault(why: RestoreFault) -> BeginFault
 }
 
 /// Returns that a service does not begin because memory ran out.
-fn end_without_memory() -> io::Result<ServiceEnd>
+fn end_without_memory() -> io::Result<BegunEnd>
     ensures { result ≡ Ok (ends.NotBegun faults.NoMemory) }
 {
-    Ok(ServiceEnd::NotBegun {
+    Ok(BegunEnd::NotBegun {
         fault: BeginFault::NoMemory,
     })
 }
 
-/// Serves a plant that goes on in its saved states, each operator by the policy of its row.
+/// Serves a plant that goes on in its saved states, each operator by the policy of its row. Makes of the last core what `at_end`
+/// says.
 ///
 /// The cores of new plants and of new frame numbers, and their rankings, are made here too, since a function that makes them may
 /// not hand them out. A ranking for which memory runs out is left out: then `change` or `restore` fails, since it is missing.
-fn serve_begun<R: Read, W: Write, N: RefusalNotes>(
+pub(crate) fn serve_begun<R: Read, W: Write, N: RefusalNotes>(
     alloc: Global,
     begun: Beginning,
+    at_end: AtEnd,
     reader: &mut R,
     writer: &mut W,
     notes: &mut N,
-) -> io::Result<ServiceEnd>
-    ensures { IfOk result (λ end. EndsBegun begun.plant begun.saved (R.remaining reader.old) (W.contents writer.old) (W.contents writer.new) end) }
+) -> io::Result<BegunEnd>
+    ensures { IfOk result (λ end. EndsBegun at_end begun.plant begun.saved (R.remaining reader.old) (W.contents writer.old)
+        (W.contents writer.new) end) }
 {
     let mut rankings = Vec::new(alloc);
     for row in begun.plant.rows() {
@@ -195,14 +200,18 @@ fn serve_begun<R: Read, W: Write, N: RefusalNotes>(
     let mut service = match restore(alloc, plant, &saved, rankings) {
         Ok(core) => ServiceState::new(core, saved.plant, held),
         Err(why) => {
-            return Ok(ServiceEnd::NotBegun {
+            return Ok(BegunEnd::NotBegun {
                 fault: restore_fault(why),
             });
         }
     };
     for _ in 0..u64::MAX {
         match service.after {
-            LineBreak::End => return Ok(ServiceEnd::Served),
+            LineBreak::End => {
+                return Ok(BegunEnd::Served {
+                    last: last_state(alloc, &service, at_end),
+                });
+            }
             LineBreak::Another => {}
         }
         let (waiting, plant) = match serve_item(alloc, &mut service, reader, writer, notes)? {
@@ -234,18 +243,6 @@ fn serve_begun<R: Read, W: Write, N: RefusalNotes>(
     Err(io::Error::from(io::ErrorKind::Other))
 }
 
-/// Returns how a service ends if the text before the lines cannot be read: out of memory, or by that error.
-fn end_of_failed_read(error: io::Error) -> io::Result<ServiceEnd>
-    ensures { IfOk result (λ end. end ≡ ends.NotBegun faults.NoMemory) }
-{
-    if error.kind() == io::ErrorKind::OutOfMemory {
-        return Ok(ServiceEnd::NotBegun {
-            fault: BeginFault::NoMemory,
-        });
-    }
-    Err(error)
-}
-
 /// Serves a plant that begins with a plant file or with a snapshot, up to the end of the input. Reads the text before the first
 /// line of three dashes, and if it is a snapshot, that before the second one. Answers each line after it before it reads the
 /// next. A line of a script is answered as `serve` does, and the line `K` by a snapshot with the text of the plant file. Lines are counted
@@ -269,12 +266,12 @@ pub fn resume<R: Read, W: Write, N: RefusalNotes>(
 ) -> io::Result<ServiceEnd>
     ensures { IfOk result (λ end. EndsInput (R.remaining reader.old) (W.contents writer.old) (W.contents writer.new) end) }
 {
-    let text = match read_front(alloc, reader) {
-        Ok(text) => text,
-        Err(error) => return end_of_failed_read(error),
+    let begun = match read_beginning(alloc, reader)? {
+        Ok(begun) => begun,
+        Err(fault) => return Ok(ServiceEnd::NotBegun { fault }),
     };
-    match beginning_of(alloc, text) {
-        Ok(begun) => serve_begun(alloc, begun, reader, writer, notes),
-        Err(fault) => Ok(ServiceEnd::NotBegun { fault }),
+    match serve_begun(alloc, begun, AtEnd::Nothing, reader, writer, notes)? {
+        BegunEnd::Served { last: _last } => Ok(ServiceEnd::Served),
+        BegunEnd::NotBegun { fault } => Ok(ServiceEnd::NotBegun { fault }),
     }
 }

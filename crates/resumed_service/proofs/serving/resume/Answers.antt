@@ -1,16 +1,18 @@
-use Rattle.script_format.proofs.Outcomes.{if_ok}
-use Rattle.resumed_service.proofs.ServedLemmas.{begun_ends, text_ends}
+use Rattle.std.proofs.Common.{IfOk, IfSome, subst}
+use Rattle.resumed_service.specs.declared.last_state.AtEnd.TheVariants as asked
+use Rattle.resumed_service.specs.declared.last_state.BegunEnd.{BegunEnd}
+use Rattle.resumed_service.specs.Beginning.{IsBeginningRead}
+use Rattle.resumed_service.specs.LastStates.{EndsBegun}
+use Rattle.resumed_service.proofs.ServedLemmas.{begun_served}
 use Rattle.resumed_service.proofs.serving.resume.Goals as goal
 
-pub returns-in-Ok-beginning_of : goal.returns-in-Ok-beginning_of
-returns-in-Ok-beginning_of g c =
-    let begun = c.in-Ok-beginning_of.begun in
-    if_ok c.serve_begun.result _ _
-    (λ end ends_so.
-    begun_ends (g.R.Read.remaining c.args.reader.now) (g.R.Read.remaining c.read_front.new.reader) c.in-Ok.text.items begun.plant begun.saved
-    (g.W.Write.contents c.args.writer.now) (g.W.Write.contents c.serve_begun.new.writer) end c.in-Ok.ensures.text c.in-Ok.ensures.lines c.in-Ok-beginning_of.ensures.ok ends_so)
-    c.serve_begun.ensures
-
-pub returns-in-Err-beginning_of : goal.returns-in-Err-beginning_of
-returns-in-Err-beginning_of g c =
-    text_ends (g.R.Read.remaining c.args.reader.now) c.in-Ok.text.items (g.W.Write.contents c.args.writer.now) c.in-Err-beginning_of.fault c.in-Ok.ensures.text c.in-Err-beginning_of.ensures.fault
+pub returns-in-Served : goal.returns-in-Served
+returns-in-Served g c =
+    let known = g.R.Read.remaining c.args.reader.now in
+    let mid = g.R.Read.remaining c.read_beginning.new.reader in
+    let begun = c.in-Ok.begun in
+    let w0 = g.W.Write.contents c.args.writer.now in
+    let w1 = g.W.Write.contents c.serve_begun.new.writer in
+    let read = subst (λ (r : _). IfOk r (λ begun. IfSome known (λ input. IsBeginningRead input mid begun.plant begun.saved))) c.in-Ok.is c.in_ok-begun.ensures.begun in
+    let served = subst (λ (end : BegunEnd). EndsBegun asked.Nothing begun.plant begun.saved mid w0 w1 end) c.in-Served.is c.in_ok-_last.ensures in
+    begun_served known mid begun.plant begun.saved w0 w1 asked.Nothing c.in-Served._last read served

@@ -48,7 +48,7 @@ pub returns-in-End : goal.returns-in-End
 returns-in-End g c =
     let service = c.loop.service in
     all_served (resumed_service c.args.begun.plant c.args.begun.saved) service.number (live_view service.core) service.file (g.W.Write.contents c.args.writer.now) (g.W.Write.contents c.loop.writer)
-    service.after (g.R.Read.remaining c.args.reader.now) (g.R.Read.remaining c.loop.reader) c.in-End.is c.loop.invariant.served
+    service.after (g.R.Read.remaining c.args.reader.now) (g.R.Read.remaining c.loop.reader) c.args.at_end c.last_state.result c.in-End.is c.last_state.ensures c.loop.invariant.served
 
 pub loop-preserved-in-Answered : goal.loop-preserved-in-Answered
 loop-preserved-in-Answered g c =

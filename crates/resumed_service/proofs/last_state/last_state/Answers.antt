@@ -1,0 +1,15 @@
+use Rattle.std.proofs.Common.{ap, ◌∙◌}
+use Rattle.plant.specs.declared.plant.PlantFields.{PlantFields}
+use Rattle.live_core.specs.LiveView.{live_view}
+use Rattle.resumed_service.specs.LastStates.{name_at}
+use Rattle.resumed_service.proofs.SavedLemmas.{restless}
+use Rattle.resumed_service.proofs.last_state.last_state.Goals as goal
+
+pub returns-in-Err-Unfinished : goal.returns-in-Err-Unfinished
+returns-in-Err-Unfinished g c =
+    let live = live_view c.args.service.now.core in
+    let why = c.in-Err-Unfinished.why in
+    restless c.args.at_end c.args.service.now.file live why c.name_at.result c.in-Snapshot.is
+    (c.in-Err-Unfinished.ensures.fault why (let is = c.in-Err-Unfinished.field-0-is in cc))
+    (c.in-Err-Unfinished.ensures.none why (let is = c.in-Err-Unfinished.field-0-is in cc))
+    (c.name_at.ensures ∙ (ap (λ (plant : PlantFields). name_at plant.rows c.restless_operator.result) c.plant.ensures ∙ ap (name_at live.plant.rows) c.restless_operator.ensures))
