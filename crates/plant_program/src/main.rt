@@ -81,11 +81,11 @@ fn words_of(rt: &(impl Env + AllocGlobal)) -> io::Result<Vec<String>> {
     Ok(words)
 }
 
-/// Returns whether reasons are written as they come: those of `resume`, and of `serve` with the option `--state`. Those of other
-/// commands are written at the end, and not if the reader of the output has gone.
+/// Returns whether reasons are written as they come: those of `resume`, `restore` and `snapshot`, and of `serve` with the option
+/// `--state`. Those of other commands are written at the end, and not if the reader of the output has gone.
 fn reports_at_once(words: &[&str]) -> bool {
     match words {
-        ["resume", ..] => true,
+        ["resume" | "restore" | "snapshot", ..] => true,
         _ => words.contains(&"--state"),
     }
 }

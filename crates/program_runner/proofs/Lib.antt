@@ -1,2 +1,5 @@
 mod WithoutOptions
 mod StateLemmas
+mod HeadLemmas
+mod RestoreLemmas
+mod SnapshotLemmas

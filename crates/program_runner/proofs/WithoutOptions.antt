@@ -16,8 +16,12 @@ use Rattle.program_options.proofs.NoOption.{all_left}
 use Rattle.plant_script.specs.Run.{memory_line}
 use Rattle.command_line.specs.CommandLine.{AreWrong, AsksHelp}
 use Rattle.resumed_service.specs.declared.begin_fault.BeginFault.TheVariants as begin_faults
-use Rattle.program_runner.specs.Answered.{IsProgramAnswer, IsCommandAnswer, IsWithoutOption, HasNoOption}
-use Rattle.program_runner.specs.Resume.{is_resume, IsResumeAnswer}
+use Rattle.program_runner.specs.Answered.{IsProgramAnswer, IsWordAnswer, IsRunAnswer, IsCommandAnswer, IsWithoutOption, HasNoOption}
+use Rattle.resumed_service.specs.Beginning.{is_snapshot_head}
+use Rattle.program_runner.specs.declared.service_word.ServiceWord.{ServiceWord}
+use Rattle.program_runner.specs.declared.service_word.ServiceWord.TheVariants.{Resume, Restore, Snapshot}
+use Rattle.program_runner.specs.Resume.{IsResumeAnswer, IsRestoreAnswer, IsSnapshotAnswer}
+use Rattle.program_runner.specs.ServiceWords.{service_word, is_run, NamesNoService}
 
 -- ---- a fault
 
@@ -68,15 +72,15 @@ module _ (words : List (List ℕ)) (found : SeparatedWords) (none : HasNoOption 
   separated read status old new answers = subst (λ (all : List (List ℕ)). IsCommandAnswer all read status old new) same (answers without)
 
   -- and nothing is read for them where nothing is read for those
-  other : is_resume words ≡ false → is_resume (texts found.words.items) ≡ false
-  other is_other = subst (λ (all : List (List ℕ)). is_resume all ≡ false) (sym same) is_other
+  other : NamesNoService words → NamesNoService (texts found.words.items)
+  other is_other = subst NamesNoService (sym same) is_other
 
-  pub unread_wrong : {X : Type 0} (old new : X) → (IsWithoutOption found → is_resume (texts found.words.items) ≡ false → AreWrong (texts found.words.items) → new ≡ old)
-      → is_resume words ≡ false → AreWrong words → new ≡ old
+  pub unread_wrong : {X : Type 0} (old new : X) → (IsWithoutOption found → NamesNoService (texts found.words.items) → AreWrong (texts found.words.items) → new ≡ old)
+      → NamesNoService words → AreWrong words → new ≡ old
   unread_wrong old new unread is_other wrong = unread without (other is_other) (subst AreWrong (sym same) wrong)
 
-  pub unread_help : {X : Type 0} (old new : X) → (IsWithoutOption found → is_resume (texts found.words.items) ≡ false → AsksHelp (texts found.words.items) → new ≡ old)
-      → is_resume words ≡ false → AsksHelp words → new ≡ old
+  pub unread_help : {X : Type 0} (old new : X) → (IsWithoutOption found → NamesNoService (texts found.words.items) → AsksHelp (texts found.words.items) → new ≡ old)
+      → NamesNoService words → AsksHelp words → new ≡ old
   unread_help old new unread is_other help = unread without (other is_other) (subst AsksHelp (sym same) help)
 
 -- ---- out of memory
@@ -98,14 +102,36 @@ out_of_memory words read status old new wrote = record {
   };
 }
 
+-- each service answers so, and so does `run`, whatever is read
+either : {A B : Type 0} (t : Bool) → A → B → MatchBool t A B
+either true a b = a
+either false a b = b
+
+module _ (words : List (List ℕ)) (read : Option (List ℕ)) (status : ℕ) (old new : Option (List ℕ)) (wrote : status ≢ 6 → (status ≡ 5) × Appends old new memory_line) where
+  pub resume_out_of_memory : IsResumeAnswer read status old new
+  resume_out_of_memory = λ not_six. if_known read _ (λ input. inr (begin_faults.NoMemory, tt, (wrote not_six).0, (wrote not_six).1))
+
+  pub restore_out_of_memory : IsRestoreAnswer read status old new
+  restore_out_of_memory = λ not_six. if_known read _ (λ input. either (is_snapshot_head input) (inr (begin_faults.NoMemory, tt, (wrote not_six).0, (wrote not_six).1)) (inr (wrote not_six)))
+
+  pub run_out_of_memory : IsRunAnswer words read status old new
+  run_out_of_memory = if_known read _ (λ input. either (is_snapshot_head input) resume_out_of_memory (out_of_memory words read status old new wrote))
+
+  pub word_out_of_memory : (word : Option ServiceWord) → IsWordAnswer word words read status old new
+  word_out_of_memory None = out_of_memory words read status old new wrote
+  word_out_of_memory (Some Resume) = resume_out_of_memory
+  word_out_of_memory (Some Restore) = restore_out_of_memory
+  word_out_of_memory (Some Snapshot) = λ not_six. if_known read _ (λ input. inr (inr (inr (begin_faults.NoMemory, tt, (wrote not_six).0, (wrote not_six).1))))
+
+  pub command_out_of_memory : IsCommandAnswer words read status old new
+  command_out_of_memory = by (is_run words) where
+    by : (t : Bool) → MatchBool t (IsRunAnswer words read status old new) (IsWordAnswer (service_word words) words read status old new)
+    by true = run_out_of_memory
+    by false = word_out_of_memory (service_word words)
+
 -- what is written for invalid options
 pub refused : (words : List (List ℕ)) (fault : OptionsFault) (read : Option (List ℕ)) (status : ℕ) (old new : Option (List ℕ)) → HasNoOption words
     → HasOptionsFault words fault → (fault ≡ NoMemory → status ≢ 6 → (status ≡ 5) × Appends old new memory_line)
     → IsCommandAnswer words read status old new
-refused words fault read status old new none has wrote = by (is_resume words) where
-  out : status ≢ 6 → (status ≡ 5) × Appends old new memory_line
-  out = wrote (no_fault words fault none has)
-
-  by : (t : Bool) → MatchBool t (IsResumeAnswer read status old new) (IsProgramAnswer words read status old new)
-  by true = λ not_six. if_known read _ (λ input. inr (begin_faults.NoMemory, tt, (out not_six).0, (out not_six).1))
-  by false = out_of_memory words read status old new out
+refused words fault read status old new none has wrote =
+    command_out_of_memory words read status old new (wrote (no_fault words fault none has))

@@ -1,4 +1,6 @@
 pub mod Answered
+pub mod Heads
 pub mod Resume
+pub mod ServiceWords
 pub mod StateCommand
 pub mod Version

@@ -1,30 +1,25 @@
--- The command `resume`, and what it writes (implementation-specific).
-use Rattle.std.specs.Prelude.{◌≡◌, ◌≢◌, ◌⊎◌, ◌&&◌, ◌||◌, ℕ, Bool, false, List, [], ◌∷◌, ◌++◌, Option, IfSome, bytes_eq, codes}
+-- The commands `resume`, `restore` and `snapshot`, and what they write (implementation-specific).
+use Rattle.std.specs.Prelude.{◌≡◌, ◌≢◌, ◌⊎◌, ℕ, List, [], ◌∷◌, ◌++◌, Option, None, IfSome, MatchBool, codes}
 use Rattle.std.specs.Fmt.{decimal}
 use Rattle.std.specs.Io.KnownBytes.{Appends}
+use Rattle.live_core.specs.declared.rest_fault.RestFault.{RestFault}
 use Rattle.plant_script.specs.Check.{fault_text}
 use Rattle.plant_script.specs.Run.{memory_line, io_line}
 use Rattle.resumed_service.specs.declared.begin_fault.BeginFault.{BeginFault}
 use Rattle.resumed_service.specs.declared.begin_fault.BeginFault.TheVariants.{NotText, InvalidSnapshot, InvalidPlant, NotRestored, NoMemory}
-use Rattle.resumed_service.specs.Beginning.{front_text, lines_after, IsBeginFault}
+use Rattle.resumed_service.specs.declared.saving.SnapshotEnd.{SnapshotEnd}
+use Rattle.resumed_service.specs.declared.saving.SnapshotEnd.TheVariants as saving
+use Rattle.resumed_service.specs.Beginning.{is_snapshot_head, front_text, lines_after, IsBeginFault}
 use Rattle.resumed_service.specs.Resumed.{IsResumedService}
+use Rattle.resumed_service.specs.SavedAfter.{IsSnapshotAfter}
+use Rattle.snapshot_format.specs.declared.fault.Wrong.TheVariants.{Version}
 
--- the words without the options are this one alone
-abbrev pub is_resume : List (List ℕ) → Bool
-is_resume [] = false
-is_resume (word ∷ []) = bytes_eq word (codes "resume")
-is_resume (word ∷ other ∷ words) = false
-
--- the words ask for the help of this command
-abbrev pub asks_resume_help : List (List ℕ) → Bool
-asks_resume_help [] = false
-asks_resume_help (word ∷ []) = false
-asks_resume_help (word ∷ help ∷ []) = bytes_eq word (codes "resume") && (bytes_eq help (codes "--help") || bytes_eq help (codes "-h"))
-asks_resume_help (word ∷ help ∷ other ∷ words) = false
-
--- its help is written, with status 0
+-- the help of a command is written, with status 0
 abbrev pub WritesHelp : ℕ → Option (List ℕ) → Option (List ℕ) → Type 0
 WritesHelp status old new = (status ≡ 0) × ((text : List ℕ) × Appends old new text)
+
+abbrev pub state_line : List ℕ
+state_line = codes "fault: state" ++ 10 ∷ []
 
 -- the status and the line of a service that does not begin
 abbrev pub begin_status : BeginFault → ℕ
@@ -38,13 +33,15 @@ abbrev pub begin_line : BeginFault → List ℕ
 begin_line NotText = io_line
 begin_line (InvalidSnapshot number wrong) = codes "fault: snapshot " ++ (decimal number ++ 10 ∷ [])
 begin_line (InvalidPlant fault) = codes "fault: plant " ++ fault_text fault
-begin_line (NotRestored why) = codes "fault: state" ++ 10 ∷ []
+begin_line (NotRestored why) = state_line
 begin_line NoMemory = memory_line
 
 -- its status and its line are written; or that memory ran out for the line
 abbrev pub RefusesToBegin : BeginFault → ℕ → Option (List ℕ) → Option (List ℕ) → Type 0
 RefusesToBegin fault status old new =
     ((status ≡ begin_status fault) × Appends old new (begin_line fault)) ⊎ ((status ≡ 5) × Appends old new memory_line)
+
+-- ---- the command `resume`
 
 -- the lines are answered; or the service does not begin, and its fault is written
 abbrev pub ResumeEnds : List ℕ → List ℕ → ℕ → Option (List ℕ) → Option (List ℕ) → Type 0
@@ -55,3 +52,31 @@ ResumeEnds text lines status old new =
 -- status 6 is for what could not be read or written
 abbrev pub IsResumeAnswer : Option (List ℕ) → ℕ → Option (List ℕ) → Option (List ℕ) → Type 0
 IsResumeAnswer read status old new = status ≢ 6 → IfSome read (λ input. ResumeEnds (front_text input) (lines_after input) status old new)
+
+-- ---- the command `restore`
+
+-- an input that does not begin as a snapshot does is one whose first line is invalid
+abbrev pub no_snapshot : BeginFault
+no_snapshot = InvalidSnapshot 1 Version
+
+-- a snapshot is answered as by `resume`, and any other input is refused
+abbrev pub IsRestoreAnswer : Option (List ℕ) → ℕ → Option (List ℕ) → Option (List ℕ) → Type 0
+IsRestoreAnswer read status old new =
+    status ≢ 6 → IfSome read (λ input. MatchBool (is_snapshot_head input) (ResumeEnds (front_text input) (lines_after input) status old new) (RefusesToBegin no_snapshot status old new))
+
+-- ---- the command `snapshot`
+
+-- the lines are performed, no snapshot is written for this reason, and this line is written
+abbrev pub EndsUnsaved : List ℕ → List ℕ → SnapshotEnd → List ℕ → Option (List ℕ) → Option (List ℕ) → Type 0
+EndsUnsaved text lines end fault_line old new = (mid : Option (List ℕ)) × IsSnapshotAfter text lines None None old mid end × Appends mid new fault_line
+
+-- the snapshot after the lines is written; or the plant does not rest then; or memory ran out; or the service does not begin
+abbrev pub SnapshotEnds : List ℕ → List ℕ → ℕ → Option (List ℕ) → Option (List ℕ) → Type 0
+SnapshotEnds text lines status old new =
+    ((status ≡ 0) × IsSnapshotAfter text lines None None old new saving.Saved)
+    ⊎ (((status ≡ 3) × ((why : RestFault) × ((operator : Option (List ℕ)) × EndsUnsaved text lines (saving.Unfinished why operator) state_line old new)))
+    ⊎ (((status ≡ 5) × EndsUnsaved text lines saving.NoMemory memory_line old new)
+    ⊎ ((fault : BeginFault) × IsBeginFault text fault × (status ≡ begin_status fault) × Appends old new (begin_line fault))))
+
+abbrev pub IsSnapshotAnswer : Option (List ℕ) → ℕ → Option (List ℕ) → Option (List ℕ) → Type 0
+IsSnapshotAnswer read status old new = status ≢ 6 → IfSome read (λ input. SnapshotEnds (front_text input) (lines_after input) status old new)

@@ -1,12 +1,15 @@
 //! A command that is performed, with what it needs besides its streams.
 
-ghost use Rattle.std.specs.Prelude.{◌≡◌, false};
+ghost use Rattle.std.specs.Prelude.{◌≡◌};
 ghost use Rattle.clap.specs.Walk.{texts};
 ghost use Rattle.command_line.specs.CommandLine.{AreWrong, AsksHelp};
-ghost use Rattle.program_runner.specs.Answered.{IsCommandAnswer};
-ghost use Rattle.program_runner.specs.Resume.{is_resume};
+ghost use Rattle.program_runner.specs.Answered.{IsWordAnswer};
+ghost use Rattle.program_runner.specs.ServiceWords.{service_word, NamesNoService};
 
-use crate::resuming::{is_resume, run_resume};
+use crate::restoring::run_restore;
+use crate::resuming::run_resume;
+use crate::service_word::{ServiceWord, service_word};
+use crate::snapshot_command::run_snapshot;
 use plant_script::{Ending, run_program_with_reasons};
 use program_options::UnknownKeyHandling;
 use std::alloc::Global;
@@ -28,31 +31,33 @@ pub(crate) struct Command<'a, H> {
 }
 
 impl<H: Threads + Wait + Sync> Command<'_, H> {
-    /// Performs the command without its options. Returns the status.
+    /// Performs the command without its options, `run` as on a plant file. Returns the status.
     pub(crate) fn run<R: Read, W: Write, E: Write>(
         &self,
         reader: &mut R,
         writer: &mut W,
         reasons: &mut E,
     ) -> u8
-        ensures answered { IsCommandAnswer (texts self.now.words.now) (R.remaining reader.old) result
+        ensures answered { IsWordAnswer (service_word (texts self.now.words.now)) (texts self.now.words.now) (R.remaining reader.old) result
             (W.contents writer.old) (W.contents writer.new) }
-        ensures unread_if_wrong { is_resume (texts self.now.words.now) ≡ false → AreWrong (texts self.now.words.now)
+        ensures unread_if_wrong { NamesNoService (texts self.now.words.now) → AreWrong (texts self.now.words.now)
             → reader.new ≡ reader.old }
-        ensures unread_for_help { is_resume (texts self.now.words.now) ≡ false → AsksHelp (texts self.now.words.now)
+        ensures unread_for_help { NamesNoService (texts self.now.words.now) → AsksHelp (texts self.now.words.now)
             → reader.new ≡ reader.old }
     {
-        if is_resume(self.words) {
-            return run_resume(self.alloc, reader, writer, reasons);
+        match service_word(self.words) {
+            Some(ServiceWord::Resume) => run_resume(self.alloc, reader, writer, reasons),
+            Some(ServiceWord::Restore) => run_restore(self.alloc, reader, writer, reasons),
+            Some(ServiceWord::Snapshot) => run_snapshot(self.alloc, reader, writer, reasons),
+            None => run_program_with_reasons(
+                self.rt,
+                self.alloc,
+                self.words,
+                reader,
+                writer,
+                reasons,
+                self.ending,
+            ),
         }
-        run_program_with_reasons(
-            self.rt,
-            self.alloc,
-            self.words,
-            reader,
-            writer,
-            reasons,
-            self.ending,
-        )
     }
 }

@@ -1,20 +1,23 @@
 //! The program with its options.
 
-ghost use Rattle.std.specs.Prelude.{◌≡◌, ◌≢◌, true, false};
+ghost use Rattle.std.specs.Prelude.{◌≡◌, ◌≢◌, None, true, false};
 ghost use Rattle.std.specs.Io.KnownBytes.{Appends};
 ghost use Rattle.clap.specs.Walk.{texts};
 ghost use Rattle.command_line.specs.CommandLine.{AreWrong, AsksHelp};
 ghost use Rattle.program_options.specs.declared.options.OutputFormat.TheVariants.{Plain};
 ghost use Rattle.program_options.specs.declared.options.UnknownKeyHandling.TheVariants.{Warn};
 ghost use Rattle.program_runner.specs.Answered.{HasNoOption, IsCommandAnswer, IsWithoutOption};
-ghost use Rattle.program_runner.specs.Resume.{is_resume, asks_resume_help, WritesHelp};
+ghost use Rattle.program_runner.specs.Resume.{WritesHelp};
+ghost use Rattle.program_runner.specs.ServiceWords.{help_word, NamesNoService};
 ghost use Rattle.program_runner.specs.Version.{asks_version, version_text};
 
 use crate::answering::{answer_out_of_memory, pass_on, refuse, tell};
 use crate::command::Command;
 use crate::file_input::FileInput;
 use crate::objects::run_objects;
-use crate::resuming::{answer_resume_help, asks_resume_help};
+use crate::restoring::run_input;
+use crate::service_help::answer_service_help;
+use crate::service_word::{help_word, is_run};
 use crate::state_command::run_state;
 use crate::strict::run_keys;
 use crate::version::{answer_version, asks_version};
@@ -26,6 +29,7 @@ use std::sync::Wait;
 use std::thread::Threads;
 
 /// Performs a command on a reader, and writes lines or objects. Returns the status.
+#[tactic(auto, using(crate::proofs::RestoreLemmas::as_run, crate::proofs::RestoreLemmas::as_word, crate::proofs::RestoreLemmas::run_is_not_wrong, crate::proofs::RestoreLemmas::run_is_no_help))]
 fn run_format<H: Threads + Wait + Sync, R: Read, W: Write, E: Write>(
     command: &Command<'_, H>,
     output: OutputFormat,
@@ -36,11 +40,12 @@ fn run_format<H: Threads + Wait + Sync, R: Read, W: Write, E: Write>(
     ensures answered { output ≡ Plain → command.now.unknown_keys ≡ Warn → IsCommandAnswer (texts command.now.words.now)
         (R.remaining reader.old) result (W.contents writer.old) (W.contents writer.new) }
     ensures unread_if_wrong { output ≡ Plain → command.now.unknown_keys ≡ Warn
-        → is_resume (texts command.now.words.now) ≡ false → AreWrong (texts command.now.words.now) → reader.new ≡ reader.old }
+        → NamesNoService (texts command.now.words.now) → AreWrong (texts command.now.words.now) → reader.new ≡ reader.old }
     ensures unread_for_help { output ≡ Plain → command.now.unknown_keys ≡ Warn
-        → is_resume (texts command.now.words.now) ≡ false → AsksHelp (texts command.now.words.now) → reader.new ≡ reader.old }
+        → NamesNoService (texts command.now.words.now) → AsksHelp (texts command.now.words.now) → reader.new ≡ reader.old }
 {
     match output {
+        OutputFormat::Plain if is_run(command.words) => run_input(command, reader, writer, reasons),
         OutputFormat::Plain => run_keys(command, reader, writer, reasons),
         OutputFormat::JsonLines => run_objects(command, reader, writer, reasons),
     }
@@ -80,10 +85,10 @@ fn run_separated<H: Files + Threads + Wait + Sync, R: Read, W: Write, E: Write>(
     ensures answered { IsWithoutOption separated.entry → IsCommandAnswer (texts separated.entry.words.items) (R.remaining reader.old) result
         (W.contents writer.old) (W.contents writer.new) }
     ensures unread_if_wrong { IsWithoutOption separated.entry
-        → is_resume (texts separated.entry.words.items) ≡ false → AreWrong (texts separated.entry.words.items)
+        → NamesNoService (texts separated.entry.words.items) → AreWrong (texts separated.entry.words.items)
         → reader.new ≡ reader.old }
     ensures unread_for_help { IsWithoutOption separated.entry
-        → is_resume (texts separated.entry.words.items) ≡ false → AsksHelp (texts separated.entry.words.items)
+        → NamesNoService (texts separated.entry.words.items) → AsksHelp (texts separated.entry.words.items)
         → reader.new ≡ reader.old }
 {
     let SeparatedWords { options, words } = separated;
@@ -108,9 +113,9 @@ fn run_separated<H: Files + Threads + Wait + Sync, R: Read, W: Write, E: Write>(
 /// With `--input FILE` the file is read in place of the reader. With `--strict`, unknown keys are a fault of the plant file, with
 /// status 3. With `--json`, an object of JSON is written for each line. Options that are invalid give status 2, and a message that
 /// says why; then nothing is read. With `--version` alone, the version is written. The command `resume` serves a plant that begins
-/// with a plant file or a snapshot. With `--state FOLDER`, `serve` has its lines in the journal of that folder before they are
-/// answered, and goes on from the journal at the next start.
-#[tactic(auto, using(crate::proofs::WithoutOptions::refused))]
+/// with a plant file or a snapshot. So does `restore`, which takes a snapshot only, and `run` if its input begins as a snapshot does.
+/// `snapshot` writes the snapshot after the last line. With `--state FOLDER`, `serve` has its lines in the journal of that folder
+/// before they are answered, and goes on from the journal at the next start.
 pub fn run_with_options<'a, H: Files + Threads + Wait + Sync, R: Read, W: Write, E: Write>(
     rt: &H,
     host: &HostRuntime,
@@ -121,28 +126,28 @@ pub fn run_with_options<'a, H: Files + Threads + Wait + Sync, R: Read, W: Write,
     ending: Ending,
 ) -> u8
     // Without an option it writes what the program writes.
-    ensures plain { asks_version (texts words.entry.now) ≡ false → asks_resume_help (texts words.entry.now) ≡ false
+    ensures plain { asks_version (texts words.entry.now) ≡ false → help_word (texts words.entry.now) ≡ None
         → HasNoOption (texts words.entry.now) → IsCommandAnswer (texts words.entry.now) (R.remaining reader.old) result
         (W.contents writer.old) (W.contents writer.new) }
     // Nothing is read for words that are wrong or ask for help.
     ensures unread_if_wrong { HasNoOption (texts words.entry.now)
-        → is_resume (texts words.entry.now) ≡ false → AreWrong (texts words.entry.now) → reader.new ≡ reader.old }
+        → NamesNoService (texts words.entry.now) → AreWrong (texts words.entry.now) → reader.new ≡ reader.old }
     ensures unread_for_help { HasNoOption (texts words.entry.now)
-        → is_resume (texts words.entry.now) ≡ false → AsksHelp (texts words.entry.now) → reader.new ≡ reader.old }
+        → NamesNoService (texts words.entry.now) → AsksHelp (texts words.entry.now) → reader.new ≡ reader.old }
     // Alone, `--version` writes the version.
     ensures version { asks_version (texts words.entry.now) ≡ true → result ≢ 6
         → (result ≡ 0) × Appends (W.contents writer.old) (W.contents writer.new) version_text }
-    // The help of `resume` is written for words that ask for it.
-    ensures resume_help { asks_resume_help (texts words.entry.now) ≡ true → result ≢ 6
+    // The help of `resume`, `restore` and `snapshot` is written for words that ask for it.
+    ensures service_help { help_word (texts words.entry.now) ≢ None → result ≢ 6
         → WritesHelp result (W.contents writer.old) (W.contents writer.new) }
-    ensures unread_for_resume_help { asks_resume_help (texts words.entry.now) ≡ true → reader.new ≡ reader.old }
+    ensures unread_for_service_help { help_word (texts words.entry.now) ≢ None → reader.new ≡ reader.old }
     ensures unread_for_version { asks_version (texts words.entry.now) ≡ true → reader.new ≡ reader.old }
 {
     if asks_version(words) {
         return answer_version(writer);
     }
-    if asks_resume_help(words) {
-        return answer_resume_help(writer);
+    if let Some(word) = help_word(words) {
+        return answer_service_help(word, writer);
     }
     let alloc = host.alloc();
     match separate(alloc, words) {

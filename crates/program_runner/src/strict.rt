@@ -1,11 +1,11 @@
 //! The command `check` with the option `--strict`: unknown keys are a fault of the plant file.
 
-ghost use Rattle.std.specs.Prelude.{◌≡◌, false};
+ghost use Rattle.std.specs.Prelude.{◌≡◌};
 ghost use Rattle.clap.specs.Walk.{texts};
 ghost use Rattle.command_line.specs.CommandLine.{AreWrong, AsksHelp};
 ghost use Rattle.program_options.specs.declared.options.UnknownKeyHandling.TheVariants.{Warn};
-ghost use Rattle.program_runner.specs.Answered.{IsCommandAnswer};
-ghost use Rattle.program_runner.specs.Resume.{is_resume};
+ghost use Rattle.program_runner.specs.Answered.{IsWordAnswer};
+ghost use Rattle.program_runner.specs.ServiceWords.{service_word, NamesNoService};
 
 use crate::answering::{answer_out_of_memory, finish, pass_on, tell};
 use crate::command::Command;
@@ -70,18 +70,18 @@ pub(crate) fn check_strictly<H: Threads + Wait + Sync, R: Read, W: Write, E: Wri
     }
 }
 
-/// Performs a command, whose unknown keys are warnings or a fault. Returns the status.
+/// Performs a command, `run` as on a plant file, whose unknown keys are warnings or a fault. Returns the status.
 pub(crate) fn run_keys<H: Threads + Wait + Sync, R: Read, W: Write, E: Write>(
     command: &Command<'_, H>,
     reader: &mut R,
     writer: &mut W,
     reasons: &mut E,
 ) -> u8
-    ensures answered { command.now.unknown_keys ≡ Warn → IsCommandAnswer (texts command.now.words.now) (R.remaining reader.old)
-        result (W.contents writer.old) (W.contents writer.new) }
-    ensures unread_if_wrong { command.now.unknown_keys ≡ Warn → is_resume (texts command.now.words.now) ≡ false → AreWrong (texts command.now.words.now)
+    ensures answered { command.now.unknown_keys ≡ Warn → IsWordAnswer (service_word (texts command.now.words.now)) (texts command.now.words.now)
+        (R.remaining reader.old) result (W.contents writer.old) (W.contents writer.new) }
+    ensures unread_if_wrong { command.now.unknown_keys ≡ Warn → NamesNoService (texts command.now.words.now) → AreWrong (texts command.now.words.now)
         → reader.new ≡ reader.old }
-    ensures unread_for_help { command.now.unknown_keys ≡ Warn → is_resume (texts command.now.words.now) ≡ false → AsksHelp (texts command.now.words.now)
+    ensures unread_for_help { command.now.unknown_keys ≡ Warn → NamesNoService (texts command.now.words.now) → AsksHelp (texts command.now.words.now)
         → reader.new ≡ reader.old }
 {
     match command.unknown_keys {

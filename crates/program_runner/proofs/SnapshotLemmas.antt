@@ -1,0 +1,23 @@
+-- A script that is performed, of which no snapshot is written.
+use Rattle.std.proofs.Common.{◌≡◌, ◌≢◌, ℕ, List, Option, Some, None, inl, inr, subst}
+use Rattle.std.specs.Io.KnownBytes.{Appends}
+use Rattle.live_core.specs.declared.rest_fault.RestFault.{RestFault}
+use Rattle.plant_script.specs.Run.{memory_line}
+use Rattle.resumed_service.specs.declared.saving.SnapshotEnd.{SnapshotEnd}
+use Rattle.resumed_service.specs.declared.saving.SnapshotEnd.TheVariants.{Unfinished, NoMemory}
+use Rattle.resumed_service.specs.SavedAfter.{EndsWithSnapshot}
+use Rattle.program_runner.specs.Resume.{state_line, IsSnapshotAnswer}
+
+pub unfinished : (known old mid new : Option (List ℕ)) (status : ℕ) (end : SnapshotEnd) (why : RestFault) (operator : Option (List ℕ)) → end ≡ Unfinished why operator
+    → EndsWithSnapshot known None None old mid end → (status ≢ 6 → (status ≡ 3) × Appends mid new state_line) → IsSnapshotAnswer known status old new
+unfinished None old mid new status end why operator is ends wrote = λ not_six. tt
+unfinished (Some input) old mid new status end why operator is ends wrote =
+    let after = subst (λ (e : SnapshotEnd). EndsWithSnapshot (Some input) None None old mid e) is ends in
+    λ not_six. inr (inl ((wrote not_six).0, (why, (operator, (mid, after, (wrote not_six).1)))))
+
+pub unsaved : (known old mid new : Option (List ℕ)) (status : ℕ) (end : SnapshotEnd) → end ≡ NoMemory → EndsWithSnapshot known None None old mid end
+    → (status ≢ 6 → (status ≡ 5) × Appends mid new memory_line) → IsSnapshotAnswer known status old new
+unsaved None old mid new status end is ends wrote = λ not_six. tt
+unsaved (Some input) old mid new status end is ends wrote =
+    let after = subst (λ (e : SnapshotEnd). EndsWithSnapshot (Some input) None None old mid e) is ends in
+    λ not_six. inr (inr (inl ((wrote not_six).0, (mid, after, (wrote not_six).1))))
