@@ -24,7 +24,8 @@ const PROGRAM_INPUT: &str =
     plant_script run < script.txt
 
 With `--input FILE` it reads the file in place of standard input. `plant_script --version` prints the version.
-`plant_script resume` serves a plant that begins with a snapshot, and writes snapshots (`plant_script resume --help`).
+`plant_script snapshot` writes the state of the plant after a script. `plant_script restore` and `plant_script run` go on
+from it. `plant_script resume` also saves and changes the plant at lines of its input. Each has a `--help`.
 
 A line of a script is a message of a modem, `M ADDRESS MESSAGE`, a bandwidth request, `Q ADDRESS SID MINISLOTS`, the
 next frame, `T` or `T OPERATOR`, or new slices, `Z FRAME START/LENGTH/BUDGET ..`, one for each operator.
@@ -76,7 +77,8 @@ const RUN_INPUT: &str = "Further options, before the command or after it:
     --input FILE    read FILE in place of standard input
     --json          write a JSON object for each line of the output
 
-Standard input: a plant file, a line --- and a script.
+Standard input: a plant file, a line --- and a script. A snapshot may take the plant file's place, which
+`plant_script snapshot` writes. Then each line is answered as by `plant_script resume`.
 Standard output: `R` for each reply, `S` where there is none, `F` for each frame of an operator, and `MAP` for each MAP.
 
     plant_script run < script.txt
