@@ -82,8 +82,22 @@ for change in '/^frame_us/d' 's/^inbox = 4/inbox = 0/' 's/^slice = .40/slice = [
     *) expect 3 'fault: plant 1' run ;;
     esac
 done
+script 'T A'
+expect 3 'fault: state' snapshot
+expect 3 'fault: snapshot 1' restore
+script 'T A' 'T B'
+expect 0 'end 43 1026273898' snapshot
+cp "$work/out" "$work/state"
+cp "$work/state" "$work/input"
+expect 0 '' restore
+expect 0 '' run
+sed 's/^frame 1 /frame 3 /' "$work/state" >"$work/input"
+expect 3 'fault: snapshot 44' restore
+expect 3 'fault: snapshot 44' run
+expect 2 'fault: words' snapshot A
 printf '\377\n' >"$work/input"
 expect 6 'fault: io' one
+expect 6 'fault: io' snapshot
 head -c 1048576 /dev/zero | tr '\0' '\n' >"$work/input"
 expect 0 '' one
 limited=8000

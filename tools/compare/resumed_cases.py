@@ -7,7 +7,8 @@
 For each seed that has a valid plant file and a script:
 
   - The output up to the cut, with a snapshot there, and the output of what is resumed from that snapshot, are together the output of the
-    whole under `resume`. Both end with a snapshot, so the states are equal too. Without the snapshots it is the output under `serve`.
+    whole under `resume`. Both end with a snapshot, so the states are equal too. Without the snapshots it is the output under `serve`,
+    where what is resumed is run by `run`. The snapshot at the cut is that which `snapshot` writes.
   - With a program, the outputs of both implementations are the same, snapshots included.
   - Snapshots are spoiled: bits and bytes are changed, numbers are other ones, fields are copied from other records, lines are cut,
     swapped and repeated. Half of them get a right last line again. With a program, both give the same status and first line of output.
@@ -100,6 +101,9 @@ def judge_cut(answers, cut):
     before = answers.of(["resume"], cut.input(*cut.before))
     first = answers.of(["resume"], cut.input(*cut.before, "K"))
     snapshot = first[1].removeprefix(before[1])
+    saved = answers.of(["snapshot"], cut.input(*cut.before))
+    if saved != (0, snapshot):
+        raise Differs(cut.input(*cut.before), saved, (0, snapshot))
     # Empty lines before the rest of the script, so that its lines have the numbers that they have in the whole.
     rest = snapshot + b"---\n" + b"\n" * (len(cut.before) + 1) + "".join(f"{line}\n" for line in [*cut.after, "K"]).encode()
     second = answers.of(["resume"], rest)
@@ -107,7 +111,7 @@ def judge_cut(answers, cut):
         raise Differs(rest, second, (whole[0], whole[1].removeprefix(first[1])))
     served = answers.of(["serve"], cut.input(*cut.before, "", *cut.after, ""))
     # (the last snapshot is left out: nothing follows it)
-    resumed = answers.of(["resume"], snapshot + rest.removeprefix(snapshot)[:-2])
+    resumed = answers.of(["run"], snapshot + rest.removeprefix(snapshot)[:-2])
     if served != (0, before[1] + resumed[1]):
         raise Differs(rest, resumed, served)
     return snapshot
