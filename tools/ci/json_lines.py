@@ -17,6 +17,7 @@ from concurrent.futures import ThreadPoolExecutor
 from tools import ROOT, show_help
 from tools.ci.cases import cases_of
 from tools.compare.program import PROGRAM
+from tools.reference.resuming import SNAPSHOT
 
 COMMANDS = ("check", "run", "trace", "serve")
 TYPES = {"10": "DSA-RSP", "13": "DSC-RSP", "16": "DSD-RSP"}
@@ -161,8 +162,9 @@ def found_in(program, case):
 
 
 def is_compared(case):
-    """Tests whether a case has an input of a plant and a script that run takes, and that is not large."""
-    return case.words[:1] and case.words[0] in COMMANDS and len(case.plant) + len(case.data) < 300_000
+    """Tests whether a case has an input of a plant file and a script that run takes, and that is not large. With --json no command takes a snapshot."""
+    is_snapshot = (case.plant.encode() + case.data).startswith(SNAPSHOT)
+    return case.words[:1] and case.words[0] in COMMANDS and len(case.plant) + len(case.data) < 300_000 and not is_snapshot
 
 
 def main():
