@@ -103,11 +103,15 @@ pub record IsBegunWith (file : List ℕ) (content : Option JournalContent) : Typ
 
 -- ---- a state that is to be kept
 
--- These lines are the state of this core after so many lines: its snapshot as a text. What is read of them is this plant with these states.
-pub record IsKeptState (live : CoreView) (file : List ℕ) (count : ℕ) (snapshot : List (List ℕ)) (plant : PlantFields) (read : Snapshot) : Type 0 where
-  pub saved : Snapshot
-  pub of_core : IsCoreSnapshot live file saved
+-- These lines are a snapshot as a text, with so many lines before it. What is read of them is this plant with these states.
+pub record IsKeptSnapshot (saved : Snapshot) (count : ℕ) (snapshot : List (List ℕ)) (plant : PlantFields) (read : Snapshot) : Type 0 where
   pub lines : List (List ℕ)
   pub lines_are : snapshot ≡ count_line count ∷ lines
   pub text_is : joined_text lines ≡ text_of_snapshot saved
   pub says : SaysState snapshot count plant read
+
+-- they are the state of this core after so many lines
+pub record IsKeptState (live : CoreView) (file : List ℕ) (count : ℕ) (snapshot : List (List ℕ)) (plant : PlantFields) (read : Snapshot) : Type 0 where
+  pub saved : Snapshot
+  pub of_core : IsCoreSnapshot live file saved
+  pub kept : IsKeptSnapshot saved count snapshot plant read

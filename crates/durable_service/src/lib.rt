@@ -17,4 +17,4 @@ pub use batches::do_batch;
 pub use fault::{DurableFault, JournalStateFault, LineFailure};
 pub use opening::{DurableState, redo_lines};
 pub use reading::{SavedState, StartState, read_state};
-pub use saving::{KeptState, begin_state, put_snapshot, state_to_keep};
+pub use saving::{KeptState, begin_state, put_snapshot, snapshot_to_keep, state_to_keep};

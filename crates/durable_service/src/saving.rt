@@ -11,7 +11,7 @@ ghost use Rattle.line_journal.specs.Device.{LeavesOnly};
 ghost use Rattle.line_journal.specs.Found.{texts};
 ghost use Rattle.line_journal.specs.Journal.{journal_content, fresh, IsJournalSettled, IsBeforeOrAfter};
 ghost use Rattle.durable_service.specs.declared.fault.DurableFault.TheVariants as faults;
-ghost use Rattle.durable_service.specs.Durable.{joined_text, saved_start, SaysState, StandsForState, IsOpeningState, IsBegunWith, IsLeading, IsKeptState};
+ghost use Rattle.durable_service.specs.Durable.{joined_text, saved_start, SaysState, StandsForState, IsOpeningState, IsBegunWith, IsLeading, IsKeptSnapshot, IsKeptState};
 
 use crate::fault::{DurableFault, JournalStateFault};
 use crate::lines::{join_lines, snapshot_lines, split_lines};
@@ -118,6 +118,22 @@ pub fn begin_state<D: Device>(
     })
 }
 
+/// Returns a snapshot as a state that is to take the place of the lines before it, which are so many. What is returned was read back
+/// from its lines.
+pub fn snapshot_to_keep(
+    alloc: Global,
+    count: u64,
+    saved: &Snapshot,
+) -> Result<KeptState, JournalStateFault>
+    ensures { IfOk result (λ kept. IsKeptSnapshot saved.now count kept.snapshot kept.start.plant kept.start.saved) }
+{
+    let lines = lines_of_snapshot(alloc, saved)?;
+    Ok(KeptState {
+        start: start_of(alloc, count, lines.as_slice())?,
+        snapshot: snapshot_lines(alloc, count, lines.as_slice())?,
+    })
+}
+
 /// Returns the state of a service that is to take the place of the lines before it, or that its core does not rest. What is returned was
 /// read back from its lines.
 pub fn state_to_keep(alloc: Global, service: &DurableState) -> Result<KeptState, JournalStateFault>
@@ -125,11 +141,7 @@ pub fn state_to_keep(alloc: Global, service: &DurableState) -> Result<KeptState,
         kept.start.plant kept.start.saved) }
 {
     let saved = state_of_core(alloc, &service.core, &service.file)?;
-    let lines = lines_of_snapshot(alloc, &saved)?;
-    Ok(KeptState {
-        start: start_of(alloc, service.count, lines.as_slice())?,
-        snapshot: snapshot_lines(alloc, service.count, lines.as_slice())?,
-    })
+    snapshot_to_keep(alloc, service.count, &saved)
 }
 
 /// Puts the state of a service in the journal, in the place of the state that was saved and of all lines since. Its core has to be one that was
