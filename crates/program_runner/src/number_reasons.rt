@@ -2,9 +2,7 @@
 
 use crate::refusal_reasons::rest_text;
 use frame_numbers::RenumberFault;
-use live_core::ResumeFault;
 use plant::Plant;
-use plant_restart::{RestartFault, RestoreFault};
 use resumed_service::NewFrameFault;
 use std::alloc::{AllocError, Global};
 
@@ -47,24 +45,6 @@ fn number_text(
     }
 }
 
-/// Returns why a plant does not start before the frame, and what to do.
-fn start_text(alloc: Global, plant: &Plant, why: RestoreFault) -> Result<String, AllocError> {
-    let first = plant.consts().get_fields().channel.first_frame;
-    match why {
-        RestoreFault::Restart {
-            why: RestartFault::Core {
-                why: ResumeFault::BeforeFirstFrame,
-            },
-        } => format!(in alloc;
-            "first_frame of the plant file is {first}; take a number that is not less"
-        ),
-        _ => String::from_str(
-            alloc,
-            "the operators do not go on before that frame; take another number",
-        ),
-    }
-}
-
 /// Returns why the next frame does not get the number of a line `N`, and what to do. It is part of a sentence.
 fn fault_text(alloc: Global, plant: &Plant, why: &NewFrameFault) -> Result<String, AllocError> {
     match why {
@@ -76,7 +56,16 @@ fn fault_text(alloc: Global, plant: &Plant, why: &NewFrameFault) -> Result<Strin
         NewFrameFault::NotRenumbered { from, to, why } => {
             number_text(alloc, plant, *from, *to, *why)
         }
-        NewFrameFault::NotRestored { why } => start_text(alloc, plant, *why),
+        NewFrameFault::BeforeFirstFrame => {
+            let first = plant.consts().get_fields().channel.first_frame;
+            format!(in alloc;
+                "first_frame of the plant file is {first}; take a number that is not less"
+            )
+        }
+        NewFrameFault::NotRestored { why: _ } => String::from_str(
+            alloc,
+            "the operators do not go on before that frame; take another number",
+        ),
         NewFrameFault::NoMemory => String::from_str(alloc, "memory ran out; repeat the line"),
     }
 }

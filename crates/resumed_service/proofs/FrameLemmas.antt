@@ -121,6 +121,7 @@ module _ (first : InService) (input line : List ℕ) (number : ℕ) (old : CoreV
     start_fault faults.NoNumber is = absurd is
     start_fault (faults.Unfinished why) is = absurd is
     start_fault (faults.NotRenumbered from to why) is = absurd is
+    start_fault faults.BeforeFirstFrame is = absurd is
     start_fault (faults.NotRestored why) is = record {
       other = other;
       names = names;

@@ -19,7 +19,7 @@ use Rattle.plant_restart.specs.Saving.{saved_book}
 use Rattle.frame_numbers.specs.declared.fault.RenumberFault.{RenumberFault}
 use Rattle.frame_numbers.specs.Numbering.{renumber_refusal, IsRenumberedSnapshot}
 use Rattle.resumed_service.specs.declared.new_frame_fault.NewFrameFault.{NewFrameFault}
-use Rattle.resumed_service.specs.declared.new_frame_fault.NewFrameFault.TheVariants.{NoNumber, Unfinished, NotRenumbered, NotRestored, NoMemory}
+use Rattle.resumed_service.specs.declared.new_frame_fault.NewFrameFault.TheVariants.{NoNumber, Unfinished, NotRenumbered, BeforeFirstFrame, NotRestored, NoMemory}
 
 -- ---- the line
 
@@ -57,12 +57,21 @@ pub record IsRefusedNumber (file : List ℕ) (live : CoreView) (line : List ℕ)
   pub rests : Rests live from
   pub refused : renumber_refusal live.plant.consts to (saved_core file live from) ≡ Some why
 
+-- it can, and yet that is before the plant's first frame
+pub record IsEarlyNumber (file : List ℕ) (live : CoreView) (line : List ℕ) : Type 0 where
+  pub to : ℕ
+  pub names : NamesFrame line to
+  pub from : ℕ
+  pub rests : Rests live from
+  pub accepted : renumber_refusal live.plant.consts to (saved_core file live from) ≡ None
+  pub early : to < live.plant.consts.channel.first_frame
+
 -- a plant does not start in these states, and not because memory ran out
 abbrev pub IsNotStarted : PlantFields → ℕ → List (List ℕ × OperatorState) → RestoreFault → Type 0
 IsNotStarted plant frame states why =
     IsRestoreFault plant (map (λ row. row.policy) plant.rows) frame states why × (why ≢ restore_faults.Restart restart_faults.NoMemory)
 
--- it can, and yet the plant does not start there, as where its first frame is later
+-- it is neither, and yet the plant does not start there
 pub record IsRefusedStart (file : List ℕ) (live : CoreView) (line : List ℕ) (why : RestoreFault) : Type 0 where
   pub other : Snapshot
   pub names : NamesFrame line other.frame
@@ -74,6 +83,7 @@ abbrev pub IsStartRefusal : PlantFields → ℕ → List (List ℕ × OperatorSt
 IsStartRefusal plant frame states NoNumber = ⊥
 IsStartRefusal plant frame states (Unfinished why) = ⊥
 IsStartRefusal plant frame states (NotRenumbered from to why) = ⊥
+IsStartRefusal plant frame states BeforeFirstFrame = ⊥
 IsStartRefusal plant frame states (NotRestored why) = IsNotStarted plant frame states why
 IsStartRefusal plant frame states NoMemory = ⊤
 
@@ -83,6 +93,7 @@ abbrev pub IsNewFrameFault : List ℕ → CoreView → List ℕ → NewFrameFaul
 IsNewFrameFault file live line NoNumber = (to : ℕ) → NamesFrame line to → ⊥
 IsNewFrameFault file live line (Unfinished why) = ((to : ℕ) × NamesFrame line to) × IsRestFault live why
 IsNewFrameFault file live line (NotRenumbered from to why) = IsRefusedNumber file live line from to why
+IsNewFrameFault file live line BeforeFirstFrame = IsEarlyNumber file live line
 IsNewFrameFault file live line (NotRestored why) = IsRefusedStart file live line why
 IsNewFrameFault file live line NoMemory = ((to : ℕ) × NamesFrame line to) × ((frame : ℕ) × Rests live frame)
 
@@ -93,6 +104,7 @@ abbrev pub frame_refusal_outcome : NewFrameFault → LineOutcome
 frame_refusal_outcome NoNumber = outcomes.AtFault
 frame_refusal_outcome (Unfinished why) = outcomes.AtFault
 frame_refusal_outcome (NotRenumbered from to why) = outcomes.AtFault
+frame_refusal_outcome BeforeFirstFrame = outcomes.AtFault
 frame_refusal_outcome (NotRestored why) = outcomes.AtFault
 frame_refusal_outcome NoMemory = outcomes.NoMemory
 

@@ -22,11 +22,7 @@ use std::io::Write;
 use tlv24::Bytes;
 
 /// Returns a snapshot of a core, with this plant file. It fails if the core does not rest, or if memory runs out.
-pub(crate) fn saved_core(
-    alloc: Global,
-    core: &LiveCore,
-    file: &Bytes,
-) -> Result<Snapshot, SaveFault>
+pub fn saved_core(alloc: Global, core: &LiveCore, file: &Bytes) -> Result<Snapshot, SaveFault>
     ensures ok { IfOk result (IsSavedCore file.now (live_view core.now)) }
     ensures fault { (why : RestFault) → result ≡ Err (save_faults.Unfinished why) → IsRestFault (live_view core.now) why }
     ensures none { (why : RestFault) → result ≡ Err (save_faults.Unfinished why)

@@ -25,7 +25,9 @@ mod serving;
 
 pub use begin_fault::BeginFault;
 pub use beginning::is_snapshot_head;
+pub use items::saved_core;
 pub use laws::{service_is_of_changes, service_is_of_runs};
+pub use new_frame::{Renumbered, renumbered_core};
 pub use new_frame_fault::NewFrameFault;
 pub use new_plant_fault::NewPlantFault;
 pub use notes::RefusalNotes;

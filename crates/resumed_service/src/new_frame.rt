@@ -76,14 +76,14 @@ fn named_frame(line: &[u8]) -> Option<u32>
 
 /// A plant whose next frame is to get another number.
 #[derive(Drop)]
-struct Renumbered {
-    plant: Plant,
+pub struct Renumbered {
+    pub plant: Plant,
     /// Its states before the frame of that number.
-    saved: Snapshot,
+    pub saved: Snapshot,
 }
 
 /// Returns the snapshot of a core under the number that a line names, or why there is none. The core stays as it is.
-fn renumbered_core(
+pub fn renumbered_core(
     alloc: Global,
     core: &LiveCore,
     file: &Bytes,
@@ -107,7 +107,9 @@ fn renumbered_core(
     let Ok(plant) = core.plant().copy(alloc) else {
         return Err(NewFrameFault::NoMemory);
     };
+    let first_frame = plant.consts().get_fields().channel.first_frame;
     match renumber(alloc, plant.consts(), &saved, to) {
+        Ok(_other) if to < first_frame => Err(NewFrameFault::BeforeFirstFrame),
         Ok(other) => Ok(Renumbered {
             plant,
             saved: other,

@@ -20,6 +20,8 @@ pub enum NewFrameFault {
         to: u32,
         why: RenumberFault,
     },
+    /// The number is less than that of the plant's first frame.
+    BeforeFirstFrame,
     /// The plant does not start before the frame of that number.
     NotRestored {
         why: RestoreFault,
