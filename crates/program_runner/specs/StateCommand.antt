@@ -43,7 +43,7 @@ state_kind service.NotText = Io
 state_kind (service.InvalidPlant fault) = Plant fault
 state_kind (service.Journal fault) = journal_kind fault
 state_kind (service.NotRestored why) = State
-state_kind (service.NotChanged why) = State
+state_kind (service.NotChanged why refused) = State
 state_kind (service.Stream error) = stream_kind (error_kind error)
 state_kind service.NoMemory = Memory
 

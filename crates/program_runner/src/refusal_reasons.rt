@@ -165,13 +165,11 @@ fn refusal_reason(
 }
 
 /// Returns the refusal of an operator's state that is the reason of a fault, if one is.
-fn reported_refusal(why: &NewPlantFault) -> Option<RefusedState> {
+fn reported_refusal(why: ChangeFault) -> Option<RefusedState> {
     match why {
-        NewPlantFault::NotChanged {
-            why: ChangeFault::Restart {
-                why: RestartFault::State { op, why },
-            },
-        } => Some(RefusedState { op: *op, why: *why }),
+        ChangeFault::Restart {
+            why: RestartFault::State { op, why },
+        } => Some(RefusedState { op, why }),
         _ => None,
     }
 }
@@ -188,15 +186,14 @@ fn is_reported(reported: RefusedState, before: &[RefusedState], refused: Refused
     before.contains(&refused)
 }
 
-/// Writes a line for each refusal of an operator's state that is not reported already.
-fn report_refusals<E: Write>(
+/// Returns in words each refusal of an operator's state that is not reported already, and what to do.
+fn further_texts(
     alloc: Global,
-    number: u64,
     plant: &Plant,
     reported: RefusedState,
     refused: &[RefusedState],
-    reasons: &mut E,
-) -> Result<(), AllocError> {
+) -> Result<Vec<String>, AllocError> {
+    let mut texts = Vec::new(alloc);
     // Where the refusals of the operator begin.
     let mut first = 0;
     for (place, one) in refused.iter().enumerate() {
@@ -204,14 +201,26 @@ fn report_refusals<E: Write>(
             first = place;
         }
         if !is_reported(reported, &refused[first..place], *one) {
-            let text = operator_text(alloc, Some(plant), one.op, one.why)?;
-            let line = format!(in alloc;
-                "line {number}: the plant is not changed: the plant file does not fit the plant in service: {text}\n"
-            );
-            tell(reasons, line);
+            texts.push(operator_text(alloc, Some(plant), one.op, one.why)?)?;
         }
     }
-    Ok(())
+    Ok(texts)
+}
+
+/// Returns in words each further refusal of an operator's state under a plant file, if one is the reason of a fault.
+pub(crate) fn refusal_texts(
+    alloc: Global,
+    file: &[u8],
+    why: ChangeFault,
+    refused: &[RefusedState],
+) -> Result<Vec<String>, AllocError> {
+    let Some(reported) = reported_refusal(why) else {
+        return Ok(Vec::new(alloc));
+    };
+    let Some(plant) = plant_of(alloc, file) else {
+        return Err(AllocError);
+    };
+    further_texts(alloc, &plant, reported, refused)
 }
 
 /// Writes a line for each further refusal of an operator's state under a plant file, if one is reported.
@@ -223,14 +232,23 @@ fn report_further<E: Write>(
     why: &NewPlantFault,
     reasons: &mut E,
 ) -> Result<(), AllocError> {
-    let Some(reported) = reported_refusal(why) else {
+    let NewPlantFault::NotChanged { why } = why else {
+        return Ok(());
+    };
+    let Some(reported) = reported_refusal(*why) else {
         return Ok(());
     };
     let Some(plant) = plant_of(alloc, file) else {
         return Err(AllocError);
     };
     let refused = refused_states(alloc, core, &plant)?;
-    report_refusals(alloc, number, &plant, reported, refused.as_slice(), reasons)
+    for text in further_texts(alloc, &plant, reported, refused.as_slice())? {
+        let line = format!(in alloc;
+            "line {number}: the plant is not changed: the plant file does not fit the plant in service: {text}\n"
+        );
+        tell(reasons, line);
+    }
+    Ok(())
 }
 
 /// Writes the reasons of refused changes to standard error as they come.

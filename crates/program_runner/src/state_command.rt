@@ -11,6 +11,7 @@ use crate::answering::{answer_out_of_memory, finish, pass_on, tell};
 use crate::command::Command;
 use crate::file_input::FileInput;
 use crate::front_reader::FrontReader;
+use crate::refusal_reasons::RefusalReasons;
 use crate::state_reasons::{PERIOD_REASON, opening_reason, plant_reason, state_reason};
 use command_line::{Word, read_words};
 use durable_service::{DurableFault, JournalStateFault, LineFailure};
@@ -155,7 +156,15 @@ fn serve_journal<R: Read, W: Write, E: Write>(
 {
     let mut journal = Journal { device, gate: 0 };
     let mut reader = FrontReader::new(alloc, reader);
-    match serve_state(alloc, &mut journal, folder.period, &mut reader, writer) {
+    let ended = serve_state(
+        alloc,
+        &mut journal,
+        folder.period,
+        &mut reader,
+        writer,
+        &mut RefusalReasons::new(reasons),
+    );
+    match ended {
         Ok(()) => {
             let file = reader.plant_file(alloc);
             tell(reasons, plant_reason(alloc, file, 0));

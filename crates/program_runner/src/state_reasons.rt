@@ -1,12 +1,12 @@
 //! What standard error says of a service with a journal that does not begin, or ends before its input does.
 
 use crate::begin_reasons::{io_reason, restore_text, wrong_text};
-use crate::refusal_reasons::change_text;
+use crate::refusal_reasons::{change_text, refusal_texts};
 use command_line::Word;
 use diagnostics::reason_of;
 use durable_service::{DurableFault, JournalStateFault, LineFailure};
 use journal_file::{JournalOpenFault, JournalPart};
-use plant_restart::ChangeFault;
+use plant_restart::{ChangeFault, RefusedState};
 use state_service::StateServiceFault;
 use std::alloc::{AllocError, Global};
 use std::io;
@@ -16,6 +16,10 @@ const INVALID_PLANT: u8 = 3;
 
 /// What standard error says if the process is out of memory.
 const NO_MEMORY: &str = "out of memory: the run needs more memory than this process may use\n";
+
+/// What to do if the plant of a journal is not changed to the plant file.
+const WHAT_TO_START: &str =
+    "the journal is as it was: start with the plant file that was saved, or mend the plant file\n";
 
 /// What standard error says of a number of lines that is invalid.
 pub(crate) const PERIOD_REASON: &str =
@@ -119,18 +123,28 @@ fn journal_reason(alloc: Global, folder: &str, fault: &DurableFault) -> Result<S
     }
 }
 
-/// Returns why the plant of a journal is not changed to the plant file, and what to do.
+/// Returns the line for one reason why the plant of a journal is not changed to the plant file.
+fn unfit_line(alloc: Global, folder: &str, text: &str) -> Result<String, AllocError> {
+    format!(in alloc; "the plant file does not fit the plant in {folder}/journal: {text}\n")
+}
+
+/// Returns why the plant of a journal is not changed to the plant file, with a line for each reason, and what to do.
 fn changed_reason(
     alloc: Global,
     folder: &str,
     file: Option<Vec<u8>>,
     why: ChangeFault,
+    refused: &[RefusedState],
 ) -> Result<String, AllocError> {
     let file = file.unwrap_or(Vec::new(alloc));
     let text = change_text(alloc, None, file.as_slice(), why)?;
-    format!(in alloc;
-        "the plant file does not fit the plant in {folder}/journal: {text}\nthe journal is as it was: start with the plant file that was saved, or mend the plant file\n"
-    )
+    let mut reason = unfit_line(alloc, folder, text.as_str())?;
+    for text in refusal_texts(alloc, file.as_slice(), why, refused)? {
+        let line = unfit_line(alloc, folder, text.as_str())?;
+        reason.push_str(line.as_str())?;
+    }
+    reason.push_str(WHAT_TO_START)?;
+    Ok(reason)
 }
 
 /// Returns what is wrong with a plant file that has a status, as `check` says it: if it is valid, which of its keys are unknown.
@@ -164,7 +178,9 @@ pub(crate) fn state_reason(
                 "the state in {folder}/journal does not fit its plant file: {what}; use a copy of the journal, or move the file away to begin anew\n"
             )
         }
-        StateServiceFault::NotChanged { why } => changed_reason(alloc, folder, file, *why),
+        StateServiceFault::NotChanged { why, refused } => {
+            changed_reason(alloc, folder, file, *why, refused.as_slice())
+        }
         StateServiceFault::Stream { error } => io_reason(alloc, error),
         StateServiceFault::NoMemory => String::from_str(alloc, NO_MEMORY),
     }

@@ -1,6 +1,9 @@
 -- The beginning of a service with a journal.
-use Rattle.std.proofs.Common.{◌≡◌, ◌≢◌, inr, ℕ, ◌+◌, List, [], ◌∷◌, length, Option, Some, None, IfSome, refl, sym, ap, subst, ◌∙◌, arith}
-use Rattle.std.specs.Io.KnownBytes.{Appends}
+use Rattle.std.proofs.Common.{◌≡◌, ◌≢◌, inl, inr, ℕ, ◌+◌, List, [], ◌∷◌, length, Option, Some, None, IfSome, refl, sym, ap, subst, ◌∙◌, arith}
+use Rattle.std.specs.Prelude.{◌==◌, if◌then◌else◌}
+use Rattle.std.specs.declared.io.buffered.BufReader.{BufReader}
+use Rattle.std.specs.Io.Buffered.{reader_buffer, reader_capacity, reader_inner, reader_remaining}
+use Rattle.std.specs.Io.KnownBytes.{Appends, prepend_known}
 use Rattle.std.proofs.KnownBytes.{Appends-nil}
 use Rattle.run_model.specs.IsStateAfter.{CoreView}
 use Rattle.script_format.specs.Input.{plant_text, script_text}
@@ -11,12 +14,11 @@ use Rattle.snapshot_format.specs.declared.saved.Snapshot.{Snapshot}
 use Rattle.snapshot_format.specs.States.{states_of}
 use Rattle.plant_restart.specs.Restarted.{IsRestarted}
 use Rattle.line_journal.specs.Journal.{JournalContent}
-use Rattle.durable_service.specs.Durable.{SaysState, LeadsTo, IsKeptState}
-use Rattle.durable_service.specs.declared.saving.KeptState.{KeptState}
-use Rattle.state_service.specs.declared.periods.PeriodEnd.{PeriodEnd}
-use Rattle.state_service.specs.declared.periods.PeriodEnd.TheVariants.{Ended, Due}
+use Rattle.durable_service.specs.Durable.{SaysState, LeadsTo}
+use Rattle.state_service.specs.declared.period_end.PeriodEnd.{PeriodEnd}
+use Rattle.state_service.specs.declared.period_end.PeriodEnd.TheVariants.{Ended}
 use Rattle.state_service.specs.Serving.{IsServing, LeadsHere, LosesNoLine, IsRestFrame, greeting}
-use Rattle.state_service.specs.Periods.{IsAfterPeriod, LeadsAtEnd, IsDueOf}
+use Rattle.state_service.specs.Periods.{IsAfterPeriod, LeadsAtEnd}
 use Rattle.state_service.specs.Beginning.{IsFoundIn, IsSavedWith, IsChangedTo, IsUnderFile, IsRestoredFrom, IsServiceSoFar, IsServiceOn, IsStateService, IsUnharmed}
 use Rattle.state_service.proofs.ReadLemmas.{take_nil}
 
@@ -27,7 +29,7 @@ none_read file first count input part written none = record {
   events = [];
   lead = refl;
   count_is = omega arith;
-  taken = record { whole = []; begun = []; lines_are = refl; taken_are = refl; part_is = none ∙ sym (take_nil 4097) };
+  taken = inl (record { whole = []; begun = []; lines_are = refl; taken_are = refl; part_is = none ∙ sym (take_nil 4097) });
   written = Appends-nil written;
 }
 
@@ -120,16 +122,8 @@ restored_leads content file count lines first live now restored leads =
     let stored : JournalContent = record { snapshot = stands.snapshot; lines = lines } in
     (restored.plant, record { stored = stored; stands_for = stands.stands_for; leads = leads stored restored.plant restored.saved stands.says refl restored.restored })
 
-pub leads_at_end : (end : PeriodEnd) (content : Option JournalContent) (live : CoreView) (count : ℕ) → LeadsHere content live count → LeadsAtEnd end content live count
-leads_at_end Ended content live count leads = leads
-leads_at_end (Due kept) content live count leads = tt
-
 pub ended_leads : (end : PeriodEnd) (content : Option JournalContent) (live : CoreView) (count : ℕ) → end ≡ Ended → LeadsAtEnd end content live count → LeadsHere content live count
 ended_leads end content live count is leads = subst (λ (e : PeriodEnd). LeadsAtEnd e content live count) is leads
-
-pub due_kept : (end : PeriodEnd) (live : CoreView) (file : List ℕ) (count : ℕ) (kept : KeptState) → end ≡ Due kept → IsDueOf live file count end
-    → IsKeptState live file count kept.snapshot kept.start.plant kept.start.saved
-due_kept end live file count kept is due = subst (λ (e : PeriodEnd). IsDueOf live file count e) is due
 
 -- ---- under which plant file
 
@@ -151,6 +145,19 @@ plant_stays saved given live same = (λ is. refl, λ other. absurd (other same))
 -- it is another one
 pub plant_changes : (saved given : List ℕ) (led first : CoreView) → given ≢ saved → IsChangedTo given led first → IsUnderFile saved given led first
 plant_changes saved given led first other changed = (λ same. absurd (other same), λ is. changed)
+
+-- ---- a reader in front of the input
+
+prepend_none : (known : Option (List ℕ)) → prepend_known [] known ≡ known
+prepend_none None = refl
+prepend_none (Some bytes) = refl
+
+-- of which nothing is read yet
+pub unread_same : {T A : Type 0} (remaining : T → Option (List ℕ)) (reader : BufReader T A) → reader_buffer reader ≡ [] → reader_capacity reader ≡ 16384
+    → reader_remaining remaining reader ≡ remaining (reader_inner reader)
+unread_same remaining reader empty room =
+    ap (λ (n : ℕ). if n == 0 then None else prepend_known (reader_buffer reader) (remaining (reader_inner reader))) room
+    ∙ (ap (λ (bytes : List ℕ). prepend_known bytes (remaining (reader_inner reader))) empty ∙ prepend_none (remaining (reader_inner reader)))
 
 -- ---- the plant file of the input
 

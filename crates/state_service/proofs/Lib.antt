@@ -1,4 +1,5 @@
 pub mod ReadLemmas
+pub mod CommandLemmas
 pub mod ServeLemmas
 pub mod KeepLemmas
 pub mod BeginLemmas

@@ -1,21 +1,27 @@
 -- What a service with a journal begins with (implementation-specific).
-use Rattle.std.specs.Prelude.{◌≡◌, ◌≢◌, ◌⊎◌, ℕ, ◌+◌, List, [], Option, Ok}
+use Rattle.std.specs.Prelude.{◌≡◌, ◌≢◌, ◌⊎◌, ⊤, ℕ, ◌+◌, List, [], Option, Ok}
 use Rattle.std.specs.Io.KnownBytes.{Appends}
 use Rattle.toml.specs.Parse.{parse_document}
 use Rattle.slice_table.specs.ReadPlant.{text_plant}
 use Rattle.plant.specs.declared.plant.PlantFields.{PlantFields}
 use Rattle.run_model.specs.IsStateAfter.{CoreView}
+use Rattle.live_core.specs.Resting.{Rests}
 use Rattle.snapshot_format.specs.declared.saved.Snapshot.{Snapshot}
 use Rattle.snapshot_format.specs.States.{states_of}
 use Rattle.plant_restart.specs.Restarted.{IsRestarted}
 use Rattle.plant_restart.specs.Changing.{IsChangeOf}
+use Rattle.plant_restart.specs.declared.refusing.RefusedState.{RefusedState}
+use Rattle.plant_restart.specs.Refused.{refused_states}
+use Rattle.plant_restart.specs.Saving.{states_by_name}
 use Rattle.line_service.specs.Bytes.{WhereKnown}
 use Rattle.line_journal.specs.Journal.{JournalContent, journal_content}
 use Rattle.durable_service.specs.Durable.{IsBegunWith, StandsForState}
-use Rattle.state_service.specs.declared.periods.PeriodEnd.{PeriodEnd}
-use Rattle.state_service.specs.declared.periods.PeriodEnd.TheVariants.{Ended}
+use Rattle.state_service.specs.declared.fault.StateServiceFault.{StateServiceFault}
+use Rattle.state_service.specs.declared.fault.StateServiceFault.TheVariants.{NotText, InvalidPlant, Journal, NotRestored, NotChanged, Stream, NoMemory}
+use Rattle.state_service.specs.declared.period_end.PeriodEnd.{PeriodEnd}
+use Rattle.state_service.specs.declared.period_end.PeriodEnd.TheVariants.{Ended}
 use Rattle.state_service.specs.Serving.{LeadsHere, LosesNoLine, IsRestFrame, greeting}
-use Rattle.state_service.specs.Periods.{IsAfterPeriod, IsDueOf, LeadsAtEnd}
+use Rattle.state_service.specs.Periods.{IsAfterPeriod, SaysAtEnd, LeadsAtEnd}
 
 -- the journal of a file of these bytes, which is begun if there is no byte
 abbrev pub IsFoundIn : List ℕ → List ℕ → Option JournalContent → Type 0
@@ -68,7 +74,7 @@ pub record IsServiceSoFar (found : Option JournalContent) (file : List ℕ) (end
 pub record IsServedTo (found content : Option JournalContent) (given file : List ℕ) (count : ℕ) (end : PeriodEnd) (part : List ℕ) (known rest old new : Option (List ℕ)) : Type 0 where
   pub live : CoreView
   pub same_file : file ≡ given
-  pub due : IsDueOf live file count end
+  pub due : SaysAtEnd count end
   pub leads : LeadsAtEnd end content live count
   pub serves : WhereKnown known rest (λ input left. IsServiceSoFar found given end input left part live count old new)
 
@@ -88,3 +94,20 @@ pub record IsStateService (bytes file input : List ℕ) (content : Option Journa
 -- what a crash leaves is as before, or it has a state and no fewer lines
 abbrev pub IsUnharmed : List ℕ → Option JournalContent → Type 0
 IsUnharmed bytes content = (content ≡ journal_content bytes) ⊎ LosesNoLine (journal_content bytes) content
+
+-- ---- a start that is refused
+
+-- the refusals of the states of a core's operators under a plant, if the core rests, and none otherwise
+pub record AreRefusals (live : CoreView) (plant : PlantFields) (refused : List RefusedState) : Type 0 where
+  pub rests : (frame : ℕ) → Rests live frame → refused ≡ refused_states plant (states_by_name live)
+  pub restless : ((frame : ℕ) → ¬ Rests live frame) → refused ≡ []
+
+-- a fault of a change of the plant has them
+abbrev pub HasRefusals : CoreView → PlantFields → StateServiceFault → Type 0
+HasRefusals live plant NotText = ⊤
+HasRefusals live plant (InvalidPlant fault) = ⊤
+HasRefusals live plant (Journal fault) = ⊤
+HasRefusals live plant (NotRestored why) = ⊤
+HasRefusals live plant (NotChanged why refused) = AreRefusals live plant refused.items
+HasRefusals live plant (Stream error) = ⊤
+HasRefusals live plant NoMemory = ⊤

@@ -1,3 +1,4 @@
+pub mod Commands
 pub mod Taking
 pub mod Serving
 pub mod Periods

@@ -1,5 +1,5 @@
 -- A service whose lines are in a journal before they are answered (implementation-specific).
-use Rattle.std.specs.Prelude.{◌≡◌, ◌≤◌, ◌⊎◌, ℕ, ◌+◌, List, [], ◌∷◌, ◌++◌, length, Option, Some, None, codes}
+use Rattle.std.specs.Prelude.{◌≡◌, ◌≤◌, ◌⊎◌, ℕ, ◌+◌, List, [], ◌∷◌, ◌++◌, length, true, Option, Some, None, codes}
 use Rattle.std.specs.Fmt.{decimal}
 use Rattle.std.specs.Io.KnownBytes.{Appends}
 use Rattle.plant.specs.declared.plant.PlantFields.{PlantFields}
@@ -10,28 +10,43 @@ use Rattle.snapshot_format.specs.declared.saved.Snapshot.{Snapshot}
 use Rattle.snapshot_format.specs.States.{states_of}
 use Rattle.plant_restart.specs.Restarted.{IsRestarted}
 use Rattle.line_journal.specs.Journal.{JournalContent}
-use Rattle.durable_service.specs.Durable.{AreLinesDone, IsKeptState, IsLeading, StandsForState}
-use Rattle.state_service.specs.Taking.{AreTaken, AreAllTaken}
+use Rattle.durable_service.specs.Durable.{AreLinesDone, IsKeptSnapshot, IsKeptState, IsLeading, StandsForState}
+use Rattle.resumed_service.specs.Items.{asks_snapshot, SnapshotIsGiven}
+use Rattle.resumed_service.specs.NewFrames.{asks_frame, NamesFrame, IsCoreRenumbered, frame_text}
+use Rattle.state_service.specs.Commands.{AreNoCommands, IsRefusedCommand}
+use Rattle.state_service.specs.Taking.{AreTakenSoFar, AreAllTaken}
 
 -- ---- what a service has done
 
 pub data Event : Type 0 where
-  -- lines are done, and this text answers them
+  -- lines are done, none of which is a command, and this text answers them
   Done : (lines : List (List ℕ)) (text : List ℕ) → Event
   -- the state was saved, and the core goes on from it
   Saved : Event
+  -- the state was saved for a line that requests a snapshot, and this text is the snapshot
+  SnapshotGiven : (line text : List ℕ) → Event
+  -- the state was saved under the number of a line, which the next frame has got
+  NumberGiven : (line : List ℕ) (to : ℕ) → Event
+  -- a command was refused: it was done as a line of a script, and this text answers it
+  CommandRefused : (line text : List ℕ) → Event
 
 -- the lines that were done, where the latest event comes first
 abbrev pub lines_done : List Event → List (List ℕ)
 lines_done [] = []
 lines_done (Done lines text ∷ before) = lines_done before ++ lines
 lines_done (Saved ∷ before) = lines_done before
+lines_done (SnapshotGiven line text ∷ before) = lines_done before ++ line ∷ []
+lines_done (NumberGiven line to ∷ before) = lines_done before ++ line ∷ []
+lines_done (CommandRefused line text ∷ before) = lines_done before ++ line ∷ []
 
 -- the text that answers them
 abbrev pub text_told : List Event → List ℕ
 text_told [] = []
 text_told (Done lines text ∷ before) = text_told before ++ text
 text_told (Saved ∷ before) = text_told before
+text_told (SnapshotGiven line text ∷ before) = text_told before ++ text
+text_told (NumberGiven line to ∷ before) = text_told before ++ frame_text to
+text_told (CommandRefused line text ∷ before) = text_told before ++ text
 
 -- a core is in the state that was read of what is kept of another one, with this plant file, after so many lines
 pub record GoesOnFromState (file : List ℕ) (count : ℕ) (old live : CoreView) : Type 0 where
@@ -41,13 +56,35 @@ pub record GoesOnFromState (file : List ℕ) (count : ℕ) (old live : CoreView)
   pub kept : IsKeptState old file count snapshot plant read
   pub is_restarted : IsRestarted plant read.frame (states_of read) live
 
+-- a core is in the state that was read of what is kept of another one under the number of a line, which its next frame can get
+pub record GoesOnUnderNumber (file : List ℕ) (count : ℕ) (line : List ℕ) (to : ℕ) (old live : CoreView) : Type 0 where
+  pub requests : asks_frame line ≡ true
+  pub names : NamesFrame line to
+  pub other : Snapshot
+  pub renumbered : IsCoreRenumbered file old to other
+  pub snapshot : List (List ℕ)
+  pub plant : PlantFields
+  pub read : Snapshot
+  pub kept : IsKeptSnapshot other count snapshot plant read
+  pub is_restarted : IsRestarted plant read.frame (states_of read) live
+
+-- after whatever run led to a core, these lines are done next, after so many lines, and lead to another one; this text answers them
+abbrev pub AreDoneNext : CoreView → ℕ → List (List ℕ) → CoreView → List ℕ → Type 0
+AreDoneNext old count lines live text = BehindEachRun old (λ plant start steps shown. AreLinesDone plant start steps shown (count + 1) lines live text)
+
 -- under this plant file, after so many lines, and these events, the first core has become this one
 abbrev pub LeadOn : List ℕ → CoreView → ℕ → List Event → CoreView → Type 0
 LeadOn file first count [] live = live ≡ first
 LeadOn file first count (Done lines text ∷ before) live = (old : CoreView) × LeadOn file first count before old
-    × BehindEachRun old (λ plant start steps shown. AreLinesDone plant start steps shown (count + length (lines_done before) + 1) lines live text)
+    × AreNoCommands lines × AreDoneNext old (count + length (lines_done before)) lines live text
 LeadOn file first count (Saved ∷ before) live = (old : CoreView) × LeadOn file first count before old
     × GoesOnFromState file (count + length (lines_done before)) old live
+LeadOn file first count (SnapshotGiven line text ∷ before) live = (old : CoreView) × LeadOn file first count before old
+    × (asks_snapshot line ≡ true) × SnapshotIsGiven file old text × GoesOnFromState file (count + length (lines_done before) + 1) old live
+LeadOn file first count (NumberGiven line to ∷ before) live = (old : CoreView) × LeadOn file first count before old
+    × GoesOnUnderNumber file (count + length (lines_done before) + 1) line to old live
+LeadOn file first count (CommandRefused line text ∷ before) live = (old : CoreView) × LeadOn file first count before old
+    × IsRefusedCommand file old line × AreDoneNext old (count + length (lines_done before)) (line ∷ []) live text
 
 -- ---- a service that goes on from a core
 
@@ -56,7 +93,15 @@ pub record IsServing (file : List ℕ) (first : CoreView) (count : ℕ) (input r
   pub events : List Event
   pub lead : LeadOn file first count events live
   pub count_is : now ≡ count + length (lines_done events)
-  pub taken : AreTaken input rest (lines_done events) part
+  pub taken : AreTakenSoFar input rest (lines_done events) part
+  pub written : Appends old new (text_told events)
+
+-- and the line after them is read too
+pub record IsAtLine (line : List ℕ) (file : List ℕ) (first : CoreView) (count : ℕ) (input rest part : List ℕ) (live : CoreView) (now : ℕ) (old new : Option (List ℕ)) : Type 0 where
+  pub events : List Event
+  pub lead : LeadOn file first count events live
+  pub count_is : now ≡ count + length (lines_done events)
+  pub taken : AreTakenSoFar input rest (lines_done events ++ line ∷ []) part
   pub written : Appends old new (text_told events)
 
 -- all lines of the input are done and answered

@@ -16,10 +16,14 @@ use crate::starting::GivenPlant;
 use durable_service::{DurableFault, SavedState, begin_state, read_state};
 use line_journal::{Device, Journal};
 use line_service::read_plant_text;
+use resumed_service::RefusalNotes;
 use slice_table::{PlantFault, read_plant};
 use std::alloc::Global;
-use std::io::{Read, Write};
+use std::io::{BufReader, Read, Write};
 use tlv24::Bytes;
+
+/// The most bytes of a read.
+const READ_BYTES: usize = 16_384;
 
 /// Reads the plant file of an input.
 fn read_given<R: Read>(alloc: Global, reader: &mut R) -> Result<GivenPlant, StateServiceFault>
@@ -68,13 +72,18 @@ fn open_state<D: Device>(
 /// The lines of the input are put in the journal in batches, done, and then answered as `answer_line` does. Of a line that is too
 /// long 4,097 bytes are kept. After each `period` lines the state takes the place of the lines, as soon as the core rests.
 ///
+/// The line `K` is answered by a snapshot of the core, and a line that begins with `N` gives the next frame the number that it names, as
+/// in `resume`. The state takes the place of the lines, and is on the disk before such a line is answered. If the line is refused,
+/// `notes` has the reason of a line `N`, and the line is put in the journal and answered as an invalid line.
+///
 /// A fault ends the service: nothing that was answered is lost, and another start goes on from the journal.
-pub fn serve_state<D: Device, R: Read, W: Write>(
+pub fn serve_state<D: Device, R: Read, W: Write, N: RefusalNotes>(
     alloc: Global,
     journal: &mut Journal<D>,
     period: u64,
     reader: &mut R,
     writer: &mut W,
+    notes: &mut N,
 ) -> Result<(), StateServiceFault>
     // After a restart, what is read is what is on the disk.
     requires { Only (D.seen journal.old.device) (D.may_leave journal.old.device) }
@@ -90,6 +99,9 @@ pub fn serve_state<D: Device, R: Read, W: Write>(
         (λ c. IsUnharmed (D.seen journal.old.device) (journal_content c)) }
 {
     let given = read_given(alloc, reader)?;
+    let mut lines = BufReader::with_capacity(alloc, READ_BYTES, reader)?;
     let state = open_state(alloc, &mut journal.device, given.file.as_slice())?;
-    serve_restored(alloc, journal, state, given, period, reader, writer)
+    serve_restored(
+        alloc, journal, state, given, period, &mut lines, writer, notes,
+    )
 }

@@ -4,9 +4,13 @@
 //! batches, as they are read. Now and then the state takes the place of the lines since the last one.
 #![tactic(auto)]
 
+mod answering;
 mod beginning;
+mod commands;
 mod fault;
 mod greeting;
+mod performing;
+mod period_end;
 mod periods;
 mod reading;
 mod serving;

@@ -1,27 +1,29 @@
 //! A service that begins anew from its saved state now and then.
 
 ghost use Rattle.std.specs.Prelude.{◌≡◌, ◌≤◌, ◌+◌, [], Ok, ℕ, List, Option, length, IfOk, OnOk, IfSome};
-ghost use Rattle.run_model.specs.IsStateAfter.{CoreView};
 ghost use Rattle.toml.specs.Parse.{parse_document};
 ghost use Rattle.slice_table.specs.ReadPlant.{text_plant};
 ghost use Rattle.line_journal.specs.Device.{LeavesOnly};
 ghost use Rattle.line_journal.specs.Found.{texts};
 ghost use Rattle.line_journal.specs.Journal.{JournalContent, journal_content, IsJournalSettled};
-ghost use Rattle.durable_service.specs.Durable.{StandsForState, IsKeptState};
-ghost use Rattle.state_service.specs.declared.periods.PeriodEnd.TheVariants.{Due};
+ghost use Rattle.durable_service.specs.Durable.{StandsForState};
+ghost use Rattle.state_service.specs.declared.period_end.PeriodEnd.TheVariants.{Due};
 ghost use Rattle.state_service.specs.Beginning.{IsServedTo, IsServiceOn};
+ghost use Rattle.state_service.specs.Periods.{SaysDue};
 ghost use Rattle.state_service.specs.Serving.{HasNoFewer, LosesNoLine};
 
 use crate::fault::StateServiceFault;
-use crate::periods::{PeriodEnd, serve_period};
+use crate::period_end::{DueState, PeriodEnd};
+use crate::periods::serve_period;
 use crate::starting::{GivenPlant, StartedService, start_service};
 use durable_service::{DurableState, KeptState, SavedState, StartState, put_snapshot};
 use grant_policy::{RankInput, Ranking, rank_by};
 use line_journal::{Device, Journal};
 use plant_restart::restore;
+use resumed_service::RefusalNotes;
 use std::alloc::Global;
 use std::io;
-use std::io::{Read, Write};
+use std::io::{BufRead, Write};
 use tlv24::Bytes;
 
 /// Holds how a period ended, with the plant file and the number of lines that are done then.
@@ -32,35 +34,37 @@ struct ServedPeriod {
     end: PeriodEnd,
 }
 
-/// Puts a state that is due in the place of the lines since the last one, and serves lines with a core in that state until another one
-/// is due.
+/// Puts a state that is due in the place of the lines since the last one, writes the answer that waits for it, and serves lines with a
+/// core in that state until another one is due.
 ///
 /// The core and its rankings are made here, since a function that makes them may not hand them out.
-fn serve_kept<D: Device, R: Read, W: Write>(
+fn serve_kept<D: Device, B: BufRead, W: Write, N: RefusalNotes>(
     alloc: Global,
     journal: &mut Journal<D>,
-    kept: KeptState,
+    due: DueState,
     file: Bytes,
     count: u64,
     part: &mut Vec<u8>,
     period: u64,
-    reader: &mut R,
+    reader: &mut B,
     writer: &mut W,
+    notes: &mut N,
 ) -> Result<ServedPeriod, StateServiceFault>
     requires settled { IsJournalSettled D.seen D.may_leave journal.old.device journal.old.gate }
-    requires kept { (live : CoreView) × IsKeptState live file count kept.snapshot kept.start.plant kept.start.saved }
+    requires says { SaysDue count due }
     ensures settled { OnOk result (IsJournalSettled D.seen D.may_leave journal.new.device journal.new.gate) }
     ensures count { IfOk result (λ served. count ≤ served.count) }
     ensures on { IfOk result (λ served. (found : Option JournalContent) (given : List ℕ) (known written : Option (List ℕ))
-        → IsServedTo found (journal_content (D.seen journal.old.device)) given file count (Due kept) part.old.items
-        known (R.remaining reader.old) written (W.contents writer.old)
+        → IsServedTo found (journal_content (D.seen journal.old.device)) given file count (Due due) part.old.items
+        known (B.remaining reader.old) written (W.contents writer.old)
         → IsServedTo found (journal_content (D.seen journal.new.device)) given served.file served.count served.end part.new.items
-        known (R.remaining reader.new) written (W.contents writer.new)) }
+        known (B.remaining reader.new) written (W.contents writer.new)) }
     ensures any_moment { (least : ℕ) → least ≤ count → HasNoFewer least (journal_content (D.seen journal.old.device))
         → LeavesOnly D.moment D.left_since journal.old.device journal.new.device (λ c. HasNoFewer least (journal_content c)) }
     ensures no_fewer { (least : ℕ) → least ≤ count → HasNoFewer least (journal_content (D.seen journal.old.device))
         → OnOk result (HasNoFewer least (journal_content (D.seen journal.new.device))) }
 {
+    let DueState { kept, answer } = due;
     let KeptState { start, snapshot } = kept;
     let mut rankings = Vec::new(alloc);
     for row in start.plant.rows() {
@@ -86,7 +90,18 @@ fn serve_kept<D: Device, R: Read, W: Write>(
     };
     let mut service = DurableState { core, file, count };
     put_snapshot(alloc, journal, &service, &snapshot)?;
-    let end = serve_period(alloc, journal, &mut service, part, period, reader, writer)?;
+    writer.write_all(answer.as_slice())?;
+    writer.flush()?;
+    let end = serve_period(
+        alloc,
+        journal,
+        &mut service,
+        part,
+        period,
+        reader,
+        writer,
+        notes,
+    )?;
     Ok(ServedPeriod {
         file: service.file,
         count: service.count,
@@ -98,15 +113,16 @@ fn serve_kept<D: Device, R: Read, W: Write>(
 /// due.
 ///
 /// The cores and their rankings are made here, since a function that makes them may not hand them out.
-fn serve_first<D: Device, R: Read, W: Write>(
+fn serve_first<D: Device, B: BufRead, W: Write, N: RefusalNotes>(
     alloc: Global,
     journal: &mut Journal<D>,
     state: SavedState,
     given: GivenPlant,
     part: &mut Vec<u8>,
     period: u64,
-    reader: &mut R,
+    reader: &mut B,
     writer: &mut W,
+    notes: &mut N,
 ) -> Result<ServedPeriod, StateServiceFault>
     requires found { StandsForState (journal_content (D.seen journal.old.device)) state.start.count state.start.plant state.start.saved
         (texts state.lines.items) }
@@ -117,7 +133,7 @@ fn serve_first<D: Device, R: Read, W: Write>(
     ensures count { IfOk result (λ served. state.start.count + length state.lines.items ≤ served.count) }
     ensures on { IfOk result (λ served. IsServedTo (journal_content (D.seen journal.old.device)) (journal_content (D.seen journal.new.device))
         given.file.items served.file served.count served.end part.new.items
-        (R.remaining reader.old) (R.remaining reader.new) (W.contents writer.old) (W.contents writer.new)) }
+        (B.remaining reader.old) (B.remaining reader.new) (W.contents writer.old) (W.contents writer.new)) }
     ensures any_moment { (least : ℕ) → HasNoFewer least (journal_content (D.seen journal.old.device))
         → LeavesOnly D.moment D.left_since journal.old.device journal.new.device (λ c. HasNoFewer least (journal_content c)) }
     ensures no_fewer { (least : ℕ) → HasNoFewer least (journal_content (D.seen journal.old.device))
@@ -176,6 +192,7 @@ fn serve_first<D: Device, R: Read, W: Write>(
         period,
         reader,
         writer,
+        notes,
     )?;
     Ok(ServedPeriod {
         file: service.file,
@@ -186,20 +203,21 @@ fn serve_first<D: Device, R: Read, W: Write>(
 
 /// Serves the lines of an input from the state of a journal, under a plant file. A state that is due takes the place of the lines since the
 /// last one.
-pub(crate) fn serve_restored<D: Device, R: Read, W: Write>(
+pub(crate) fn serve_restored<D: Device, B: BufRead, W: Write, N: RefusalNotes>(
     alloc: Global,
     journal: &mut Journal<D>,
     state: SavedState,
     given: GivenPlant,
     period: u64,
-    reader: &mut R,
+    reader: &mut B,
     writer: &mut W,
+    notes: &mut N,
 ) -> Result<(), StateServiceFault>
     requires found { StandsForState (journal_content (D.seen journal.old.device)) state.start.count state.start.plant state.start.saved
         (texts state.lines.items) }
     requires settled { IsJournalSettled D.seen D.may_leave journal.old.device state.gate }
     requires given { text_plant (parse_document given.file.items) ≡ Ok given.plant }
-    ensures served { OnOk result (IfSome (R.remaining reader.old) (λ input. IsServiceOn (journal_content (D.seen journal.old.device))
+    ensures served { OnOk result (IfSome (B.remaining reader.old) (λ input. IsServiceOn (journal_content (D.seen journal.old.device))
         given.file.items input (journal_content (D.seen journal.new.device)) (W.contents writer.old) (W.contents writer.new))) }
     ensures settled { OnOk result (IsJournalSettled D.seen D.may_leave journal.new.device journal.new.gate) }
     ensures any_moment { LeavesOnly D.moment D.left_since journal.old.device journal.new.device
@@ -207,16 +225,16 @@ pub(crate) fn serve_restored<D: Device, R: Read, W: Write>(
 {
     let mut part = Vec::new(alloc);
     let mut served = serve_first(
-        alloc, journal, state, given, &mut part, period, reader, writer,
+        alloc, journal, state, given, &mut part, period, reader, writer, notes,
     )?;
     for _ in 0..u64::MAX {
         let ServedPeriod { file, count, end } = served;
-        let kept = match end {
+        let due = match end {
             PeriodEnd::Ended => return Ok(()),
-            PeriodEnd::Due { kept } => kept,
+            PeriodEnd::Due { due } => due,
         };
         served = serve_kept(
-            alloc, journal, kept, file, count, &mut part, period, reader, writer,
+            alloc, journal, due, file, count, &mut part, period, reader, writer, notes,
         )?;
     }
     Err(StateServiceFault::from(io::Error::from(io::ErrorKind::Other)))

@@ -1,6 +1,6 @@
 //! A service that starts from a restored core.
 
-ghost use Rattle.std.specs.Prelude.{◌≡◌, ◌≢◌, ◌≤◌, ◌+◌, [], Ok, ℕ, List, Option, length, IfOk, OnOk};
+ghost use Rattle.std.specs.Prelude.{◌≡◌, ◌≢◌, ◌≤◌, ◌+◌, [], Ok, ℕ, List, Option, length, IfOk, IfErr, OnOk};
 ghost use Rattle.toml.specs.Parse.{parse_document};
 ghost use Rattle.slice_table.specs.ReadPlant.{text_plant};
 ghost use Rattle.live_core.specs.After.{IsReachableFromStart};
@@ -9,20 +9,22 @@ ghost use Rattle.line_service.specs.Bytes.{WhereKnown};
 ghost use Rattle.line_journal.specs.Device.{LeavesOnly};
 ghost use Rattle.line_journal.specs.Found.{texts};
 ghost use Rattle.line_journal.specs.Journal.{JournalContent, journal_content, IsJournalSettled};
-ghost use Rattle.state_service.specs.Beginning.{IsServiceSoFar, IsRestoredFrom, IsSavedWith};
-ghost use Rattle.state_service.specs.Periods.{IsDueOf, LeadsAtEnd};
+ghost use Rattle.state_service.specs.Beginning.{IsServiceSoFar, IsRestoredFrom, IsSavedWith, HasRefusals};
+ghost use Rattle.state_service.specs.Periods.{SaysAtEnd, LeadsAtEnd};
 ghost use Rattle.state_service.specs.Serving.{LeadsHere, HasNoFewer};
 
 use crate::fault::StateServiceFault;
 use crate::greeting::{resting_frame, write_greeting};
-use crate::periods::{PeriodEnd, serve_period};
+use crate::period_end::{DueState, PeriodEnd};
+use crate::periods::serve_period;
 use durable_service::{DurableState, redo_lines, state_to_keep};
 use grant_policy::Ranking;
 use line_journal::{Device, Journal};
 use plant::Plant;
-use plant_restart::change;
+use plant_restart::{change, refused_states};
+use resumed_service::RefusalNotes;
 use std::alloc::Global;
-use std::io::{Read, Write};
+use std::io::{BufRead, Write};
 use tlv24::Bytes;
 
 /// Holds a plant file, and its plant.
@@ -53,34 +55,39 @@ fn change_service<W: Write>(
     ensures reached { IfOk result (λ started. IsReachableFromStart (live_view started.service.core)) }
     ensures count { IfOk result (λ started. started.service.count ≡ service.count) }
     ensures same_file { IfOk result (λ started. started.service.file ≡ given.file.items) }
-    ensures due { IfOk result (λ started. IsDueOf (live_view started.service.core) started.service.file started.service.count started.end) }
+    ensures says { IfOk result (λ started. SaysAtEnd started.service.count started.end) }
     ensures leads { IfOk result (λ started. (content : Option JournalContent)
         → LeadsAtEnd started.end content (live_view started.service.core) started.service.count) }
     ensures on { IfOk result (λ started. (found : Option JournalContent) (input : List ℕ) → LeadsHere found (live_view service.core) service.count
         → IsSavedWith found service.file → IsServiceSoFar found given.file.items started.end input input []
         (live_view started.service.core) started.service.count (W.contents writer.old) (W.contents writer.new)) }
+    ensures refused { IfErr result (HasRefusals (live_view service.core) given.plant) }
 {
+    let refused = refused_states(alloc, &service.core, &given.plant)?;
     let GivenPlant { file, plant } = given;
     let core = match change(alloc, &service.core, plant, rankings) {
         Ok(core) => core,
-        Err(why) => return Err(StateServiceFault::NotChanged { why }),
+        Err(why) => return Err(StateServiceFault::NotChanged { why, refused }),
     };
     let changed = DurableState {
         core,
         file: Bytes::from_vec(file),
         count: service.count,
     };
-    let kept = state_to_keep(alloc, &changed)?;
+    let due = DueState {
+        kept: state_to_keep(alloc, &changed)?,
+        answer: Vec::new(alloc),
+    };
     write_greeting(writer, changed.count, resting_frame(&changed.core))?;
     Ok(StartedService {
         service: changed,
-        end: PeriodEnd::Due { kept },
+        end: PeriodEnd::Due { due },
     })
 }
 
 /// Does the lines of a journal again with a restored core, writes where the service goes on, and serves the first lines of the input. If
 /// the plant file is not the one that was saved, the plant is changed to it instead, before any line.
-pub(crate) fn start_service<D: Device, R: Read, W: Write>(
+pub(crate) fn start_service<D: Device, B: BufRead, W: Write, N: RefusalNotes>(
     alloc: Global,
     journal: &mut Journal<D>,
     mut service: DurableState,
@@ -89,8 +96,9 @@ pub(crate) fn start_service<D: Device, R: Read, W: Write>(
     rankings: Vec<Ranking>,
     part: &mut Vec<u8>,
     period: u64,
-    reader: &mut R,
+    reader: &mut B,
     writer: &mut W,
+    notes: &mut N,
 ) -> Result<StartedService, StateServiceFault>
     requires settled { IsJournalSettled D.seen D.may_leave journal.old.device journal.old.gate }
     requires restored { IsRestoredFrom (journal_content (D.seen journal.old.device)) service.file service.count (texts lines.now)
@@ -101,10 +109,10 @@ pub(crate) fn start_service<D: Device, R: Read, W: Write>(
     ensures reached { IfOk result (λ started. IsReachableFromStart (live_view started.service.core)) }
     ensures count { IfOk result (λ started. service.count + length lines.now ≤ started.service.count) }
     ensures same_file { IfOk result (λ started. started.service.file ≡ given.file.items) }
-    ensures due { IfOk result (λ started. IsDueOf (live_view started.service.core) started.service.file started.service.count started.end) }
+    ensures says { IfOk result (λ started. SaysAtEnd started.service.count started.end) }
     ensures leads { IfOk result (λ started. LeadsAtEnd started.end (journal_content (D.seen journal.new.device))
         (live_view started.service.core) started.service.count) }
-    ensures on { IfOk result (λ started. WhereKnown (R.remaining reader.old) (R.remaining reader.new) (λ input rest. IsServiceSoFar
+    ensures on { IfOk result (λ started. WhereKnown (B.remaining reader.old) (B.remaining reader.new) (λ input rest. IsServiceSoFar
         (journal_content (D.seen journal.old.device)) given.file.items started.end input rest part.new.items
         (live_view started.service.core) started.service.count (W.contents writer.old) (W.contents writer.new))) }
     ensures any_moment { (least : ℕ) → HasNoFewer least (journal_content (D.seen journal.old.device))
@@ -117,6 +125,15 @@ pub(crate) fn start_service<D: Device, R: Read, W: Write>(
         return change_service(alloc, service, given, rankings, writer);
     }
     write_greeting(writer, service.count, resting_frame(&service.core))?;
-    let end = serve_period(alloc, journal, &mut service, part, period, reader, writer)?;
+    let end = serve_period(
+        alloc,
+        journal,
+        &mut service,
+        part,
+        period,
+        reader,
+        writer,
+        notes,
+    )?;
     Ok(StartedService { service, end })
 }

@@ -2,7 +2,10 @@
 
 use durable_service::DurableFault;
 use line_journal::{Journal, Memory};
+use live_core::LiveCore;
+use plant::Plant;
 use plant_restart::{ChangeFault, RestartFault};
+use resumed_service::{NewFrameFault, NewPlantFault, RefusalNotes};
 use state_service::{StateServiceFault, serve_state};
 use std::alloc::{AllocError, Global};
 use std::test::Fail;
@@ -24,6 +27,32 @@ struct ServiceCase<'a> {
     greeting: &'a str,
 }
 
+/// Holds the number of the last line `N` that was refused.
+struct NotedNumber {
+    line: u64,
+}
+
+impl RefusalNotes for NotedNumber {
+    fn note_refused(
+        &mut self,
+        _alloc: Global,
+        _core: &LiveCore,
+        _number: u64,
+        _file: &[u8],
+        _why: &NewPlantFault,
+    ) {}
+
+    fn note_frame_refused(
+        &mut self,
+        _alloc: Global,
+        number: u64,
+        _plant: &Plant,
+        _why: &NewFrameFault,
+    ) {
+        self.line = number;
+    }
+}
+
 /// Returns the text of an input.
 fn input_of(alloc: Global, plant: &str, lines: &str) -> Result<String, AllocError> {
     format!(in alloc; "{plant}---\n{lines}")
@@ -36,13 +65,24 @@ fn serve_bytes(
     period: u64,
     input: &str,
 ) -> Result<(Vec<u8>, Vec<u8>), StateServiceFault> {
+    serve_noted(alloc, bytes, period, input, &mut NotedNumber { line: 0 })
+}
+
+/// Does the same, and notes the last line `N` that is refused.
+fn serve_noted(
+    alloc: Global,
+    bytes: &[u8],
+    period: u64,
+    input: &str,
+    noted: &mut NotedNumber,
+) -> Result<(Vec<u8>, Vec<u8>), StateServiceFault> {
     let mut journal = Journal {
         device: Memory::new(alloc, bytes.to_vec(alloc)?),
         gate: 0,
     };
     let mut reader = input.as_bytes();
     let mut output = Vec::new(alloc);
-    serve_state(alloc, &mut journal, period, &mut reader, &mut output)?;
+    serve_state(alloc, &mut journal, period, &mut reader, &mut output, noted)?;
     Ok((journal.device.bytes().to_vec(alloc)?, output))
 }
 
@@ -86,6 +126,24 @@ fn a_service_goes_on_in_the_next_process(rt: HostRuntime) -> Result<(), Fail> {
 }
 
 #[test]
+fn a_frame_number_is_given_or_noted(rt: HostRuntime) -> Result<(), Fail> {
+    let alloc = rt.alloc();
+    let mut noted = NotedNumber { line: 0 };
+    // 72 minislots are 8 times 9, so numbers that fit are 2^29 apart.
+    let input = input_of(alloc, PLANT, "X\nN 5\nN 536870912\nX\n")?;
+    let (bytes, output) = serve_noted(alloc, b"", 100, input.as_str(), &mut noted)?;
+    assert!(rt;
+        output.as_slice()
+            == b"S line 1 frame 0\nfault: line 1\nfault: line 2\nN frame 536870912\nfault: line 4\n".as_slice()
+    );
+    assert!(rt; noted.line == 2);
+    let input = input_of(alloc, PLANT, "")?;
+    let (_bytes, output) = serve_bytes(alloc, bytes.as_slice(), 100, input.as_str())?;
+    assert!(rt; output.as_slice() == b"S line 5 frame 536870912\n".as_slice());
+    Ok(())
+}
+
+#[test]
 fn a_refused_start_leaves_the_journal(rt: HostRuntime) -> Result<(), Fail> {
     let alloc = rt.alloc();
     let input = input_of(alloc, PLANT, REQUEST)?;
@@ -99,7 +157,8 @@ fn a_refused_start_leaves_the_journal(rt: HostRuntime) -> Result<(), Fail> {
             Err(StateServiceFault::NotChanged {
                 why: ChangeFault::Restart {
                     why: RestartFault::State { op: 0, why: _ }
-                }
+                },
+                refused: _
             })
         )
     );

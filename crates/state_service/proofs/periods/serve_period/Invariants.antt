@@ -17,8 +17,8 @@ invariant-loop g l = record {
   leads : LeadsHere (journal_content (g.D.Device.seen l.fn.journal.device)) (live_view l.fn.service.core) l.fn.service.count
       → LeadsHere (journal_content (g.D.Device.seen l.journal.device)) (live_view l.service.core) l.service.count;
   on : (file : List ℕ) (first : CoreView) (count : ℕ) (known written : Option (List ℕ))
-      → WhereKnown known (g.R.Read.remaining l.fn.reader) (λ input rest. IsServing file first count input rest l.fn.part.items (live_view l.fn.service.core) l.fn.service.count written (g.W.Write.contents l.fn.writer))
-      → WhereKnown known (g.R.Read.remaining l.reader) (λ input rest. IsServing file first count input rest l.part.items (live_view l.service.core) l.service.count written (g.W.Write.contents l.writer));
+      → l.fn.service.file ≡ file → WhereKnown known (g.B.Read.remaining l.fn.reader) (λ input rest. IsServing file first count input rest l.fn.part.items (live_view l.fn.service.core) l.fn.service.count written (g.W.Write.contents l.fn.writer))
+      → WhereKnown known (g.B.Read.remaining l.reader) (λ input rest. IsServing file first count input rest l.part.items (live_view l.service.core) l.service.count written (g.W.Write.contents l.writer));
   any_moment : (least : ℕ) → HasNoFewer least (journal_content (g.D.Device.seen l.fn.journal.device))
       → LeavesOnly g.D.Device.moment g.D.Device.left_since l.fn.journal.device l.journal.device (λ c. HasNoFewer least (journal_content c));
   no_fewer : (least : ℕ) → HasNoFewer least (journal_content (g.D.Device.seen l.fn.journal.device)) → HasNoFewer least (journal_content (g.D.Device.seen l.journal.device));

@@ -1,10 +1,12 @@
 use Rattle.std.proofs.Common.{ℕ, List, ◌++◌, drop}
 use Rattle.line_journal.specs.Found.{texts}
+use Rattle.state_service.specs.Commands.{AreNoCommands}
 use Rattle.state_service.specs.Taking.{AreTaken}
 use Rattle.state_service.proofs.reading.take_bytes.Given as goal
 
-abbrev pub invariant-loop-byte : goal.invariant-loop-byte
-invariant-loop-byte l = record {
+abbrev pub invariant-loop-place : goal.invariant-loop-place
+invariant-loop-place l = record {
   so_far : (input rest : List ℕ) (before : List (List ℕ)) → AreTaken input (l.fn.bytes ++ rest) (before ++ texts l.fn.lines.items) l.fn.part.items
-      → AreTaken input (drop l.byte-index l.bytes ++ rest) (before ++ texts l.lines.items) l.part.items;
+      → AreTaken input (drop l.place l.bytes ++ rest) (before ++ texts l.lines.items) l.part.items;
+  plain : AreNoCommands (texts l.fn.lines.items) → AreNoCommands (texts l.lines.items);
 }

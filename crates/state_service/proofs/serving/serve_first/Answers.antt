@@ -30,4 +30,4 @@ returns-clause-count g c = omega (arith, c.in_ok-service.ensures.count, ap (λ (
 pub returns-clause-on : goal.returns-clause-on
 returns-clause-on g c =
     let started = c.in_ok-service.ensures in
-    record { live = live_view c.in_ok-service.field-0.service.core; same_file = started.same_file; due = started.due; leads = started.leads; serves = started.on }
+    record { live = live_view c.in_ok-service.field-0.service.core; same_file = started.same_file; due = started.says; leads = started.leads; serves = started.on }

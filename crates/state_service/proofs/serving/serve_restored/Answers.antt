@@ -1,6 +1,6 @@
 use Rattle.std.proofs.Common.{◌+◌, length, subst, arith}
 use Rattle.line_journal.specs.Journal.{journal_content}
-use Rattle.state_service.specs.declared.periods.PeriodEnd.{PeriodEnd}
+use Rattle.state_service.specs.declared.period_end.PeriodEnd.{PeriodEnd}
 use Rattle.state_service.specs.Beginning.{IsServedTo}
 use Rattle.state_service.specs.Serving.{HasNoFewer}
 use Rattle.state_service.proofs.BeginLemmas.{all_served, ended_leads}
@@ -37,7 +37,7 @@ returns-in-Ended-clause-served g c =
     let on = c.loop.invariant.on in
     let new = journal_content (g.D.Device.seen c.loop.journal.device) in
     all_served (journal_content (g.D.Device.seen c.args.journal.now.device)) new c.args.given.file.items c.loop.part.items served.end on.live served.count
-    (g.R.Read.remaining c.args.reader.now) (g.R.Read.remaining c.loop.reader) (g.W.Write.contents c.args.writer.now) (g.W.Write.contents c.loop.writer) c.in-Ended.is
+    (g.B.Read.remaining c.args.reader.now) (g.B.Read.remaining c.loop.reader) (g.W.Write.contents c.args.writer.now) (g.W.Write.contents c.loop.writer) c.in-Ended.is
     (ended_leads served.end new on.live served.count c.in-Ended.is on.leads) on.serves
 
 pub returns-in-Ended-clause-any_moment : goal.returns-in-Ended-clause-any_moment
@@ -75,7 +75,7 @@ loop-preserved g c =
     let served = c.loop.served in
     let found = journal_content (g.D.Device.seen old) in
     let given = c.args.given.file.items in
-    let known = g.R.Read.remaining c.args.reader.now in
+    let known = g.B.Read.remaining c.args.reader.now in
     let w0 = g.W.Write.contents c.args.writer.now in
     let inv = c.loop.invariant in
     let kept = c.in_ok-served-2.ensures in
@@ -84,7 +84,7 @@ loop-preserved g c =
       count = omega (arith, inv.count, kept.count);
       no_fewer = kept.no_fewer least inv.count inv.no_fewer;
       on = kept.on found given known w0
-          (subst (λ (e : PeriodEnd). IsServedTo found (journal_content (g.D.Device.seen mid)) given served.file served.count e c.loop.part.items known (g.R.Read.remaining c.loop.reader) w0 (g.W.Write.contents c.loop.writer))
+          (subst (λ (e : PeriodEnd). IsServedTo found (journal_content (g.D.Device.seen mid)) given served.file served.count e c.loop.part.items known (g.B.Read.remaining c.loop.reader) w0 (g.W.Write.contents c.loop.writer))
           c.in-Due.is inv.on);
       any_moment = joined g.D.Device.moment g.D.Device.left_since old mid new (λ d. HasNoFewer least (journal_content d)) inv.any_moment
           (c.serve_kept.ensures.any_moment least inv.count inv.no_fewer);

@@ -11,6 +11,6 @@ invariant-loop g l = record {
   count : l.fn.state.start.count + length l.fn.state.lines.items ≤ l.served.count;
   no_fewer : HasNoFewer (l.fn.state.start.count + length l.fn.state.lines.items) (journal_content (g.D.Device.seen l.journal.device));
   on : IsServedTo (journal_content (g.D.Device.seen l.fn.journal.device)) (journal_content (g.D.Device.seen l.journal.device)) l.fn.given.file.items l.served.file l.served.count l.served.end l.part.items
-      (g.R.Read.remaining l.fn.reader) (g.R.Read.remaining l.reader) (g.W.Write.contents l.fn.writer) (g.W.Write.contents l.writer);
+      (g.B.Read.remaining l.fn.reader) (g.B.Read.remaining l.reader) (g.W.Write.contents l.fn.writer) (g.W.Write.contents l.writer);
   any_moment : LeavesOnly g.D.Device.moment g.D.Device.left_since l.fn.journal.device l.journal.device (λ c. HasNoFewer (l.fn.state.start.count + length l.fn.state.lines.items) (journal_content c));
 }

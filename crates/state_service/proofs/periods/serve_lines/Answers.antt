@@ -1,0 +1,49 @@
+use Rattle.std.proofs.Common.{◌∙◌, subst, arith}
+use Rattle.live_core.specs.LiveView.{live_view}
+use Rattle.line_service.specs.Bytes.{WhereKnown}
+use Rattle.line_journal.specs.Journal.{journal_content}
+use Rattle.script_format.proofs.Outcomes.{if_ok}
+use Rattle.state_service.specs.declared.reading.BatchEnd.{BatchEnd}
+use Rattle.state_service.specs.Periods.{IsAfterLines}
+use Rattle.state_service.specs.Serving.{HasNoFewer}
+use Rattle.state_service.proofs.KeepLemmas.{joined}
+use Rattle.state_service.proofs.periods.serve_lines.Goals as goal
+
+pub returns-in-Open-clause-on : goal.returns-in-Open-clause-on
+returns-in-Open-clause-on g c file first count known written same so_far =
+    let new = c.serve_batch.new.service in
+    subst (λ (e : BatchEnd). WhereKnown known (g.B.Read.remaining c.serve_batch.new.reader)
+    (λ input rest. IsAfterLines e file first count input rest c.serve_batch.new.part.items (live_view new.core) new.count written (g.W.Write.contents c.serve_batch.new.writer))) c.in-Open.is
+    (c.in_ok-serve_batch.ensures.on file first count known written so_far)
+
+pub returns-in-Ended-clause-on : goal.returns-in-Ended-clause-on
+returns-in-Ended-clause-on g c file first count known written same so_far =
+    let new = c.serve_batch.new.service in
+    subst (λ (e : BatchEnd). WhereKnown known (g.B.Read.remaining c.serve_batch.new.reader)
+    (λ input rest. IsAfterLines e file first count input rest c.serve_batch.new.part.items (live_view new.core) new.count written (g.W.Write.contents c.serve_batch.new.writer))) c.in-Ended.is
+    (c.in_ok-serve_batch.ensures.on file first count known written so_far)
+
+pub returns-in-Command-clause-count : goal.returns-in-Command-clause-count
+returns-in-Command-clause-count g c = if_ok c.serve_command.result _ _ (λ end is. omega (arith, is, c.in_ok-serve_batch.ensures.count)) c.serve_command.ensures.count
+
+pub returns-in-Command-clause-leads : goal.returns-in-Command-clause-leads
+returns-in-Command-clause-leads g c = if_ok c.serve_command.result _ _ (λ end leads led. leads (c.in_ok-serve_batch.ensures.leads led)) c.serve_command.ensures.leads
+
+pub returns-in-Command-clause-on : goal.returns-in-Command-clause-on
+returns-in-Command-clause-on g c =
+    let mid = c.serve_batch.new.service in
+    let part = c.serve_batch.new.part.items in
+    let left = g.B.Read.remaining c.serve_batch.new.reader in
+    if_ok c.serve_command.result _ _
+    (λ end on file first count known written same so_far.
+    on file first count known left written part (c.serve_batch.ensures.same_file ∙ same)
+    (subst (λ (e : BatchEnd). WhereKnown known left (λ input rest. IsAfterLines e file first count input rest part (live_view mid.core) mid.count written (g.W.Write.contents c.serve_batch.new.writer))) c.in-Command.is
+    (c.in_ok-serve_batch.ensures.on file first count known written so_far))) c.serve_command.ensures.on
+
+pub returns-in-Command-clause-any_moment : goal.returns-in-Command-clause-any_moment
+returns-in-Command-clause-any_moment g c least has =
+    joined g.D.Device.moment g.D.Device.left_since c.args.journal.now.device c.serve_batch.new.journal.device c.serve_command.new.journal.device
+    (λ d. HasNoFewer least (journal_content d)) (c.serve_batch.ensures.any_moment least has) (c.serve_command.ensures.any_moment least (c.in_ok-serve_batch.ensures.no_fewer least has))
+
+pub returns-in-Command-clause-no_fewer : goal.returns-in-Command-clause-no_fewer
+returns-in-Command-clause-no_fewer g c least has = c.serve_command.ensures.no_fewer least (c.in_ok-serve_batch.ensures.no_fewer least has)
