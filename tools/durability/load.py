@@ -1,4 +1,4 @@
-"""Writes a script for a trial, and finds the answer to each of its lines by the command `serve`."""
+"""Writes a script for a trial, and finds the answer to each of its lines by the command `resume`."""
 
 import bisect
 import random
@@ -15,7 +15,9 @@ FLOWS = (257, 258, 259, 260, 513, 514, 515, 516)
 ASKED = ({15: 2, 7: 3}, {15: 4, 16: 0x17, 17: 20_000}, {15: 6, 19: 64, 20: 20_000, 22: 1})
 ODD = (b"", b"x", b"-", b"+T", b"=line 7", b"M 020000000001 0F", b"fault: line 3", b"\xff", b"T C", b"T\r", b"S line 1 frame 0", b"Q " + 5000 * b"7")
 SLICES = (b"8/32/32 40/32/32", b"8/24/24 32/40/40", b"8/16/16 40/32/32", b"8/40/40 40/32/32")
-FRAME = re.compile(rb"(?m)^F (\w+) (\d+)")
+# Numbers of the same frame are so far apart, since a frame has 72 minislots.
+APART = 2**29
+FRAME = re.compile(rb"(?m)^(?:F (\w+) (\d+)|N frame (\d+)$)")
 
 
 def request_line(rng):
@@ -38,15 +40,40 @@ def some_lines(rng, frame):
         return [request_line(rng)]
     if kind < 0.97:
         return [b"Z %d %s" % (frame + rng.randrange(6), rng.choice(SLICES))]
+    if kind < 0.99:
+        return some_commands(rng, frame)
     return [rng.choice(ODD)]
+
+
+def some_commands(rng, frame):
+    """Returns a request for a snapshot or for another frame number, after so many frames, or both while operators are apart."""
+    kind = rng.random()
+    if kind < 0.4:
+        return [b"K"]
+    if kind < 0.8:
+        return [b"N %d" % other_number(rng, frame)]
+    return [b"T A", b"K", b"N %d" % other_number(rng, frame), b"T B"]
+
+
+def other_number(rng, frame):
+    """Returns another number for a frame."""
+    return frame % APART + APART * rng.randrange(1, 7)
+
+
+def frame_after(lines, frame):
+    """Returns the frame before which all operators are after a few lines."""
+    if lines[-1].startswith(b"N "):
+        return int(lines[-1][2:])
+    return frame + (lines[-1] in (b"T", b"T B"))
 
 
 def script(seed, count):
     """Returns the lines of a script, about so many."""
     rng, lines, frame = random.Random(seed), [], 0
     while len(lines) < count:
-        lines += some_lines(rng, frame)
-        frame += lines[-1] in (b"T", b"T B")
+        more = some_lines(rng, frame)
+        lines += more
+        frame = frame_after(more, frame)
     return lines
 
 
@@ -55,8 +82,8 @@ def joined(lines):
 
 
 def served(program, lines):
-    """Returns what `serve` prints for lines."""
-    done = subprocess.run([*program, "serve"], input=PLANT + b"---\n" + joined(lines), stdout=subprocess.PIPE, timeout=600, check=True)
+    """Returns what `resume` prints for lines."""
+    done = subprocess.run([*program, "resume"], input=PLANT + b"---\n" + joined(lines), stdout=subprocess.PIPE, timeout=600, check=True)
     return done.stdout
 
 
@@ -97,6 +124,9 @@ class Load:
     def frame_before(self, number):
         """Returns the frame before which all operators are at a line, or None if they are before different ones."""
         frames = {b"A": 0, b"B": 0}
-        for name, frame in FRAME.findall(self.text[:self.place(number)]):
-            frames[name] = int(frame) + 1
+        for name, frame, to in FRAME.findall(self.text[:self.place(number)]):
+            if to:
+                frames = dict.fromkeys(frames, int(to))
+            else:
+                frames[name] = int(frame) + 1
         return frames[b"A"] if frames[b"A"] == frames[b"B"] else None

@@ -7,6 +7,7 @@ import sys
 
 from .changes import NotChanged, changed_core
 from .journals import Journal
+from .numbering import NotRenumbered, renumbered_core, requests_number
 from .program import IO, MOST_INPUT, PLANT, WORDS, Core, Fault, judged_plant, text_of
 from .saving import snapshot_of, snapshot_text
 from .services import MOST_LINE, answer_of_line, split_service
@@ -52,16 +53,31 @@ def read_plant_file(read):
     return data, b""
 
 
+def is_command(line):
+    """Returns whether a line requests a snapshot or another frame number."""
+    return line == b"K" or requests_number(line)
+
+
 def batches(chunks):
     """Yields the lines that each reading of the input ends. The last one of the input need not be ended."""
     part = b""
     for chunk in chunks:
         *lines, part = (part + chunk).split(b"\n")
         part = part[:MOST_STORED]
-        if lines:
-            yield [line[:MOST_STORED] for line in lines]
+        yield from split_at_commands([line[:MOST_STORED] for line in lines])
     if part:
-        yield [part]
+        yield from split_at_commands([part])
+
+
+def split_at_commands(lines):
+    """Yields the lines up to each command, with the command, and those after the last one, with None."""
+    while lines:
+        end = next((place for place, line in enumerate(lines) if is_command(line)), None)
+        if end is None:
+            yield lines, None
+            return
+        yield lines[:end], lines[end]
+        lines = lines[end + 1:]
 
 
 class StateService:
@@ -90,6 +106,19 @@ class StateService:
         """Returns the answers to lines that are in the journal."""
         self.journal.append(lines)
         return self.do_lines(lines)
+
+    def do_command(self, line):
+        """Returns the answer to a command, after its state is saved. One that is refused is done as a line of a script."""
+        try:
+            core = renumbered_core(self.core, self.plant_text, line) if requests_number(line) else self.core
+        except NotRenumbered:
+            return self.do_batch([line])
+        snapshot = snapshot_of(core, self.plant_text)
+        if snapshot is None:
+            return self.do_batch([line])
+        self.core, self.count = core, self.count + 1
+        self.save(snapshot)
+        return f"N frame {core.books[0].frame}\n" if requests_number(line) else snapshot
 
     def change(self, file):
         """Changes the plant to that of a plant file, and saves the new state."""
@@ -159,8 +188,11 @@ def serve_state(words, read, write):
             plant, _none = judged_plant(text_of(file))
             service = go_on(journal, file) if journal.found else begin(journal, file, plant)
             write(service.first_line())
-            for lines in batches(itertools.chain([rest], iter(read, b""))):
-                write(service.do_batch(lines))
+            for lines, command in batches(itertools.chain([rest], iter(read, b""))):
+                if lines:
+                    write(service.do_batch(lines))
+                if command is not None:
+                    write(service.do_command(command))
                 service.save_after(every)
         return 0
     except Fault as fault:

@@ -18,6 +18,8 @@ from tools.reference.state_folders import serve_state
 P2 = (EXAMPLES / "plant_p2.toml").read_text()
 WITH_GOLD = P2 + '[[class]]\nname = "gold"\nencoding = "070105"\n'
 LONGER = P2.replace('["020000000003"]', '["020000000003", "020000000004"]')
+# Frames from 3 times 2 to the power of 29, and 5, on.
+LATER = P2.replace("frame_us", "first_frame = 1610612741\nframe_us", 1)
 REQUEST = "M 020000000001 0F0001180A010200010601060F0102\n"
 # Two requests that name the class, and what is saved of the first one where there is no class: a cached refusal.
 OF_GOLD, AGAIN_OF_GOLD = (f"M 020000000001 0F000{tid}180E010200010405676F6C6400060106\n" for tid in (1, 2))
@@ -27,10 +29,15 @@ MAP0 = "MAP 0 01010400000000000000000000000000FFFC400000018008000180280001C048\n
 LONG = "Q " + 5_000 * "7"
 
 
-def state_of(count, plant, operators, frame=0):
-    """Returns the lines of a journal's snapshot. `operators` are the records of those that are saved."""
+def snapshot_of(plant, operators, frame=0):
+    """Returns a snapshot. `operators` are the records of those that are saved."""
     text = f"melfjits-snapshot 1 {len(plant)}\n{plant}---\nframe {frame} {operators.count('operator ')}\n{operators}"
-    return f"line {count}\n{text}{end_of(text.encode())}"
+    return text + end_of(text.encode())
+
+
+def state_of(count, plant, operators, frame=0):
+    """Returns the lines of a journal's snapshot."""
+    return f"line {count}\n{snapshot_of(plant, operators, frame)}"
 
 
 def journal(snapshot, lines=""):
@@ -72,7 +79,23 @@ RUNS = {
                                   "S line 3\n" + RESPONSE + B0 + MAP0 + "fault: line 5\n", journal(state_of(0, P2, ""), REQUEST + "T A\n" + REQUEST + "T B\nX\n")),
     "a state": (journal(state_of(17, P2, IDLE, 5), "X\n"), P2, "X\nT B\n", 0, "S line 19 frame 5\nfault: line 19\nF B 5 0/6/40/32\n",
                 journal(state_of(17, P2, IDLE, 5), "X\nX\nT B\n")),
-    "K and P": (None, P2, "K\nP\n", 0, "S line 1 frame 0\nfault: line 1\nfault: line 2\n", journal(state_of(0, P2, ""), "K\nP\n")),
+    "K and P": (None, P2, "X\nK\nP\n", 0, "S line 1 frame 0\nfault: line 1\n" + snapshot_of(P2, IDLE) + "fault: line 3\n", journal(state_of(2, P2, IDLE), "P\n")),
+    "K while operators are apart": (None, P2, "T A\nK\nT B\nK\n", 0, "S line 1 frame 0\n" + A0 + "fault: line 2\n" + B0 + MAP0 + snapshot_of(P2, IDLE, 1),
+                                    journal(state_of(4, P2, IDLE, 1))),
+    "K without a line feed": (None, P2, "X\nK", 0, "S line 1 frame 0\nfault: line 1\n" + snapshot_of(P2, IDLE), journal(state_of(2, P2, IDLE))),
+    "lines that are not K": (None, P2, "K \nK\r\nk\n", 0, "S line 1 frame 0\nfault: line 1\nfault: line 2\nfault: line 3\n",
+                             journal(state_of(0, P2, ""), "K \nK\r\nk\n")),
+    # 72 minislots are 8 times 9, so numbers that fit are 2 to the power of 29 apart.
+    "another frame number": (None, P2, "T\nN 536870913\nT A\nX", 0, "S line 1 frame 0\n" + A0 + B0 + MAP0 + "N frame 536870913\nF A 536870913 0/6/8/32\nfault: line 4\n",
+                             journal(state_of(2, P2, IDLE, 536_870_913), "T A\nX\n")),
+    "frame numbers that do not fit": (None, P2, "N 5\nT A\nN 536870912\nN 0x20\nN\n", 0, "S line 1 frame 0\nfault: line 1\n" + A0 + "fault: line 3\nfault: line 4\nfault: line 5\n",
+                                      journal(state_of(0, P2, ""), "N 5\nT A\nN 536870912\nN 0x20\nN\n")),
+    "a frame number before the first frame": (None, LATER, "N 5\nN 2147483653\nN 1610612740\n", 0, "S line 1 frame 1610612741\nfault: line 1\nN frame 2147483653\nfault: line 3\n",
+                                              journal(state_of(2, LATER, IDLE, 2_147_483_653), "N 1610612740\n")),
+    "a frame number that goes back": (journal(state_of(2, P2, IDLE, 536_870_913), "X\n"), P2, "N 1\nK\n", 0, "S line 4 frame 536870913\nN frame 1\n" + snapshot_of(P2, IDLE, 1),
+                                      journal(state_of(5, P2, IDLE, 1))),
+    "a long line that begins with N": (None, P2, "N" + LONG + "\nX\n", 0, "S line 1 frame 0\nfault: line 1\nfault: line 2\n",
+                                       journal(state_of(0, P2, ""), "N" + LONG[:4_096] + "\nX\n")),
     "a line that is too long": (None, P2, LONG + "\nX\n", 0, "S line 1 frame 0\nfault: line 1\nfault: line 2\n",
                                 journal(state_of(0, P2, ""), LONG[:4_097] + "\nX\n")),
     "another plant file": (journal(state_of(0, P2, ""), "X\n"), LONGER, "M 020000000004 15\n", 0, "S line 2 frame 0\nS 020000000004 Short\n",
@@ -126,6 +149,17 @@ class Folders(WithFolder):
     @unittest.skipUnless(has_program(), "the program is not built, or has no option --state")
     def test_runs_of_the_program(self):
         self.judge_runs(program)
+
+    @unittest.skipUnless(has_program(), "the program is not built, or has no option --state")
+    def test_all_reasons_of_a_refused_start(self):
+        (self.folder / "journal").write_text(journal(state_of(0, P2, ""), REQUEST))
+        plant = P2.replace('"020000000001", ', "").replace("sfids = [257", "sfids = [258")
+        done = subprocess.run([PROGRAM, *self.words()], input=f"{plant}---\n".encode(), capture_output=True, timeout=60, check=False)
+        unfit = f"the plant file does not fit the plant in {self.folder}/journal: operator A cannot go on: "
+        reasons = ("modem 020000000001 has a flow, a cached response or a message, and is not listed", "SFID 257 is not in its range")
+        self.assertEqual((done.returncode, done.stdout), (3, b"fault: state\n"))
+        self.assertEqual(done.stderr.decode(), "".join(f"{unfit}{reason}; change its table, or give it another name\n" for reason in reasons)
+                         + "the journal is as it was: start with the plant file that was saved, or mend the plant file\n")
 
     @unittest.skipUnless(has_program(), "the program is not built, or has no option --state")
     def test_folders_and_words_of_the_program(self):

@@ -15,7 +15,7 @@ from tools.reference.resuming import SNAPSHOT
 
 from .outputs import Outputs
 
-# `resume` knows these lines, and the service with a folder does not: there they are invalid.
+# Such a line of a journal was refused by the service with a folder. `resume` might perform it.
 OF_RESUME = re.compile(rb"[KPN]")
 INVALID = b"X"
 FIRST = re.compile(rb"=line (\d{1,20})\n")
