@@ -12,6 +12,7 @@ use Rattle.resumed_service.specs.Beginning.{is_snapshot_head}
 use Rattle.plant_script.specs.Reaching.{AnswersWords}
 use Rattle.program_runner.specs.Answered.{IsWordAnswer, IsRunAnswer, IsCommandAnswer}
 use Rattle.program_runner.specs.Heads.{IsHeadRead}
+use Rattle.program_runner.specs.Resume.{IsResumeAnswer, IsRestoreAnswer}
 use Rattle.program_runner.specs.ServiceWords.{service_word, is_run}
 
 -- ---- the bytes that were read, and the others after them
@@ -28,6 +29,15 @@ when_true A B b is a = subst (λ (t : Bool). MatchBool t A B) (sym is) a
 
 when_false : (A B : Type 0) (b : Bool) → b ≡ false → B → MatchBool b A B
 when_false A B b is a = subst (λ (t : Bool). MatchBool t A B) (sym is) a
+
+-- `restore` of a snapshot
+pub restore_resumed : (known left whole : Option (List ℕ)) (head : List ℕ) (status : ℕ) (old new : Option (List ℕ)) → WhereKnown known left (λ input rest. IsHeadRead input rest head)
+    → is_snapshot_head head ≡ true → whole ≡ option_append (Some head) left → IsResumeAnswer whole status old new → IsRestoreAnswer known status old new
+restore_resumed None left whole head status old new read is same answers = λ not_six. tt
+restore_resumed (Some input) None whole head status old new read is same answers = absurd read
+restore_resumed (Some input) (Some rest) whole head status old new read is same answers =
+    let here = subst (λ (bytes : Option (List ℕ)). IsResumeAnswer bytes status old new) (whole_is input rest head whole read same) answers in
+    λ not_six. when_true _ _ (is_snapshot_head input) (shown input rest head true read is) (here not_six)
 
 -- `run` of an input that is not a snapshot
 pub run_performed : (words : List (List ℕ)) (known left whole : Option (List ℕ)) (head : List ℕ) (status : ℕ) (old new : Option (List ℕ)) → WhereKnown known left (λ input rest. IsHeadRead input rest head)

@@ -3,10 +3,12 @@ use Rattle.std.proofs.Common.{◌≡◌, ◌≢◌, ℕ, List, Option, Some, Non
 use Rattle.std.specs.Io.KnownBytes.{Appends}
 use Rattle.live_core.specs.declared.rest_fault.RestFault.{RestFault}
 use Rattle.plant_script.specs.Run.{memory_line}
+use Rattle.resumed_service.specs.declared.begin_fault.BeginFault.{BeginFault}
+use Rattle.resumed_service.specs.declared.begin_fault.BeginFault.TheVariants as begin
 use Rattle.resumed_service.specs.declared.saving.SnapshotEnd.{SnapshotEnd}
-use Rattle.resumed_service.specs.declared.saving.SnapshotEnd.TheVariants.{Unfinished, NoMemory}
+use Rattle.resumed_service.specs.declared.saving.SnapshotEnd.TheVariants.{Unfinished, NoMemory, NotBegun}
 use Rattle.resumed_service.specs.SavedAfter.{EndsWithSnapshot}
-use Rattle.program_runner.specs.Resume.{state_line, IsSnapshotAnswer}
+use Rattle.program_runner.specs.Resume.{state_line, RefusesToBegin, IsSnapshotAnswer}
 
 pub unfinished : (known old mid new : Option (List ℕ)) (status : ℕ) (end : SnapshotEnd) (why : RestFault) (operator : Option (List ℕ)) → end ≡ Unfinished why operator
     → EndsWithSnapshot known None None old mid end → (status ≢ 6 → (status ≡ 3) × Appends mid new state_line) → IsSnapshotAnswer known status old new
@@ -21,3 +23,13 @@ unsaved None old mid new status end is ends wrote = λ not_six. tt
 unsaved (Some input) old mid new status end is ends wrote =
     let after = subst (λ (e : SnapshotEnd). EndsWithSnapshot (Some input) None None old mid e) is ends in
     λ not_six. inr (inr (inl ((wrote not_six).0, (mid, after, (wrote not_six).1))))
+
+pub not_begun : (known old mid new : Option (List ℕ)) (status : ℕ) (end : SnapshotEnd) (fault : BeginFault) → end ≡ NotBegun fault → EndsWithSnapshot known None None old mid end
+    → (status ≢ 6 → RefusesToBegin fault status mid new) → IsSnapshotAnswer known status old new
+not_begun None old mid new status end fault is ends wrote = λ not_six. tt
+not_begun (Some input) old mid new status end fault is ends wrote =
+    let refused = subst (λ (e : SnapshotEnd). EndsWithSnapshot (Some input) None None old mid e) is ends in
+    λ not_six. elim (subst (λ (w : Option (List ℕ)). RefusesToBegin fault status w new) refused.2 (wrote not_six)) [
+      | inl line ↦ inr (inr (inr (fault, refused.0, line.0, line.1)))
+      | inr memory ↦ inr (inr (inr (begin.NoMemory, tt, memory.0, memory.1)))
+    ]
