@@ -29,7 +29,7 @@ EDITS = [
     ("elements may be one more", "book.py", "own_elements > book.row.elements", "own_elements > book.row.elements + 1"),
     ("minislots may be one more", "book.py", "own_minislots > least_budget(book)", "own_minislots > least_budget(book) + 1"),
     ("a given-up change deletes its flow", "book.py", "    if flow.waiting.kind == \"DSA\":\n        del", "    if flow.waiting.kind == \"DSA\" or why == \"giving up\":\n        del"),
-    ("a change taken back keeps its SID", "book.py", "    if flow.admitted is None and flow.sid is not None:", "    if False:"),
+    ("a change taken back keeps its SID", "book.py", "    if gave_sid:", "    if False:"),
     ("a commit keeps the start", "book.py", "    flow.start = book.frame\n", ""),
     ("a commit keeps the backlog of a flow that may not ask", "book.py", "        flow.backlog = 0\n", "        pass\n"),
     ("a commit keeps the SID", "book.py", "        flow.sid = None\n    if not may_ask", "    if not may_ask"),

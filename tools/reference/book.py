@@ -20,10 +20,11 @@ class StepRefused(Exception):
 
 @dataclass
 class Waiting:
-    """The sets that wait for the acknowledgement of a DSA or a DSC."""
+    """The sets that wait for the acknowledgement of a DSA or a DSC, and whether the request gave the flow its SID."""
     kind: str
     admitted: Optional[dict]
     active: Optional[dict]
+    gave_sid: bool = False
 
 
 @dataclass
@@ -232,7 +233,7 @@ def add_flow(book, modem, tid, body):
     if sid is None:
         raise Refused(19, RESOURCE)
     judge_committed(book, Flow(sfid, modem), admitted)
-    book.flows[sfid] = Flow(sfid, modem, sid, waiting=Waiting("DSA", admitted, active), start=book.frame, since=book.frame)
+    book.flows[sfid] = Flow(sfid, modem, sid, waiting=Waiting("DSA", admitted, active, True), start=book.frame, since=book.frame)
     return added_reply(tid, flows[0][REFERENCE], sfid, sid), sfid
 
 
@@ -251,8 +252,8 @@ def change_flow(book, modem, tid, body):
             raise Refused(19, RESOURCE)
         met("change: a SID comes with it")
     judge_committed(book, flow, admitted)
+    flow.waiting = Waiting("DSC", admitted, active, flow.sid != sid)
     flow.sid = sid
-    flow.waiting = Waiting("DSC", admitted, active)
     return changed_reply(tid, flow.sfid, None if admitted is None else sid), flow.sfid
 
 
@@ -397,8 +398,8 @@ def take_back(book, flow, why):
     if flow.waiting.kind == "DSA":
         del book.flows[flow.sfid]
         return
-    flow.waiting = None
-    if flow.admitted is None and flow.sid is not None:
+    gave_sid, flow.waiting = flow.waiting.gave_sid, None
+    if gave_sid:
         met("taken back: the SID that came with it")
         flow.sid = None
 

@@ -63,12 +63,7 @@ def pending_sets(flow):
     if flow.waiting is None:
         return "-"
     sets = " ".join(map(set_field, (flow.provisioned, flow.waiting.admitted, flow.waiting.active)))
-    return f"={int(has_new_sid(flow))} {sets}"
-
-
-def has_new_sid(flow):
-    """Tests whether the request that awaits its acknowledgement gave the flow its SID: a flow without an admitted set had none."""
-    return flow.sid is not None and flow.admitted is None
+    return f"={int(flow.waiting.gave_sid)} {sets}"
 
 
 def response_line(entry):

@@ -92,7 +92,7 @@ def has_no_set(flow):
 
 def waiting_of(pending, kind):
     """Returns what waits of a flow, with the kind of the response that waits for it."""
-    return None if pending is None else Waiting(kind, pending.admitted, pending.active)
+    return None if pending is None else Waiting(kind, pending.admitted, pending.active, pending.gave_sid)
 
 
 def judge_shares(book):
