@@ -1,9 +1,9 @@
 """Changes plant files at random, and leaves the row of one operator as it is. Some of the changed files are invalid."""
 
 import copy
-import tomllib
 
 from tools.reference.encodings import CLASS_NAME, tlv
+from tools.reference.plant import document_of
 
 from .flows import pick
 from .plants import Style
@@ -22,7 +22,7 @@ class File:
     """A plant file that is changed: its tables, the name of the operator whose row stays, and the minislots that are in force."""
 
     def __init__(self, text, watched, used):
-        document = tomllib.loads(text)
+        document = document_of(text)
         self.channel = {key: value for key, value in document["plant"].items() if is_plain(value)}
         self.classes = [dict(table) for table in document.get("class", [])]
         self.rows = [row_of(table) for table in document["operator"]]

@@ -3,6 +3,7 @@
 import re
 import tomllib
 from dataclasses import dataclass
+from functools import lru_cache
 from typing import Optional
 
 from .coverage import MetFault
@@ -80,12 +81,18 @@ def read_plant(text):
 
 def read_toml(text):
     try:
-        document = tomllib.loads(text)
+        document = document_of(text)
     except ValueError as fault:
         raise PlantFault(NOT_TOML) from fault
     if not has_small_integers(document):
         raise PlantFault(NOT_TOML)
     return document
+
+
+@lru_cache(maxsize=16)
+def document_of(text):
+    """Returns the tables of a TOML text. The last texts are not read again, so nobody may change the tables."""
+    return tomllib.loads(text)
 
 
 def has_small_integers(value):
