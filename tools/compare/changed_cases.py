@@ -23,18 +23,18 @@ from collections import Counter
 from dataclasses import dataclass, field
 
 from tools import show_help
-from tools.compare.resumed_cases import Answers, Differs, show
+from tools.compare.answers import Answers, Differs, show
+from tools.compare.observing import observed
+from tools.compare.script_changes import (CHANGED, addition, addition_of_class, class_to_name, counted, file_for_change, file_with_classes,
+                                          lines_of_change, ticks_to_rest, with_room)
 from tools.generator.case import case
-from tools.generator.changes import NEW_CLASSES, File, change_file, changed_bytes, class_name, make_room
+from tools.generator.changes import File
 from tools.generator.flows import pick
-from tools.reference import coverage
 from tools.reference.plant import PlantFault, read_plant
 from tools.reference.program import Core, split_input
 from tools.reference.resuming import Service
 
-MOST_LINES, MOST_TICKS_BEHIND = 150, 20
-# What the second implementation counts of a change that is done begins so.
-CHANGED = "change of plant: changed"
+MOST_LINES = 150
 
 
 @dataclass
@@ -107,21 +107,9 @@ def changed_script(seed):
     if rng.random() < 0.1:
         maker.half_change()
     if maker.made.named:
-        maker.made.alone_plant = maker.plant_with_classes()
+        # The file of the start with the classes that are in service now. None of the start has left.
+        maker.made.alone_plant = file_with_classes(rng, maker.made.plant, maker.service.plant_text)
     return maker.made
-
-
-def with_room(rng, text):
-    """Returns a plant file in which, if it is valid so, some minislots have no slice."""
-    file = File(text, None, ())
-    if rng.random() < 0.6:
-        make_room(rng, file)
-    made = file.text(rng)
-    try:
-        read_plant(made)
-    except PlantFault:
-        return text
-    return made
 
 
 class Maker:
@@ -153,25 +141,11 @@ class Maker:
         """Adds a change to the one script, mostly where the plant rests, and what new modems send after it."""
         if self.rng.random() < 0.85:
             self.let_rest()
-        core = self.service.core
-        used = [minislot for book in core.books for minislot in range(book.share.start, book.share.start + book.share.length)]
-        file = File(self.service.plant_text, self.made.watched.name, used)
-        change_file(self.rng, file, self.original)
-        data = changed_bytes(self.rng, file)
-        if not self.keeps_watched(data):
-            data = file.text(self.rng).encode()
-        self.add_change([b"P", *data.removesuffix(b"\n").split(b"\n"), b"---"])
+        self.add_change(lines_of_change(file_for_change(self.rng, self.service, self.made.watched, self.original)))
         for _ in range(self.rng.choice((0, 0, 2, 4))):
             self.new_message()
         for _ in range(self.rng.choice((0, 1, 3))):
             self.message_of_a_class()
-
-    def keeps_watched(self, data):
-        """Returns whether a plant file is invalid, or has the row of the watched operator: one that is cut, or has another byte, may be valid."""
-        try:
-            return self.made.watched in read_plant(data.decode()).rows
-        except (UnicodeDecodeError, PlantFault):
-            return True
 
     def half_change(self):
         """Adds a change whose plant file has no end."""
@@ -179,75 +153,39 @@ class Maker:
         self.add_change([b"P", *lines[:self.rng.randrange(len(lines))]])
 
     def add_change(self, lines):
-        self.made.changes.append(Change(len(self.made.lines) + 1, len(lines), self.result_of(lines)))
+        result = counted("change of plant: ", lambda: self.do(lines))
+        self.made.changes.append(Change(len(self.made.lines) + 1, len(lines), result))
         self.made.lines += lines
-
-    def result_of(self, lines):
-        """Does a change, and returns what is counted of it: that the plant is changed, or why not."""
-        before = Counter(coverage.COUNTS)
-        self.do(lines)
-        return next(what for what in coverage.COUNTS - before if what.startswith("change of plant: "))
 
     def let_rest(self):
         """Lets each operator tick that is behind the others."""
-        last = max(book.frame for book in self.service.core.books)
-        for book in self.service.core.books:
-            for _ in range(min(last - book.frame, MOST_TICKS_BEHIND)):
-                self.add(f"T {book.row.name}")
+        for line in ticks_to_rest(self.service.core):
+            self.add(line)
 
     def new_message(self):
         """Lets a modem of another operator add a flow, in the script with changes alone."""
         rows = [row for row in self.service.core.plant.rows if row.name != self.made.watched.name]
         if rows:
-            self.add_flow(self.rng.choice(rows), "010200010601060F0102")
+            row = self.rng.choice(rows)
+            self.add_of_row(row, addition(self.rng, row, "010200010601060F0102"))
 
     def message_of_a_class(self):
-        """Lets a modem add a flow of a class. Only an operator that is not watched may name one that is not in service."""
+        """Lets a modem add a flow of a class."""
         row = self.rng.choice(self.service.core.plant.rows)
-        names = [name.decode() for name in self.service.core.plant.classes]
-        if row.name != self.made.watched.name:
-            names += NEW_CLASSES
-        if names:
-            name = self.rng.choice(names)
+        name = class_to_name(self.rng, self.service.core, row, self.made.watched)
+        if name is not None:
             self.made.named += name.encode() not in self.first_classes and row.name == self.made.watched.name
-            self.add_flow(row, f"01020001{class_name(name)}060106")
+            self.add_of_row(row, addition_of_class(self.rng, row, name))
 
-    def add_flow(self, row, encoding):
-        """Lets a modem of a row add a flow and acknowledge it. The lines of the watched operator are in both scripts."""
-        modem, tid = self.rng.choice(row.modems), self.rng.randrange(1, 40)
-        lines = [f"M {modem} 0F{tid:04X}18{len(encoding) // 2:02X}{encoding}".encode(), f"M {modem} 11{tid:04X}00".encode()]
+    def add_of_row(self, row, lines):
+        """Adds what a modem of a row sends. The lines of the watched operator are in both scripts."""
         self.made.lines += lines
         if row.name == self.made.watched.name:
             self.made.alone += lines
         self.do(lines)
 
-    def plant_with_classes(self):
-        """Returns the plant file of the start, with the classes that are in service now. None of the start has left."""
-        file = File(self.made.plant, None, ())
-        file.classes = File(self.service.plant_text, None, ()).classes
-        return file.text(self.rng)
-
 
 # Comparing
-
-def observed(output, row):
-    """Returns the lines of an output that an operator observes: replies and drop reasons of its modems, its frames, and its state."""
-    lines = output.decode().splitlines()
-    own = [line for line in lines if is_own(row, *f"{line} ".split(" ")[:2])]
-    return own, state_of(lines, row.name)
-
-
-def is_own(row, kind, who):
-    return kind in ("R", "S") and who in row.modems or kind == "F" and who == row.name
-
-
-def state_of(lines, name):
-    """Returns the records of an operator in a last snapshot, or None if the plant did not rest."""
-    if not lines or not lines[-1].startswith("end "):
-        return None
-    place = max(at for at, line in enumerate(lines) if line.startswith(f"operator {name} "))
-    return lines[place:next(at for at in range(place + 1, len(lines)) if lines[at].split(" ")[0] in ("operator", "end"))]
-
 
 def judge_watched(answers, made):
     """Compares what the watched operator observes with changes and without them."""

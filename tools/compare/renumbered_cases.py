@@ -16,24 +16,21 @@ differs.
 """
 
 import random
-import re
 import sys
 from collections import Counter
 from dataclasses import dataclass, field
 
 from tools import show_help
-from tools.compare.resumed_cases import Answers, Differs, show
+from tools.compare.answers import Answers, Differs, show
+from tools.compare.observing import moved_back
+from tools.compare.script_changes import GIVEN, counted, has_room_for_numbers, number_line, ticks_to_rest, with_other_start
 from tools.generator.case import case
 from tools.generator.flows import pick
-from tools.reference import coverage
-from tools.reference.book import LAST_FRAME
 from tools.reference.plant import PlantFault, read_plant
 from tools.reference.program import Core, split_input
 from tools.reference.resuming import Service
 
-MOST_LINES, MOST_TICKS_BEHIND, MOST_FRAMES = 150, 20, 100_000
-OTHER_FORMS = (b"N", b"N ", b"N 00", b"N +1", b"N 4294967296", b"N 1 ", b"N -1", b"NN 1", b"N 1\r", b"N one")
-GIVEN = "frame number: given"
+MOST_LINES = 150
 
 
 @dataclass
@@ -58,10 +55,10 @@ def renumbered_script(seed):
     words, data = case(seed)
     try:
         plant, script = split_input(data.decode())
-        first = read_plant(plant).first_frame
+        has_room = has_room_for_numbers(read_plant(plant))
     except (UnicodeDecodeError, PlantFault):
         return None
-    if words == ["one"] or first + MOST_FRAMES > LAST_FRAME:
+    if words == ["one"] or not has_room:
         return None
     rng = random.Random(f"renumbered {seed}")
     maker = Maker(rng, plant)
@@ -85,7 +82,7 @@ class Maker:
 
     def add(self, line):
         """Adds a line to both scripts. A slice change whose frame has no number under the new ones is left out."""
-        moved = self.moved(line)
+        moved = with_other_start(line, self.shift)
         self.add_both(line if moved is not None else "", moved or "")
 
     def add_both(self, line, moved):
@@ -93,27 +90,18 @@ class Maker:
         self.made.lines.append(moved.encode())
         list(self.service.answers([moved.encode()]))
 
-    def moved(self, line):
-        found = re.fullmatch(r"(Z )([0-9]{1,10})( .*)?", line)
-        if found is None or int(found[2]) > LAST_FRAME:
-            return line
-        first = int(found[2]) + self.shift
-        return f"{found[1]}{first}{found[3] or ''}" if 0 <= first <= LAST_FRAME else None
-
     def let_rest(self):
         """Lets each operator tick that is behind the others."""
-        last = max(book.frame for book in self.service.core.books)
-        for book in self.service.core.books:
-            for _ in range(min(last - book.frame, MOST_TICKS_BEHIND)):
-                self.add(f"T {book.row.name}")
+        for line in ticks_to_rest(self.service.core):
+            self.add(line)
 
     def renumber(self):
         """Adds a line `N`, mostly where the plant rests, and an empty line to the other script."""
         if self.rng.random() < 0.9:
             self.let_rest()
         frame = self.service.core.books[0].frame
-        line = self.number_line(frame)
-        result = self.result_of(line)
+        line = number_line(self.rng, self.service.core)
+        result = counted("frame number: ", lambda: list(self.service.answers([line])))
         self.made.lines.append(line)
         self.made.alone.append(b"")
         self.made.results[result] += 1
@@ -123,22 +111,6 @@ class Maker:
         to = self.service.core.books[0].frame
         self.made.given.append((frame - self.shift, to))
         self.shift += to - frame
-
-    def number_line(self, frame):
-        """Returns a line `N`: mostly with a number that keeps the time, and far from the last one."""
-        minislots = self.service.core.plant.frame_minislots
-        step = 2**32 // (minislots & -minislots)
-        fitting = range(frame % step, LAST_FRAME + 1 - MOST_FRAMES, step)
-        if not fitting or self.rng.random() < 0.25:
-            other = b"N %d" % self.rng.choice((0, 1, 255, frame + 1, self.rng.randrange(2**31), step // 2))
-            return self.rng.choice((other, self.rng.choice(OTHER_FORMS)))
-        return b"N %d" % self.rng.choice((fitting[0], fitting[-1], self.rng.choice(fitting)))
-
-    def result_of(self, line):
-        """Does a line `N`, and returns what is counted of it: that the frame has the number, or why not."""
-        before = Counter(coverage.COUNTS)
-        list(self.service.answers([line]))
-        return next(what for what in coverage.COUNTS - before if what.startswith("frame number: "))
 
 
 # Comparing
@@ -154,21 +126,6 @@ def with_first_numbers(output, made):
         elif line not in faults:
             lines.append(moved_back(line, shift))
     return lines if not given else None
-
-
-def moved_back(line, shift):
-    """Returns a line of an output with the first number of its frame. Of a flow in a snapshot, the frames that it counts from are left out."""
-    fields = line.split(" ")
-    if fields[0] == "F" or fields[0] == "MAP":
-        place = 2 if fields[0] == "F" else 1
-        return " ".join(fields[:place] + [str(int(fields[place]) - shift)] + fields[place + 1:])
-    if fields[0] == "frame" and len(fields) == 3 and fields[1].isdigit():
-        return f"frame {int(fields[1]) - shift} {fields[2]}"
-    if line.startswith("next ="):
-        return " ".join(["next", str(int(fields[1][1:]) - shift)] + fields[2:])
-    if fields[0] == "flow" and len(fields) > 8:
-        return " ".join(fields[:-3] + fields[-2:-1])
-    return "end" if fields[0] == "end" else line
 
 
 def judge(answers, made):

@@ -6,7 +6,7 @@ from dataclasses import replace
 
 from tools import EXAMPLES
 from tools.compare import changed_cases
-from tools.compare.resumed_cases import Answers, Differs
+from tools.compare.answers import Answers, Differs
 from tools.generator.changes import File, change_file, changed_bytes
 from tools.generator.plants import plant, written
 from tools.reference.answers import reference_answer

@@ -4,7 +4,7 @@ import unittest
 
 from tools import EXAMPLES
 from tools.compare import renumbered_cases
-from tools.compare.resumed_cases import Answers, Differs
+from tools.compare.answers import Answers, Differs
 from tools.reference.answers import reference_answer
 from tools.reference.numbering import NotRenumbered, number_in, requests_number
 from tools.reference.plant import read_plant

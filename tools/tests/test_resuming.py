@@ -6,7 +6,8 @@ import textwrap
 import unittest
 
 from tools import EXAMPLES, ROOT
-from tools.compare import resumed_cases
+from tools.compare import answers, resumed_cases
+from tools.generator.spoiling import mended, spoiled
 from tools.reference.answers import reference_answer
 from tools.reference.plant import read_plant
 from tools.reference.resuming import resumed, split_snapshot
@@ -124,31 +125,31 @@ class CutScripts(unittest.TestCase):
             self.assertEqual(resumed_cases.cut_of(seed), cut)
 
     def test_cut_scripts_agree(self):
-        answers = resumed_cases.Answers(None)
+        second = answers.Answers(None)
         for seed, cut in self.seeds():
-            snapshot = resumed_cases.judge_cut(answers, cut)
+            snapshot = resumed_cases.judge_cut(second, cut)
             self.assertIsNone(reason(snapshot))
-            self.assertEqual(sum(resumed_cases.judge_spoiled(answers, seed, cut, snapshot).values()), resumed_cases.SPOILED)
+            self.assertEqual(sum(resumed_cases.judge_spoiled(second, seed, cut, snapshot).values()), resumed_cases.SPOILED)
 
     def test_another_frame_after_the_resumption_is_noticed(self):
-        class Late(resumed_cases.Answers):
+        class Late(answers.Answers):
             def of(self, words, data, part=None):
                 status, text = reference_answer(words, data)
                 return status, text.replace(b"MAP ", b"MAP 1") if data.startswith(b"melfjits-snapshot") else text
 
         cut = resumed_cases.Cut(P2, ["T"], ["T"])
-        self.assertIsNotNone(resumed_cases.judge_cut(resumed_cases.Answers(None), cut))
-        with self.assertRaises(resumed_cases.Differs):
+        self.assertIsNotNone(resumed_cases.judge_cut(answers.Answers(None), cut))
+        with self.assertRaises(answers.Differs):
             resumed_cases.judge_cut(Late(None), cut)
 
     def test_a_last_line_is_mended(self):
         for text in (WORKED, WORKED.replace("end 18", "end 5"), WORKED.replace("1 21", "1 7"), WORKED.replace(" 12 30 15", " 12 31 15")):
-            self.assertIsNone(reason(resumed_cases.mended(text.encode())), text)
+            self.assertIsNone(reason(mended(text.encode())), text)
 
     def test_changes_of_what_is_no_snapshot(self):
         rng = random.Random(1)
         for text in (b"", b"\n", b"end", b"---\n", b"melfjits-snapshot 1 0\n---\n") * 40:
-            self.assertIsInstance(resumed_cases.spoiled(rng, text), bytes)
+            self.assertIsInstance(spoiled(rng, text), bytes)
 
 
 if __name__ == "__main__":
