@@ -59,17 +59,18 @@ class Service:
     def __init__(self, core, plant_text):
         self.core, self.plant_text = core, plant_text
 
-    def answers(self, lines):
-        """Yields the answer to each line. A plant file, with the line `P` before it and the line `---` after it, has one answer."""
-        number = 1
-        while number <= len(lines):
-            line, length = lines[number - 1], 1
+    def answers(self, lines, first=1):
+        """Yields the answer to each line. The first one has the number `first`. A plant file, with the line `P` before it and the line `---`
+        after it, has one answer."""
+        place = 0
+        while place < len(lines):
+            line, length = lines[place], 1
             if line == b"P":
-                file, length = split_file(lines[number:])
-                yield self.change(number, file)
+                file, length = split_file(lines[place + 1:])
+                yield self.change(first + place, file)
             else:
-                yield self.answer(number, line)
-            number += length
+                yield self.answer(first + place, line)
+            place += length
 
     def answer(self, number, line):
         """Returns the answer to a line that begins no plant file."""
