@@ -107,6 +107,16 @@ class States(unittest.TestCase):
         frames = "operator B 0 0 0\nslice 40 32 32\nnext -\n"
         self.assertEqual((status, text.split("---\n")[1].split("end ")[0]), (0, STATE.replace("frame 5 1", "frame 5 2") + frames))
 
+    def test_the_sid_of_a_flow_without_an_admitted_set(self):
+        """A change that is abandoned at the next tick takes back the SID that came with it, and no other."""
+        old = STATE[STATE.index("flow 258"):STATE.index("response 020000000001")]
+        for mark, sid in ((0, "=258"), (1, "-")):
+            new = f"flow 258 020000000002 =258 - - - ={mark} - {BEST_EFFORT} - 5 0 5\nresponse 020000000002 1 dsc 258 waiting 1 0 -\n"
+            _, text = resumed(snapshot_with(old, new) + b"---\nK\nT\nK\n")
+            first, last = text.split("melfjits-snapshot ")[1:]
+            self.assertIn(new, first)
+            self.assertIn(f"flow 258 020000000002 {sid} - - - - 5 0 5\n", last)
+
     def test_parts_of_the_input(self):
         for text, parts in ((b"a\n---\nb\n---\nc\n", (b"a\n---\nb\n", [b"c", b""])), (b"a\n---\n----\n", (b"a\n---\n----\n", [])), (b"a", (b"a---\n", [])),
                             (b"a\n---", (b"a\n---\n", [])), (b"---\n---", (b"---\n", [b""]))):
