@@ -53,6 +53,8 @@ done
 quietly "$tools/compare/resumed_cases" 0 10
 quietly "$tools/compare/changed_cases" 0 25
 quietly "$tools/compare/renumbered_cases" 0 25
+quietly "$tools/compare/continued_cases" 0 50
+quietly "$tools/compare/hostile_snapshots" 0 2000
 echo 'the second implementation agrees with the documents, and the generator with itself'
 
 if [ -x "$program" ]; then
@@ -63,6 +65,8 @@ if [ -x "$program" ]; then
     "$tools/compare/resumed_cases" 0 25 --program "$program"
     "$tools/compare/changed_cases" 0 50 --program "$program"
     "$tools/compare/renumbered_cases" 0 50 --program "$program"
+    "$tools/compare/continued_cases" 0 100 --program "$program"
+    "$tools/compare/hostile_snapshots" 0 1000 --program "$program"
     quietly "$tools/compare/threads_as_run"
     quietly "$tools/compare/handwritten_inputs" --compare
     quietly "$tools/compare/odd_spellings"

@@ -45,7 +45,7 @@ from tools.reference.plant import read_plant
 from tools.reference.program import Core
 from tools.reference.resuming import Service, snapshot_begun
 
-MOST_OPERATORS, AT_A_TIME, REPORT_EACH, BOTH_EACH = 4, 50, 1_000, 10
+MOST_OPERATORS, MOST_CLASSES, AT_A_TIME, REPORT_EACH, BOTH_EACH = 4, 5, 50, 1_000, 10
 
 
 @dataclass
@@ -104,10 +104,10 @@ def continued_case(seed):
 
 
 def small_plant(rng):
-    """Returns a plant of few operators, seldom of one, with fewer elements than fill a MAP."""
+    """Returns a plant of few operators, seldom of one, with few classes, and with fewer elements than fill a MAP."""
     while True:
         made = plant(rng)
-        is_small = len(made.operators) <= MOST_OPERATORS and made.operators[0].name not in ("Full", "Slow")
+        is_small = len(made.operators) <= MOST_OPERATORS and len(made.classes) <= MOST_CLASSES and made.operators[0].name not in ("Full", "Slow")
         if is_small and (len(made.operators) > 1 or rng.random() < 0.4):
             return made
 
@@ -148,6 +148,12 @@ class Maker:
         return answers
 
     def add(self, line):
+        """Adds a line. Near the last frame, a tick of all operators is one of each, since a refused one would end the line for the others."""
+        split = line == "T" and not has_room_for_numbers(self.service.core.plant)
+        for one in [f"T {row.name}" for row in self.service.core.plant.rows] if split else [line]:
+            self.add_one(one)
+
+    def add_one(self, line):
         """Adds a line to the script, and what has to be in its place to the plant left alone."""
         alone = self.line_alone(line)
         if alone is None:
