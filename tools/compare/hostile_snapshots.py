@@ -109,11 +109,14 @@ def input_of(text):
 # Judging answers
 
 def snapshot_in(data):
-    """Returns the snapshot that an input begins with, and the lines of the script: its lines are those before the second line `---`."""
+    """Returns the snapshot that an input begins with, and the lines of the script.
+
+    The lines of the snapshot are those before the second line `---`. If there is none at all, one is added.
+    """
     lines = data.split(b"\n")
     bars = [place for place, line in enumerate(lines) if line == b"---"]
     if len(bars) < 2:
-        return data, []
+        return data if bars else data + b"---\n", []
     return b"\n".join(lines[:bars[1]]) + b"\n", lines[bars[1] + 1:]
 
 

@@ -83,6 +83,13 @@ class Verdicts(unittest.TestCase):
                                  (b"fault: plant 11\n", False), (b"fault: plant 12 a\n", False), (b"fault: plant 4 A\n", False), (b"fault: plant\n", False)):
             self.assertEqual("wrong" not in verdict(text, 3, output), is_right, output)
 
+    def test_a_plant_file_that_the_lines_behind_it_complete(self):
+        text = text_with()[:len(FRONT) - len("---\n" * 2 + "K\n") - 4]
+        lines = text.count(b"\n") + 2
+        for line, is_right in ((2, True), (lines, True), (lines + 2, True), (lines + 3, False), (1, False)):
+            self.assertEqual("wrong" not in verdict(text, 3, b"fault: snapshot %d\n" % line), is_right, line)
+        self.assertNotIn("wrong", verdict(text, *reference_answer(["resume"], hostile_snapshots.input_of(text))))
+
     def test_statuses(self):
         text = text_with(("held 9", "held 0"))
         for status in (-11, -6, -9, 1, 2, 4, 5, 101, 139):
