@@ -44,7 +44,7 @@ from tools.reference.program import Core, steps_of
 from tools.reference.saving import snapshot_of
 
 OF_EACH, MOST_OPERATORS, MOST_PLANT_FILE, MOST_ARRIVALS, SECONDS = 100, 3, 1_200, 3, 20
-REPORT_EACH = 10_000
+REPORT_EACH = 1_000
 BEGINNING = b"melfjits-snapshot "
 # The places of fields that are no numbers: an address, the bytes of a message or a reply, a name.
 ADDRESS, BYTES, NAME = {b"flow": 2, b"response": 1, b"message": 1, b"request": 1}, {b"message": 2, b"response": 8}, {b"operator": 1}
