@@ -28,6 +28,7 @@ struct ServiceCase<'a> {
 }
 
 /// Holds the number of the last line `N` that was refused.
+#[derive(Drop)]
 struct NotedNumber {
     line: u64,
 }
