@@ -44,7 +44,6 @@ fn refuse_unread<W: Write, E: Write>(
 }
 
 /// Performs the command `restore`: as `resume`, if the input begins as a snapshot does. Returns the status.
-#[tactic(auto, using(crate::proofs::RestoreLemmas::restore_resumed))]
 pub(crate) fn run_restore<R: Read, W: Write, E: Write>(
     alloc: Global,
     reader: &mut R,
