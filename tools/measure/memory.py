@@ -8,7 +8,8 @@ the start: here one of 16 responses.
 """
 
 import argparse
-import os
+import pathlib
+import re
 import subprocess
 
 from tools.compare.program import PROGRAM
@@ -32,14 +33,20 @@ def plant_of(modems, flows):
 
 
 def kilobytes(program, plant):
-    """Returns the greatest resident memory of `serve` on a plant."""
-    with subprocess.Popen([program, "serve"], stdin=subprocess.PIPE, stdout=subprocess.DEVNULL) as process:
+    """Returns the greatest resident memory of `serve` on a plant, once it has answered two frames."""
+    with subprocess.Popen([program, "serve"], stdin=subprocess.PIPE, stdout=subprocess.PIPE) as process:
         process.stdin.write(plant.encode() + b"---\nT\nT\n")
+        process.stdin.flush()
+        maps = 0
+        while maps < 2:
+            line = process.stdout.readline()
+            if not line:
+                raise SystemExit("the program has ended before its second MAP")
+            maps += line.startswith(b"MAP ")
+        status = pathlib.Path(f"/proc/{process.pid}/status").read_text()
         process.stdin.close()
-        _, status, used = os.wait4(process.pid, 0)
-        process.returncode = os.waitstatus_to_exitcode(status)
-    assert process.returncode == 0, process.returncode
-    return used.ru_maxrss
+        process.stdout.read()
+    return int(re.search(r"^VmHWM:\s*(\d+) kB$", status, re.MULTILINE).group(1))
 
 
 def main():
