@@ -45,7 +45,7 @@ MISTAKES = {
     "nothing is locked": ("two", "journals.fcntl.flock = lambda *both: None"),
     "the first line has the number of the last line": ("two", "Service.first_line = lambda self: f'S line {self.count} frame 0\\n'"),
 }  # fmt: skip
-SMALL = {"kill": (2, 1), "power": (4, 1), "fail": (1, 14), "two": (20, 1)}
+SMALL = {"kill": (8, 1), "power": (4, 1), "fail": (1, 14), "two": (20, 1)}
 
 
 def tried(kind, program, times, step):
