@@ -1,6 +1,7 @@
-"""Runs long trials: in several processes, with the figures so far on standard error, so that they can be stopped at any moment."""
+"""Runs long trials in several processes, with the figures so far on standard error. One that is stopped (SIGTERM) prints what it has."""
 
 import multiprocessing
+import signal
 import sys
 import time
 from collections import Counter
@@ -20,7 +21,8 @@ def run(do_some, tasks, workers, report_each):
 
     `do_some` returns of a task what it counted, and a text for each fault. The first faults are printed at once, and the trial goes on.
     """
-    began, counts, faults, done = time.monotonic(), Counter(), [], 0
+    began, counts, faults, done, stops = time.monotonic(), Counter(), [], 0, []
+    signal.signal(signal.SIGTERM, lambda *_: stops.append("stopped: "))
     for task, (some, found) in zip(tasks, results(do_some, tasks, workers)):
         counts += some
         for text in found[:max(0, MOST_SHOWN - len(faults))]:
@@ -29,7 +31,9 @@ def run(do_some, tasks, workers, report_each):
         if (done + len(task)) // report_each > done // report_each:
             print(f"{done + len(task)} were tried, {len(faults)} are wrong, {time.monotonic() - began:.0f} seconds", file=sys.stderr, flush=True)
         done += len(task)
-    print(f"{done} were tried, {len(faults)} are wrong, in {time.monotonic() - began:.0f} seconds")
+        if stops:
+            break
+    print(f"{''.join(stops[:1])}{done} were tried, {len(faults)} are wrong, in {time.monotonic() - began:.0f} seconds")
     for what, times in sorted(counts.items()):
         print(f"{times:9} {what}")
     return 1 if faults else 0
@@ -40,5 +44,6 @@ def results(do_some, tasks, workers):
     if workers == 1:
         yield from map(do_some, tasks)
         return
-    with multiprocessing.Pool(workers) as pool:
+    # The pool ends its processes by SIGTERM.
+    with multiprocessing.Pool(workers, signal.signal, (signal.SIGTERM, signal.SIG_DFL)) as pool:
         yield from pool.imap(do_some, tasks)
