@@ -113,7 +113,7 @@ def small_plant(rng):
 
 
 class Maker:
-    """Makes a case, and lets the second implementation do it but for the plant left alone."""
+    """Makes a case, and lets the second implementation do it, except the plant left alone."""
 
     def __init__(self, rng, made, text):
         self.rng = rng

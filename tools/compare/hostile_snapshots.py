@@ -171,7 +171,7 @@ def judged_resumption(text, script, output):
 
 
 def has_other_operators(expected, output):
-    """Tests whether an answer is a snapshot but for the order of its operators, and for some that begin anew."""
+    """Tests whether an answer is a snapshot, except that its operators may have another order, and some may begin anew."""
     (front, *operators), (other_front, *others) = parts_of(expected), parts_of(output)
     front = re.sub(rb"[0-9]+\n\Z", b"%d\n" % len(others), front)
     before = front + b"".join(others)
@@ -179,7 +179,7 @@ def has_other_operators(expected, output):
 
 
 def least_line(whole, text):
-    """Returns the first line that may be at fault: the first in which a text differs from the whole snapshot, or the first of the plant file."""
+    """Returns the first line that may be invalid: the first in which a text differs from the whole snapshot, or the first of the plant file."""
     lines, others = whole.split(b"\n"), text.split(b"\n")
     pairs = enumerate(zip(lines, others), 1)
     first = next((number for number, (line, other) in pairs if line != other), min(len(lines), len(others)))
