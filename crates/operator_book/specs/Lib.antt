@@ -1,7 +1,7 @@
 pub mod Over
 pub mod Choices
 pub mod Held
-pub mod Does
+pub mod Planned
 pub mod Opening
 pub mod Kept
 pub mod ViewOf

@@ -1,256 +1,261 @@
-//! How what was received is handled.
+//! The plan of what was received: to take it in, and to handle it.
 
-ghost use Rattle.std.specs.Prelude.{◌≡◌, ◌<◌, None, Result, Ok, Err, IfErr, OnOk, OnErr, drop};
+ghost use Rattle.std.specs.Prelude.{◌≡◌, Result, Ok, Err, IfOk, IfErr, OnOk, find};
+ghost use Rattle.std.specs.Option.{option_copied};
 ghost use Rattle.dsx_messages.specs.declared.message.Message.{Message};
 ghost use Rattle.dsx_messages.specs.declared.fault.MessageFault.{MessageFault};
 ghost use Rattle.lists.specs.Results.{Fails, Gives};
 ghost use Rattle.dsx_messages.specs.Reading.{message_cause};
-ghost use Rattle.flow_table.specs.Flow.{flow_after_ack};
+ghost use Rattle.transactions.specs.Entry.{waits_for};
 ghost use Rattle.operator_model.specs.declared.verdict.Verdict.TheVariants.{Refused};
-ghost use Rattle.operator_model.specs.Asked.{refusal};
-ghost use Rattle.operator_model.specs.Changed.{with_flows, with_change, with_inbox};
-ghost use Rattle.operator_model.specs.Handle.{transaction_result, ack_result, message_handled, bandwidth_request_result, undone};
+ghost use Rattle.operator_model.specs.Handle.{silent, transaction_result, ack_result, message_handled, bandwidth_request_result};
 ghost use Rattle.operator_model.specs.Machine.{work_result, arrival_result};
 ghost use Rattle.operator_book.specs.Held.{HasOwnSids, HasRightId};
-ghost use Rattle.operator_book.specs.Does.{Does};
+ghost use Rattle.operator_book.specs.Planned.{IsPlanFor, IsPlanOfFirst};
 
-use crate::machine::{Copies, MachineState, OutputCopies, nothing, silent};
+use crate::machine::MachineState;
+use crate::plan::{Effect, HandledEffect, Plan, single};
 use crate::refusal::{encoding_refusal, refusal};
 use dsx_messages::{Code, Kind, Message, MessageFault, Modem, Reply, Request, read};
-use operator_model::{Arrival, Cause, Heard};
+use operator_model::{Arrival, Cause, Heard, Output, Verdict};
 use std::alloc::{AllocError, Global};
+use transactions::{KeptEntry, ResponseState};
+
+/// Returns whether a cached response waits for this acknowledgement.
+fn waits_for(entry: &KeptEntry, modem: Modem, tid: u16, kind: Kind) -> bool
+    ensures { result ≡ waits_for modem tid kind entry.now }
+{
+    entry.modem == modem
+        && entry.tid == tid
+        && entry.standing == ResponseState::Waiting
+        && entry.kind == kind
+}
 
 impl MachineState {
-    /// Refuses with this reply a request that could not be read.
-    fn fault_handled(
-        &mut self,
+    /// Plans that what was received first gets no reply, for this cause.
+    #[inline(always)]
+    fn silent_plan(&self, alloc: Global, modem: Modem, cause: Cause) -> Result<Plan, AllocError>
+        ensures { IfOk result (IsPlanOfFirst self.now (silent self.now.state modem cause)) }
+    {
+        let modem = Some(modem);
+        let outputs = single(alloc, Output::Silent { modem, cause })?;
+        Ok(Plan {
+            outputs,
+            effect: Effect::Handled {
+                effect: HandledEffect::Nothing,
+            },
+        })
+    }
+
+    /// Plans to refuse with this reply a request that could not be read.
+    fn fault_plan(
+        &self,
         alloc: Global,
-        copies: Copies,
         modem: Modem,
         kind: Kind,
         tid: u16,
         reply: Reply,
-    ) -> Result<OutputCopies, AllocError>
-        ensures { Does copies self.old self.new result (transaction_result self.old modem kind tid (Refused reply)) }
+    ) -> Result<Plan, AllocError>
+        ensures { IfOk result (IsPlanOfFirst self.now (transaction_result self.now modem kind tid (Refused reply))) }
     {
-        if let Some(both) = self.early_answer(alloc, copies, modem, kind, tid)? {
-            return Ok(both);
+        if let Some(outputs) = self.early_answer(alloc, modem, kind, tid)? {
+            return Ok(Plan {
+                outputs,
+                effect: Effect::Handled {
+                    effect: HandledEffect::Nothing,
+                },
+            });
         }
-        self.refused_out(alloc, copies, modem, kind, tid, reply)
+        self.response_plan(alloc, modem, kind, tid, Verdict::Refused { reply })
     }
 
-    /// Makes the pending sets of a flow its sets.
-    fn commit(&mut self, sfid: u32)
-        ensures { self.new ≡ with_change self.old sfid (flow_after_ack self.old.state.frame) }
+    /// Returns the response that waits for this acknowledgement.
+    fn waiting_response(&self, modem: Modem, tid: u16, kind: Kind) -> Option<&KeptEntry>
+        ensures { option_copied result ≡ find (waits_for modem tid kind) self.now.state.kept }
     {
-        self.flows.acknowledge(sfid, self.frame);
+        self.kept
+            .entries()
+            .iter()
+            .find(|entry| waits_for(entry, modem, tid, kind))
     }
 
-    /// Undoes what a transaction asked for.
-    pub(crate) fn undo(&mut self, kind: Kind, sfid: u32)
-        ensures { self.new ≡ with_flows self.old (undone kind sfid self.old.state.flows) }
-    {
-        match kind {
-            Kind::Dsa => self.flows.remove(sfid),
-            Kind::Dsc => self.flows.take_back(sfid),
-            Kind::Dsd => {}
-        }
-    }
-
-    /// Handles an acknowledgement: code 0 commits, another takes back.
-    fn handle_ack(
-        &mut self,
+    /// Plans an acknowledgement: code 0 commits, another takes back.
+    fn ack_plan(
+        &self,
         alloc: Global,
-        copies: Copies,
         modem: Modem,
         tid: u16,
         kind: Kind,
         code: u8,
-    ) -> Result<OutputCopies, AllocError>
-        ensures { Does copies self.old self.new result (ack_result self.old modem tid kind code) }
+    ) -> Result<Plan, AllocError>
+        ensures { IfOk result (IsPlanOfFirst self.now (ack_result self.now modem tid kind code)) }
     {
-        let Some(sfid) = self.kept.acked(modem, tid, kind) else {
-            return silent(alloc, copies, Some(modem), Cause::UnknownAck);
+        let Some(_waiting) = self.waiting_response(modem, tid, kind) else {
+            return self.silent_plan(alloc, modem, Cause::UnknownAck);
         };
-        if code == 0 {
-            self.commit(sfid);
-        } else {
-            self.undo(kind, sfid);
-        }
-        Ok(nothing(alloc, copies))
+        Ok(Plan {
+            outputs: Vec::new(alloc),
+            effect: Effect::Handled {
+                effect: HandledEffect::Acknowledged {
+                    modem,
+                    tid,
+                    kind,
+                    code,
+                },
+            },
+        })
     }
 
-    /// Handles a bandwidth request of a modem.
-    fn handle_bandwidth_request(
-        &mut self,
+    /// Plans a bandwidth request of a modem.
+    fn bandwidth_request_plan(
+        &self,
         alloc: Global,
-        copies: Copies,
         modem: Modem,
         sid: u16,
         minislots: u16,
-    ) -> Result<OutputCopies, AllocError>
-        ensures { Does copies self.old self.new result (bandwidth_request_result self.old modem sid minislots) }
+    ) -> Result<Plan, AllocError>
+        ensures { IfOk result (IsPlanOfFirst self.now (bandwidth_request_result self.now modem sid minislots)) }
     {
         let Some(asker) = self.flows.asker(sid) else {
-            return silent(alloc, copies, Some(modem), Cause::NoSuchSid);
+            return self.silent_plan(alloc, modem, Cause::NoSuchSid);
         };
         if asker.modem != modem {
-            return silent(alloc, copies, Some(modem), Cause::NoSuchSid);
+            return self.silent_plan(alloc, modem, Cause::NoSuchSid);
         }
         if !asker.may_ask {
-            return silent(alloc, copies, Some(modem), Cause::NotRequesting);
+            return self.silent_plan(alloc, modem, Cause::NotRequesting);
         }
-        self.flows.request(asker.sfid, minislots, self.frame);
-        Ok(nothing(alloc, copies))
+        Ok(Plan {
+            outputs: Vec::new(alloc),
+            effect: Effect::Handled {
+                effect: HandledEffect::Requested {
+                    sfid: asker.sfid,
+                    minislots,
+                },
+            },
+        })
     }
 
-    /// Handles a message that could not be read.
-    fn unread_handled(
-        &mut self,
+    /// Plans a message that could not be read.
+    fn unread_plan(
+        &self,
         alloc: Global,
-        copies: Copies,
         modem: Modem,
         fault: MessageFault,
-    ) -> Result<OutputCopies, AllocError>
+    ) -> Result<Plan, AllocError>
         requires { HasRightId fault }
-        ensures does { Does copies self.old self.new result (message_handled self.old modem (Err fault)) }
+        ensures plan { IfOk result (IsPlanOfFirst self.now (message_handled self.now modem (Err fault))) }
         ensures told { OnOk result ((read : Result Message MessageFault) → Fails (message_cause fault) read → read ≡ Err fault) }
     {
         match fault {
             MessageFault::NoMemory => Err(AllocError),
-            MessageFault::Empty => silent(alloc, copies, Some(modem), Cause::Empty),
-            MessageFault::NotOurs { mtype: _ } => silent(
-                alloc,
-                copies,
-                Some(modem),
-                Cause::NotOurs,
-            ),
-            MessageFault::Short => silent(alloc, copies, Some(modem), Cause::Short),
+            MessageFault::Empty => self.silent_plan(alloc, modem, Cause::Empty),
+            MessageFault::NotOurs { mtype: _ } => self.silent_plan(alloc, modem, Cause::NotOurs),
+            MessageFault::Short => self.silent_plan(alloc, modem, Cause::Short),
             MessageFault::Tlv {
                 tid,
                 kind,
                 id,
                 fault,
-            } => self.fault_handled(
-                alloc,
-                copies,
-                modem,
-                kind,
-                tid,
-                encoding_refusal(kind, tid, id, fault),
-            ),
+            } => {
+                let reply = encoding_refusal(kind, tid, id, fault);
+                self.fault_plan(alloc, modem, kind, tid, reply)
+            }
             MessageFault::LeftOut {
                 tid,
                 kind,
                 found: _,
             } => {
                 let reply = refusal(kind, tid, Code::RejectUnrecognizedSetting);
-                self.fault_handled(alloc, copies, modem, kind, tid, reply)
+                self.fault_plan(alloc, modem, kind, tid, reply)
             }
         }
     }
 
-    /// Handles what a message says.
-    fn message_handled(
-        &mut self,
+    /// Plans what a message says.
+    fn message_plan(
+        &self,
         alloc: Global,
-        copies: Copies,
         modem: Modem,
         message: &Message,
-    ) -> Result<OutputCopies, AllocError>
-        requires { HasOwnSids self.old }
-        ensures { Does copies self.old self.new result (message_handled self.old modem (Ok message.now)) }
+    ) -> Result<Plan, AllocError>
+        requires { HasOwnSids self.now }
+        ensures { IfOk result (IsPlanOfFirst self.now (message_handled self.now modem (Ok message.now))) }
     {
         match message {
-            Message::Request(request) => self.request_handled(alloc, copies, modem, request),
-            Message::Ack { kind, tid, code } => self.handle_ack(
-                alloc, copies, modem, *tid, *kind, *code,
-            ),
+            Message::Request(request) => self.request_plan(alloc, modem, request),
+            Message::Ack { kind, tid, code } => self.ack_plan(alloc, modem, *tid, *kind, *code),
         }
     }
 
-    /// Handles bytes that were read, or why they were not.
-    fn read_handled(
-        &mut self,
+    /// Plans bytes that were read, or why they were not.
+    fn read_plan(
+        &self,
         alloc: Global,
-        copies: Copies,
         modem: Modem,
         said: Result<Message, MessageFault>,
-    ) -> Result<OutputCopies, AllocError>
-        requires sids { HasOwnSids self.old }
+    ) -> Result<Plan, AllocError>
+        requires sids { HasOwnSids self.now }
         requires right { IfErr said HasRightId }
-        ensures does { (read : Result Message MessageFault) → Gives message_cause (λ m. m) said read
-            → Does copies self.old self.new result (message_handled self.old modem read) }
-        ensures err { OnErr result (self.new ≡ self.old) }
+        ensures { (read : Result Message MessageFault) → Gives message_cause (λ m. m) said read
+            → IfOk result (IsPlanOfFirst self.now (message_handled self.now modem read)) }
     {
         match said {
-            Ok(message) => self.message_handled(alloc, copies, modem, &message),
-            Err(fault) => self.unread_handled(alloc, copies, modem, fault),
+            Ok(message) => self.message_plan(alloc, modem, &message),
+            Err(fault) => self.unread_plan(alloc, modem, fault),
         }
     }
 
-    /// Takes what was received first out of the inbox.
-    fn take_first(&mut self)
-        ensures { self.new ≡ with_inbox self.old (drop 1 self.old.state.inbox) }
-    {
-        let _first = self.inbox.pop_front();
-    }
-
-    /// Handles what was received first, and takes it out of the inbox.
+    /// Plans to handle what was received first, and to take it out of the inbox.
     #[inline(always)]
-    pub(crate) fn work(&mut self, alloc: Global, copies: Copies) -> Result<OutputCopies, AllocError>
-        requires { HasOwnSids self.old }
-        ensures { Does copies self.old self.new result (work_result self.old self.old.state.inbox) }
+    pub(crate) fn work_plan(&self, alloc: Global) -> Result<Plan, AllocError>
+        requires { HasOwnSids self.now }
+        ensures { IfOk result (IsPlanFor self.now (work_result self.now self.now.state.inbox)) }
     {
         let Some(first) = self.inbox.front() else {
-            return silent(alloc, copies, None, Cause::Idle);
+            return Ok(Plan {
+                outputs: single(
+                    alloc,
+                    Output::Silent {
+                        modem: None,
+                        cause: Cause::Idle,
+                    },
+                )?,
+                effect: Effect::Nothing,
+            });
         };
         let modem = first.modem;
         match &first.heard {
-            Heard::Message(bytes) => {
-                let said = read(alloc, bytes.as_slice());
-                let both = self.read_handled(alloc, copies, modem, said)?;
-                self.take_first();
-                Ok(both)
-            }
+            Heard::Message(bytes) => self.read_plan(alloc, modem, read(alloc, bytes.as_slice())),
             Heard::Request { sid, minislots } => {
-                let (sid, minislots) = (*sid, *minislots);
-                let both = self.handle_bandwidth_request(alloc, copies, modem, sid, minislots)?;
-                self.take_first();
-                Ok(both)
+                self.bandwidth_request_plan(alloc, modem, *sid, *minislots)
             }
         }
     }
 
-    /// Puts what was received at the end of the inbox, without a copy.
+    /// Plans to put what was received at the end of the inbox. A full inbox drops it.
     #[inline(always)]
-    pub(crate) fn take_in(
-        &mut self,
+    pub(crate) fn arrival_plan(
+        &self,
         alloc: Global,
-        copies: Copies,
         modem: Modem,
         heard: Heard,
-    ) -> Result<OutputCopies, AllocError>
-        ensures { Does copies self.old self.new result (arrival_result self.old modem heard) }
+    ) -> Result<Plan, AllocError>
+        ensures { IfOk result (IsPlanFor self.now (arrival_result self.now modem heard)) }
     {
         if self.inbox.len() >= usize::from(self.row.get_fields().inbox) {
-            return silent(alloc, copies, Some(modem), Cause::InboxFull);
+            let modem = Some(modem);
+            let cause = Cause::InboxFull;
+            return Ok(Plan {
+                outputs: single(alloc, Output::Silent { modem, cause })?,
+                effect: Effect::Nothing,
+            });
         }
-        self.inbox.push_back(Arrival { modem, heard })?;
-        Ok(nothing(alloc, copies))
-    }
-
-    /// Puts a copy of what was received at the end of the inbox.
-    pub(crate) fn arrive(
-        &mut self,
-        alloc: Global,
-        copies: Copies,
-        modem: Modem,
-        heard: &Heard,
-    ) -> Result<OutputCopies, AllocError>
-        ensures { Does copies self.old self.new result (arrival_result self.old modem heard.now) }
-    {
-        let heard = heard.copy(alloc)?;
-        self.take_in(alloc, copies, modem, heard)
+        Ok(Plan {
+            outputs: Vec::new(alloc),
+            effect: Effect::Received {
+                arrival: Arrival { modem, heard },
+            },
+        })
     }
 }

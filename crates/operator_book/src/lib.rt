@@ -5,6 +5,7 @@
 mod answering;
 mod asked;
 mod book;
+mod committing;
 mod flow_fault;
 mod handling;
 mod judging;
@@ -12,6 +13,8 @@ mod live;
 mod logged;
 mod machine;
 mod opening;
+mod plan;
+mod planning;
 mod refusal;
 mod reslicing;
 mod response_fault;
@@ -20,17 +23,16 @@ mod row_fault;
 mod share_fault;
 mod state_fault;
 mod state_view;
-mod step;
 mod ticking;
 mod verdict;
 
 pub use book::{Book, BookFault, OpenFault};
 pub use live::{Machine, SoundMachine};
 pub use logged::RecordedMachine;
-pub use machine::Copies;
 pub use operator_model::{
     Action, Arrival, Cause, Entry, Heard, NextShare, Output, Outputs, Share, SliceRow, Unfit,
 };
+pub use plan::Plan;
 pub use row_fault::row_faults;
 pub use state_fault::StateFault;
 pub use state_view::StateView;

@@ -9,11 +9,13 @@ ghost use Rattle.operator_model.specs.State.{operator, opened_state, opened_befo
 ghost use Rattle.operator_model.specs.Machine.{stranger_of, is_spent, unfit_of, unfit_from, own_step, after_step, IsAllowed};
 ghost use Rattle.operator_model.specs.Sound.{IsSound};
 ghost use Rattle.operator_book.specs.MostOutputs.{most_outputs_of};
+ghost use Rattle.operator_book.specs.Planned.{IsPlanOf, IsCommittable, after_effect};
 ghost use Rattle.operator_book.specs.Resuming.{state_fault, IsStateFault, IsStateUnder};
 ghost use Rattle.operator_book.specs.declared.state_fault.StateFault.TheVariants.{NoMemory};
 
 use crate::book::{BookFault, OpenFault};
-use crate::machine::{Copies, MachineState, OutputCopies};
+use crate::machine::MachineState;
+use crate::plan::Plan;
 use crate::state_fault::StateFault;
 use crate::state_view::StateView;
 use grant_policy::Ranking;
@@ -103,25 +105,28 @@ impl SoundMachine {
         }
     }
 
-    /// Does an action that is not refused, and returns so many copies of what it outputs.
+    /// Plans an action that is not refused.
     #[inline(always)]
-    fn act(
-        &mut self,
-        alloc: Global,
-        copies: Copies,
-        ranking: &Ranking,
-        action: Action,
-    ) -> Result<OutputCopies, AllocError>
-        requires policy { ranking.now.policy ≡ self.old.row.policy }
-        requires allowed { IsAllowed self.old action }
-        ensures state { OnOk result (self.new ≡ after_step self.old action) }
-        ensures outputs { IfOk result (λ both. both.told.items ≡ (own_step self.old action).outputs) }
-        ensures copies { IfOk result (λ both. both.copies ≡ copies) }
-        ensures err { OnErr result (self.new ≡ self.old) }
+    fn plan(&self, alloc: Global, ranking: &Ranking, action: Action) -> Result<Plan, AllocError>
+        requires policy { ranking.now.policy ≡ self.now.row.policy }
+        requires allowed { IsAllowed self.now action }
+        ensures plan { IfOk result (IsPlanOf self.now action) }
+        ensures committable { IfOk result (IsCommittable self.now) }
     {
         // For the proof: an action that is not refused leaves a sound state.
         step_keeps_sound();
-        self.machine.step_with(alloc, copies, ranking, action)
+        self.machine.plan(alloc, ranking, action)
+    }
+
+    /// Commits a plan, and returns its outputs. If memory runs out nothing changes.
+    #[inline(always)]
+    fn commit(&mut self, alloc: Global, plan: Plan) -> Result<Vec<Output>, AllocError>
+        requires { IsCommittable self.old plan }
+        ensures state { OnOk result (self.new ≡ after_effect self.old plan.effect) }
+        ensures outputs { IfOk result (λ outputs. outputs.items ≡ plan.outputs.items) }
+        ensures err { OnErr result (self.new ≡ self.old) }
+    {
+        self.machine.commit(alloc, plan)
     }
 
     /// Takes a slice that fits from a later frame on, with no memory.
@@ -197,18 +202,44 @@ impl Machine {
         Ok(Machine { sound, ranking })
     }
 
-    /// Does an action, and reports what it outputs, and where two copies are made once more: for
-    /// what the caller keeps of it. A refused action changes nothing.
+    /// Plans an action, or says why it is refused. A refusal comes before memory is taken: a stranger
+    /// first, then a tick past the last frame, then a slice that does not fit.
     #[inline(always)]
-    pub fn act(
-        &mut self,
-        alloc: Global,
-        action: Action,
-        copies: Copies,
-    ) -> Result<(Vec<Output>, Vec<Output>), BookFault>
+    pub fn plan(&self, alloc: Global, action: Action) -> Result<Plan, BookFault>
+        ensures outputs { IfOk result (λ plan. plan.outputs.items ≡ (own_step self.now.sound action).outputs) }
+        ensures plan { IfOk result (IsPlanOf self.now.sound action) }
+        ensures committable { IfOk result (IsCommittable self.now.sound) }
+
+        // Only these are refused; else only memory can be wanting.
+        ensures not_mine { (modem : Modem) → (result ≡ Err (BookFault.NotMine modem))
+            ↔ (stranger_of self.now.sound.row action ≡ Some modem) }
+        ensures spent { (result ≡ Err BookFault.FramesSpent) ↔ (is_spent self.now.sound.state action ≡ true) }
+        ensures unfit { (u : Unfit) → (result ≡ Err (BookFault.Unfit u))
+            ↔ (unfit_of self.now.sound action ≡ Some u) }
+        ensures allowed { OnOk result (IsAllowed self.now.sound action) }
+    {
+        if let Err(fault) = self.sound.machine.judge(&action) {
+            return Err(fault);
+        }
+        Ok(self.sound.plan(alloc, &self.ranking, action)?)
+    }
+
+    /// Commits a plan, and returns its outputs. If memory runs out nothing changes. The caller knows
+    /// that the plan was made for the machine as it is.
+    #[inline(always)]
+    pub fn commit(&mut self, alloc: Global, plan: Plan) -> Result<Vec<Output>, AllocError>
+        requires { IsCommittable self.old.sound plan }
+        ensures state { OnOk result (self.new.sound ≡ after_effect self.old.sound plan.effect) }
+        ensures outputs { IfOk result (λ outputs. outputs.items ≡ plan.outputs.items) }
+        ensures err { OnErr result (self.new.sound ≡ self.old.sound) }
+    {
+        self.sound.commit(alloc, plan)
+    }
+
+    /// Plans an action and commits the plan. A refused action changes nothing.
+    pub fn act(&mut self, alloc: Global, action: Action) -> Result<Vec<Output>, BookFault>
         ensures state { OnOk result (self.new.sound ≡ after_step self.old.sound action) }
-        ensures outputs { IfOk result (λ both. both.0.items ≡ (own_step self.old.sound action).outputs) }
-        ensures again { IfOk result (λ both. copies ≡ Copies.Two → both.1.items ≡ (own_step self.old.sound action).outputs) }
+        ensures outputs { IfOk result (λ outputs. outputs.items ≡ (own_step self.old.sound action).outputs) }
 
         // A stranger is refused first, then a tick past the last frame, then a slice that does not fit, and only these are;
         // else only memory can be wanting.
@@ -220,11 +251,10 @@ impl Machine {
         ensures allowed { OnOk result (IsAllowed self.old.sound action) }
         ensures err { OnErr result (self.new.sound ≡ self.old.sound) }
     {
-        if let Err(fault) = self.sound.machine.judge(&action) {
-            return Err(fault);
+        match self.plan(alloc, action) {
+            Ok(plan) => Ok(self.commit(alloc, plan)?),
+            Err(fault) => Err(fault),
         }
-        let both = self.sound.act(alloc, copies, &self.ranking, action)?;
-        Ok((both.told, both.kept))
     }
 
     /// Returns whether a slice and a budget can be taken from this frame on. Takes no memory.

@@ -7,7 +7,8 @@ ghost use Rattle.operator_model.specs.Machine.{own_step, unfit_from, IsAllowed};
 ghost use Rattle.operator_model.specs.Replay.{operator_of_book, opened_book, IsReplayed, book_after_action};
 ghost use Rattle.operator_model.specs.Sound.{IsSound};
 
-use crate::machine::{Copies, MachineState};
+use crate::machine::MachineState;
+use crate::plan::output_copies;
 use grant_policy::Ranking;
 use operator_model::{Action, Entry, Output, Outputs, SliceRow, replay_is_sound};
 use plant::{Consts, OperatorRow};
@@ -84,12 +85,15 @@ impl RecordedMachine {
         // For the proof: what always holds of `self`.
         self.always();
         room_for_one(&mut self.history)?;
-        let both = self.machine.step(alloc, Copies::Two, ranking, &action)?;
+        let done = action.copy(alloc)?;
+        let plan = self.machine.plan(alloc, ranking, action)?;
+        let kept = output_copies(alloc, plan.outputs())?;
+        let told = self.machine.commit(alloc, plan)?;
         self.history.push_reserved(Entry {
-            action,
-            outputs: Outputs::from_vec(both.kept),
+            action: done,
+            outputs: Outputs::from_vec(kept),
         });
-        Ok(both.told)
+        Ok(told)
     }
 
     /// Makes room for one entry more, which a slice change will take.

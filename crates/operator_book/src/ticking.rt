@@ -1,69 +1,39 @@
 //! A tick: the timers, the frame, and the next frame's share.
 
-ghost use Rattle.std.specs.Prelude.{◌≡◌, ◌<◌, ◌≤◌, ◌+◌, [], ◌∷◌, ◌++◌, map, length, IfOk, vec_capacity};
+ghost use Rattle.std.specs.Prelude.{◌≡◌, ◌<◌, ◌+◌, [], ◌∷◌, ◌++◌, map, IfOk, OnOk, OnErr};
 ghost use Rattle.operator_model.specs.declared.output.Output.TheVariants as outputs;
 ghost use Rattle.flow_table.specs.Flow.{flow_after_grant};
 ghost use Rattle.operator_model.specs.Changed.{with_flows, with_change};
 ghost use Rattle.operator_model.specs.Frame.{tick_result, resent, all_undone, all_granted, share_at, next_at, frame_elements, frame_grants};
 ghost use Rattle.operator_model.specs.Sound.{IsSound};
-ghost use Rattle.operator_book.specs.Does.{Does};
+ghost use Rattle.operator_book.specs.Planned.{IsPlanFor, ticked};
 
-use crate::machine::{Copies, MachineState, OutputCopies};
+use crate::machine::MachineState;
+use crate::plan::{Effect, Plan};
 use grant_policy::Ranking;
 use operator_model::{Output, given_up_have_no_grants, schedule_can_serve};
-use slice_scheduler::{At, AtFields, Elements, Grants, Served, schedule};
+use slice_scheduler::{At, AtFields, Elements, Served, schedule};
 use std::alloc::{AllocError, Global};
-use transactions::{GivenUp, GivenUps, Resends, Ticked};
+use transactions::{GivenUp, Resends, Ticked};
 
-/// What a frame gives out.
-#[derive(Drop)]
-struct FramePlan {
-    /// The elements of the operator's part of the MAP.
-    elements: Elements,
-    /// The same once more.
-    copied: Elements,
-    /// The minislots granted to backlogs.
-    granted: Grants,
-}
-
-/// Room for the outputs of a tick, for two copies.
-#[derive(Drop)]
-struct Rooms {
-    kept: Vec<Output>,
-    told: Vec<Output>,
-}
-
-/// Makes room for two copies of so many outputs and one more.
-fn rooms_for(alloc: Global, count: usize) -> Result<Rooms, AllocError>
-    requires { count ≤ 4294967295 }
-    ensures kept { IfOk result (λ rooms. (rooms.kept.items ≡ []) × (count + 1 ≤ vec_capacity rooms.kept)) }
-    ensures told { IfOk result (λ rooms. (rooms.told.items ≡ []) × (count + 1 ≤ vec_capacity rooms.told)) }
-{
-    let kept = Vec::with_capacity(alloc, count + 1)?;
-    let told = Vec::with_capacity(alloc, count + 1)?;
-    Ok(Rooms { kept, told })
-}
-
-/// Returns the outputs of a tick, in room that is there: what is retransmitted, then the frame.
+/// Returns the outputs of a tick: what is retransmitted, then the frame.
 fn frame_outputs(
-    room: Vec<Output>,
+    alloc: Global,
     resends: Resends,
     number: u32,
     elements: Elements,
-) -> Vec<Output>
-    requires empty { room.items ≡ [] }
-    requires fits { length resends + 1 ≤ vec_capacity room }
-    ensures { result.items ≡ map resent resends ++ outputs.Frame number elements ∷ [] }
+) -> Result<Vec<Output>, AllocError>
+    ensures { IfOk result (λ told. told.items ≡ map resent resends ++ outputs.Frame number elements ∷ []) }
 {
-    let mut told = room;
+    let mut told = Vec::with_capacity(alloc, resends.len().saturating_add(1))?;
     for resend in resends.into_vec() {
-        told.push_reserved(Output::Reply {
+        told.push(Output::Reply {
             modem: resend.modem,
             bytes: resend.reply,
-        });
+        })?;
     }
-    told.push_reserved(Output::Frame { number, elements });
-    told
+    told.push(Output::Frame { number, elements })?;
+    Ok(told)
 }
 
 impl MachineState {
@@ -137,63 +107,39 @@ impl MachineState {
         }
     }
 
-    /// Returns what the frame gives out, with two copies of its elements.
-    fn frame_plan(&self, alloc: Global, ranking: &Ranking) -> Result<FramePlan, AllocError>
+    /// Plans a tick. The timers count when it is committed.
+    pub(crate) fn tick_plan(&self, alloc: Global, ranking: &Ranking) -> Result<Plan, AllocError>
         requires sound { IsSound self.now }
         requires policy { ranking.now.policy ≡ self.now.row.policy }
-        ensures elements { IfOk result (λ plan. plan.elements ≡ frame_elements self.now) }
-        ensures copied { IfOk result (λ plan. plan.copied ≡ frame_elements self.now) }
-        ensures granted { IfOk result (λ plan. plan.granted ≡ frame_grants self.now) }
+        requires not_spent { self.now.state.frame < 4294967295 }
+        ensures { IfOk result (IsPlanFor self.now (tick_result self.now)) }
     {
         let Served { elements, granted } = self.frame_schedule(alloc, ranking)?;
-        let copied = elements.copy(alloc)?;
-        Ok(FramePlan {
-            elements,
-            copied,
-            granted,
+        let resends = self.kept.resends(alloc)?;
+        Ok(Plan {
+            outputs: frame_outputs(alloc, resends, self.frame, elements)?,
+            effect: Effect::Ticked { granted },
         })
     }
 
-    /// Undoes what is abandoned, takes the grants off the backlogs, and goes on to the next frame.
-    fn pass_frame(&mut self, given_up: GivenUps, granted: Grants)
-        requires { self.old.state.frame < 4294967295 }
-        ensures { self.new ≡ record self.old {
-          state = record self.old.state {
-            flows = all_granted self.old.state.frame granted (all_undone given_up self.old.state.flows);
-            frame = self.old.state.frame + 1;
-            share = share_at (self.old.state.frame + 1) self.old.state.share self.old.state.next;
-            next = next_at (self.old.state.frame + 1) self.old.state.next;
-          };
-        } }
-    {
-        self.undo_all(given_up.as_slice());
-        self.grant_all(self.frame, granted.as_slice());
-        self.go_on();
-    }
-
-    /// Counts the timers one tick on, gives out the frame, and goes on to the next. Two copies of
-    /// what it outputs are made in any case.
-    pub(crate) fn tick(
+    /// Counts the timers one tick on, undoes what is abandoned, takes the grants off the backlogs,
+    /// and goes on to the next frame.
+    pub(crate) fn pass_frame(
         &mut self,
         alloc: Global,
-        copies: Copies,
-        ranking: &Ranking,
-    ) -> Result<OutputCopies, AllocError>
-        requires sound { IsSound self.old }
-        requires policy { ranking.now.policy ≡ self.old.row.policy }
-        requires not_spent { self.old.state.frame < 4294967295 }
-        ensures { Does copies self.old self.new result (tick_result self.old) }
+        granted: &[(u32, u16)],
+    ) -> Result<(), AllocError>
+        requires { self.old.state.frame < 4294967295 }
+        ensures ok { OnOk result (self.new ≡ record self.old { state = ticked self.old granted.now }) }
+        ensures err { OnErr result (self.new ≡ self.old) }
     {
-        let plan = self.frame_plan(alloc, ranking)?;
-        // For the proof: what the type of `self.row.get_fields()` keeps.
-        let _row = self.row.get_fields();
-        let rooms = rooms_for(alloc, self.kept.resend_count())?;
-        let resends = self.kept.resends(alloc)?;
-        let Ticked { resend, given_up } = self.kept.tick(alloc)?;
-        let number = self.frame;
-        self.pass_frame(given_up, plan.granted);
-        let kept = frame_outputs(rooms.kept, resends, number, plan.copied);
-        let told = frame_outputs(rooms.told, resend, number, plan.elements);
-        Ok(OutputCopies { kept, told, copies })
+        let Ticked {
+            resend: _,
+            given_up,
+        } = self.kept.tick(alloc)?;
+        self.undo_all(given_up.as_slice());
+        self.grant_all(self.frame, granted);
+        self.go_on();
+        Ok(())
     }
 }

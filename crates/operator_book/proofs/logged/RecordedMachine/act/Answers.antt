@@ -1,4 +1,4 @@
-use Rattle.std.proofs.Common.{refl, sym, ap, subst, ◌∙◌}
+use Rattle.std.proofs.Common.{sym, ap, subst, ◌∙◌}
 use Rattle.operator_model.specs.Machine.{IsAllowed}
 use Rattle.operator_model.specs.Replay.{BookView, operator_of_book}
 use Rattle.operator_book.specs.Kept.{HeldBook}
@@ -7,12 +7,12 @@ use Rattle.operator_book.proofs.logged.RecordedMachine.act.Goals as goal
 
 pub invariant_of-self-2 : goal.invariant_of-self-2
 invariant_of-self-2 g c =
-    rw (c.in_ok-both.ensures.state, c.push_reserved.ensures.items, c.room_for_one.ensures.items)
+    rw (c.in_ok-told.ensures.state, c.push_reserved.ensures.items, c.room_for_one.ensures.items, c.in_ok-done.ensures)
     record {
       valid = c.self.invariant.valid;
       some = c.self.invariant.some;
       replay = replay_push _ _ _ _ _ _ c.self.invariant.replay
           (subst (λ (b : BookView). IsAllowed (operator_of_book b) c.args.action) (sym (ap (λ (held : HeldBook). held.book) c.self.view_is)) c.requires.allowed)
-          refl
-          (c.from_vec.ensures ∙ (c.in_ok-both.both.same c.in_ok-both.ensures.copies ∙ c.in_ok-both.ensures.outputs));
+          c.in_ok-plan.ensures.state
+          (c.from_vec.ensures ∙ (c.in_ok-kept.ensures ∙ (c.outputs.ensures ∙ c.in_ok-plan.ensures.outputs)));
     }

@@ -1,0 +1,203 @@
+//! How a plan is committed.
+
+ghost use Rattle.std.specs.Prelude.{◌≡◌, ◌<◌, drop, length, find, IsNone, IfOk, OnOk, OnErr};
+ghost use Rattle.transactions.specs.Entry.{is_of};
+ghost use Rattle.flow_table.specs.Flow.{flow_after_ack, flow_after_request};
+ghost use Rattle.operator_model.specs.Changed.{with_flows, with_change, with_inbox};
+ghost use Rattle.operator_model.specs.Handle.{undone, flows_after, sfid_of, does_wait, ack_result};
+ghost use Rattle.operator_book.specs.Held.{flow_table_of, MayPut};
+ghost use Rattle.operator_book.specs.Planned.{MayCommit, MayHandle, MayRespond, after_effect, state_after_handling, responded};
+
+use crate::machine::MachineState;
+use crate::plan::{Effect, HandledEffect, Plan};
+use dsx_messages::{Kind, Modem};
+use operator_model::{Output, Verdict};
+use std::alloc::{AllocError, Global};
+use tlv24::Bytes;
+
+/// Returns the SFID that is cached with the reply of a verdict: 0 if no flow belongs to it.
+fn sfid_of(verdict: &Verdict) -> u32
+    ensures { result ≡ sfid_of verdict.now }
+{
+    match verdict {
+        Verdict::Refused { reply: _ } => 0,
+        Verdict::Put {
+            sfid,
+            flow: _,
+            reply: _,
+        }
+        | Verdict::Deleted { sfid, reply: _ } => *sfid,
+    }
+}
+
+/// Returns whether the reply of a verdict waits for an acknowledgement: a flow was added or changed.
+fn does_wait(verdict: &Verdict) -> bool
+    ensures { result ≡ does_wait verdict.now }
+{
+    match verdict {
+        Verdict::Put {
+            sfid: _,
+            flow: _,
+            reply: _,
+        } => true,
+        Verdict::Refused { reply: _ } | Verdict::Deleted { sfid: _, reply: _ } => false,
+    }
+}
+
+impl MachineState {
+    /// Commits a plan, and returns its outputs. If memory runs out nothing changes.
+    #[inline(always)]
+    pub(crate) fn commit(&mut self, alloc: Global, plan: Plan) -> Result<Vec<Output>, AllocError>
+        requires { MayCommit self.old plan.effect }
+        ensures state { OnOk result (self.new ≡ after_effect self.old plan.effect) }
+        ensures outputs { IfOk result (λ outputs. outputs.items ≡ plan.outputs.items) }
+        ensures err { OnErr result (self.new ≡ self.old) }
+    {
+        let Plan { outputs, effect } = plan;
+        self.commit_effect(alloc, effect)?;
+        Ok(outputs)
+    }
+
+    /// Makes the effect of a plan.
+    #[inline(always)]
+    fn commit_effect(&mut self, alloc: Global, effect: Effect) -> Result<(), AllocError>
+        requires { MayCommit self.old effect }
+        ensures ok { OnOk result (self.new ≡ after_effect self.old effect) }
+        ensures err { OnErr result (self.new ≡ self.old) }
+    {
+        match effect {
+            Effect::Nothing => Ok(()),
+            Effect::Received { arrival } => Ok(self.inbox.push_back(arrival)?),
+            Effect::Handled { effect } => {
+                self.commit_handled(effect)?;
+                self.take_first();
+                Ok(())
+            }
+            Effect::Ticked { granted } => self.pass_frame(alloc, granted.as_slice()),
+            Effect::Resliced { from, row } => {
+                self.reslice(from, row);
+                Ok(())
+            }
+        }
+    }
+
+    /// Makes the effect of what is handled, except that it stays in the inbox.
+    #[inline(always)]
+    fn commit_handled(&mut self, effect: HandledEffect) -> Result<(), AllocError>
+        requires { MayHandle self.old effect }
+        ensures ok { OnOk result (self.new ≡ record self.old { state = state_after_handling effect self.old }) }
+        ensures err { OnErr result (self.new ≡ self.old) }
+    {
+        match effect {
+            HandledEffect::Nothing => Ok(()),
+            HandledEffect::Response {
+                modem,
+                tid,
+                kind,
+                reply,
+                verdict,
+            } => self.respond(modem, tid, kind, reply, &verdict),
+            HandledEffect::Acknowledged {
+                modem,
+                tid,
+                kind,
+                code,
+            } => {
+                self.acknowledge(modem, tid, kind, code);
+                Ok(())
+            }
+            HandledEffect::Requested { sfid, minislots } => {
+                self.request(sfid, minislots);
+                Ok(())
+            }
+        }
+    }
+
+    /// Takes what was received first out of the inbox.
+    fn take_first(&mut self)
+        ensures { self.new ≡ with_inbox self.old (drop 1 self.old.state.inbox) }
+    {
+        let _first = self.inbox.pop_front();
+    }
+
+    /// Makes a verdict's change to the flows, and caches its reply.
+    #[inline(always)]
+    fn respond(
+        &mut self,
+        modem: Modem,
+        tid: u16,
+        kind: Kind,
+        reply: Bytes,
+        verdict: &Verdict,
+    ) -> Result<(), AllocError>
+        requires { MayRespond self.old modem tid verdict.now }
+        ensures ok { OnOk result (self.new ≡ record self.old { state = responded self.old modem tid kind reply verdict.now }) }
+        ensures err { OnErr result (self.new ≡ self.old) }
+    {
+        self.change_flows(verdict)?;
+        let waits = does_wait(verdict);
+        self.kept
+            .begin_new(modem, tid, kind, reply, sfid_of(verdict), waits);
+        Ok(())
+    }
+
+    /// Makes a verdict's change to the flows.
+    #[inline(always)]
+    fn change_flows(&mut self, verdict: &Verdict) -> Result<(), AllocError>
+        requires { MayPut (flow_table_of self.old) verdict.now }
+        ensures ok { OnOk result (self.new ≡ with_flows self.old (flows_after verdict.now self.old.state.flows)) }
+        ensures err { OnErr result (self.new ≡ self.old) }
+    {
+        match verdict {
+            Verdict::Refused { reply: _ } => Ok(()),
+            Verdict::Put {
+                sfid,
+                flow,
+                reply: _,
+            } => self.flows.put_flow(*sfid, flow),
+            Verdict::Deleted { sfid, reply: _ } => {
+                self.flows.remove(*sfid);
+                Ok(())
+            }
+        }
+    }
+
+    /// Takes an acknowledgement: code 0 commits what waits of the flow, another undoes it.
+    fn acknowledge(&mut self, modem: Modem, tid: u16, kind: Kind, code: u8)
+        ensures { self.new ≡ record self.old { state = (ack_result self.old modem tid kind code).state } }
+    {
+        let Some(sfid) = self.kept.acked(modem, tid, kind) else {
+            return;
+        };
+        if code == 0 {
+            self.commit_pending(sfid);
+        } else {
+            self.undo(kind, sfid);
+        }
+    }
+
+    /// Makes the pending sets of a flow its sets.
+    fn commit_pending(&mut self, sfid: u32)
+        ensures { self.new ≡ with_change self.old sfid (flow_after_ack self.old.state.frame) }
+    {
+        self.flows.acknowledge(sfid, self.frame);
+    }
+
+    /// Undoes what a transaction asked for.
+    pub(crate) fn undo(&mut self, kind: Kind, sfid: u32)
+        ensures { self.new ≡ with_flows self.old (undone kind sfid self.old.state.flows) }
+    {
+        match kind {
+            Kind::Dsa => self.flows.remove(sfid),
+            Kind::Dsc => self.flows.take_back(sfid),
+            Kind::Dsd => {}
+        }
+    }
+
+    /// Replaces the backlog of a flow.
+    fn request(&mut self, sfid: u32, minislots: u16)
+        ensures { self.new ≡ with_change self.old sfid (flow_after_request minislots self.old.state.frame) }
+    {
+        self.flows.request(sfid, minislots, self.frame);
+    }
+}

@@ -1,0 +1,91 @@
+//! The plan of an action: its outputs, and its effect on the state.
+
+ghost use Rattle.std.specs.Prelude.{◌≡◌, ◌∷◌, [], IfOk};
+
+use dsx_messages::{Kind, Modem};
+use operator_model::{Arrival, Output, SliceRow, Verdict};
+use slice_scheduler::Grants;
+use std::alloc::{AllocError, Global};
+use tlv24::Bytes;
+
+/// What an action will do: its outputs, and its effect on the state. All memory for the outputs is
+/// taken. The state changes when the plan is committed.
+#[derive(Drop)]
+pub struct Plan {
+    pub(crate) outputs: Vec<Output>,
+    pub(crate) effect: Effect,
+}
+
+/// The effect of an action on the state.
+#[derive(Drop)]
+pub(crate) enum Effect {
+    /// Nothing changes.
+    Nothing,
+    /// What was received is put at the end of the inbox.
+    Received { arrival: Arrival },
+    /// What was received first is taken out of the inbox, and has this effect.
+    Handled { effect: HandledEffect },
+    /// The timers count one tick, these grants are taken off the backlogs, and the next frame
+    /// follows.
+    Ticked { granted: Grants },
+    /// This slice and budget wait for this frame.
+    Resliced { from: u32, row: SliceRow },
+}
+
+/// The effect of what is handled.
+#[derive(Drop)]
+pub(crate) enum HandledEffect {
+    /// Nothing changes.
+    Nothing,
+    /// The verdict's change is made to the flows, and these bytes of its reply are cached.
+    Response {
+        modem: Modem,
+        tid: u16,
+        kind: Kind,
+        reply: Bytes,
+        verdict: Verdict,
+    },
+    /// The response that waits for this acknowledgement is held, and what waits of its flow is
+    /// committed or undone.
+    Acknowledged {
+        modem: Modem,
+        tid: u16,
+        kind: Kind,
+        code: u8,
+    },
+    /// The backlog of this flow is replaced.
+    Requested {
+        sfid: u32,
+        minislots: u16,
+    },
+}
+
+impl Plan {
+    /// Returns the outputs of the action, in order.
+    pub fn outputs(&self) -> &[Output]
+        ensures { result.now ≡ self.now.outputs.items }
+    {
+        self.outputs.as_slice()
+    }
+}
+
+/// Returns a list of one output.
+#[inline(always)]
+pub(crate) fn single(alloc: Global, output: Output) -> Result<Vec<Output>, AllocError>
+    ensures { IfOk result (λ outputs. outputs.items ≡ output ∷ []) }
+{
+    let mut outputs = Vec::with_capacity(alloc, 1)?;
+    outputs.push(output)?;
+    Ok(outputs)
+}
+
+/// Returns a copy of outputs, for a caller that keeps them.
+pub(crate) fn output_copies(alloc: Global, outputs: &[Output]) -> Result<Vec<Output>, AllocError>
+    ensures { IfOk result (λ copies. copies.items ≡ outputs.now) }
+{
+    let mut copies = Vec::with_capacity(alloc, outputs.len())?;
+    for output in outputs {
+        copies.push(output.copy(alloc)?)?;
+    }
+    Ok(copies)
+}
