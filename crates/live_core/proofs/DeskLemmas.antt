@@ -1,6 +1,6 @@
 -- An action puts out one frame at most, and where it is allowed only memory can be wanting.
-use Rattle.std.proofs.Common.{◌≡◌, ◌↔◌, ℕ, Bool, true, false, List, [], ◌∷◌, ◌++◌, length, Option, Some, None, Result, Err, append-nil, refl, sym, ap, ◌∙◌, arith}
-use Rattle.std.specs.Prelude.{slice_get, count_by, ◌==◌, IsSome}
+use Rattle.std.proofs.Common.{◌≡◌, ◌↔◌, ℕ, Bool, true, false, List, [], ◌∷◌, ◌++◌, length, Option, Some, None, Result, Err, append-nil, refl, sym, ap, ◌∙◌}
+use Rattle.std.specs.Prelude.{slice_get, ◌==◌, IsSome}
 use Rattle.slice_scheduler.specs.declared.elements.ElementsFields.{ElementsFields}
 use Rattle.operator_model.specs.declared.action.Action.{Action}
 use Rattle.operator_model.specs.declared.output.Output.{Output}
@@ -8,13 +8,11 @@ use Rattle.operator_model.specs.State.{Operator}
 use Rattle.dsx_messages.specs.declared.modem.Modem.{Modem}
 use Rattle.operator_model.specs.declared.action.Unfit.{Unfit}
 use Rattle.operator_model.specs.Machine.{own_step, stranger_of, is_spent, unfit_of, IsAllowed}
-use Rattle.operator_model.specs.declared.action.Action.TheVariants as actions
-use Rattle.operator_model.specs.Frames.{is_tick}
 use Rattle.operator_book.specs.declared.book.BookFault.{BookFault}
 use Rattle.operator_book.specs.declared.book.BookFault.TheVariants as faults
 use Rattle.run_model.specs.IsStateAfter.{frames_of}
 use Rattle.plant_core.specs.Faults.{collect_fault}
-use Rattle.plant_core.proofs.WaitingLemmas.{frames_are, one_frame, first_none, first_alone}
+use Rattle.plant_core.proofs.WaitingLemmas.{one_frame, first_none, first_alone}
 
 -- the frame waits behind those that waited
 pub frame_waits : (op : Operator) (action : Action) (outputs : List Output) (waiting : List (ℕ × ElementsFields)) (frame : ℕ × ElementsFields)
@@ -30,22 +28,6 @@ pub none_waits : (op : Operator) (action : Action) (outputs : List Output) (wait
     → waiting ≡ waiting ++ frames_of (own_step op action).outputs
 none_waits op action outputs waiting are none =
     sym (ap (λ fs. waiting ++ fs) (first_none (frames_of (own_step op action).outputs) (ap (λ os. slice_get (frames_of os) 0) (sym are) ∙ sym none)) ∙ append-nil waiting)
-
--- none is put out but by a tick
-quiet : (action : Action) → is_tick action ≡ false → count_by is_tick (action ∷ []) ≡ 0
-quiet (actions.Arrive modem heard) h = refl
-quiet actions.Work h = refl
-quiet actions.Tick h = cc
-quiet (actions.Reslice from row) h = refl
-
-none_long : {X : Type 0} (xs : List X) → length xs ≡ 0 → xs ≡ []
-none_long [] e = refl
-none_long (x ∷ xs) e = absurd (omega (arith, e))
-
-pub quiet_waits : (op : Operator) (action : Action) (waiting : List (ℕ × ElementsFields)) → is_tick action ≡ false
-    → waiting ≡ waiting ++ frames_of (own_step op action).outputs
-quiet_waits op action waiting h =
-    sym (ap (λ fs. waiting ++ fs) (none_long (frames_of (own_step op action).outputs) (frames_are op.consts op.row op.state action ∙ quiet action h)) ∙ append-nil waiting)
 
 -- a frame waits where the queue is not empty
 pub some_wait : {X : Type 0} (xs : List X) (n : ℕ) (empty : Bool) → n ≡ length xs → empty ≡ (n == 0) → empty ≡ false → IsSome (slice_get xs 0)

@@ -1,7 +1,6 @@
 //! What is done to an operator's live desk.
 
 ghost use Rattle.std.specs.Prelude.{◌≡◌, ◌≢◌, ◌<◌, true, false, [], ◌++◌, length, slice_get, Some, Err, IfOk, IfErr, OnOk, OnErr};
-ghost use Rattle.operator_model.specs.Frames.{is_tick};
 ghost use Rattle.operator_model.specs.Machine.{own_step, is_spent, IsAllowed};
 ghost use Rattle.run_model.specs.OwnSteps.{outputs_under};
 ghost use Rattle.run_model.specs.IsStateAfter.{frames_of};
@@ -12,7 +11,7 @@ ghost use Rattle.plant_core.specs.Putting.{FitsOldest, PutsOldest, CollectsOldes
 
 use crate::desk::LiveSlot;
 use map_assembly::{Gather, MapBytes};
-use operator_book::{BookFault, Copies};
+use operator_book::BookFault;
 use operator_model::{Action, Output};
 use plant::Op;
 use plant_core::{CoreFault, append, append_map};
@@ -20,36 +19,22 @@ use run_model::Out;
 use slice_scheduler::Elements;
 use std::alloc::{AllocError, Global};
 
-/// Returns the first frame among outputs.
-fn frame_in(outputs: Vec<Output>) -> Option<(u32, Elements)>
-    ensures { result ≡ slice_get (frames_of outputs.items) 0 }
+/// Returns a copy of the first frame among outputs.
+fn frame_copy(alloc: Global, outputs: &[Output]) -> Result<Option<(u32, Elements)>, AllocError>
+    ensures { IfOk result (λ frame. frame ≡ slice_get (frames_of outputs.now) 0) }
 {
     for output in outputs {
         if let Output::Frame { number, elements } = output {
-            return Some((number, elements));
+            return Ok(Some((*number, elements.copy(alloc)?)));
         }
     }
-    None
-}
-
-/// Returns how many copies of an action's outputs are needed. A tick needs two: one is returned, and
-/// the frame of the other waits. No other action outputs a frame.
-fn copies_for(action: &Action) -> Copies
-    ensures one { result ≡ Copies.One → is_tick action.now ≡ false }
-    ensures two { result ≡ Copies.Two → is_tick action.now ≡ true }
-{
-    match action {
-        Action::Tick => Copies::Two,
-        Action::Arrive { modem: _, heard: _ }
-        | Action::Work
-        | Action::Reslice { from: _, row: _ } => Copies::One,
-    }
+    Ok(None)
 }
 
 impl LiveSlot {
     /// Does an action, and reports what it outputs. Its frame waits. The caller has seen that the
     /// frame numbers are not spent.
-    #[tactic(auto, using(crate::proofs::DeskLemmas::frame_waits, crate::proofs::DeskLemmas::none_waits, crate::proofs::DeskLemmas::quiet_waits))]
+    #[tactic(auto, using(crate::proofs::DeskLemmas::frame_waits, crate::proofs::DeskLemmas::none_waits))]
     #[inline(always)]
     pub fn act(&mut self, alloc: Global, action: Action) -> Result<Vec<Output>, BookFault>
         requires fresh { is_spent self.old.live.sound.state action ≡ false }
@@ -66,15 +51,11 @@ impl LiveSlot {
         ensures memory { IsAllowed self.old.live.sound action → IfErr result (λ fault. fault ≡ BookFault.NoMemory) }
     {
         self.waiting.reserve(1)?;
-        let copies = copies_for(&action);
-        let (told, again) = self.live.act(alloc, action, copies)?;
-        match copies {
-            Copies::One => {}
-            Copies::Two => {
-                if let Some(frame) = frame_in(again) {
-                    self.waiting.push_back_reserved(frame);
-                }
-            }
+        let plan = self.live.plan(alloc, action)?;
+        let frame = frame_copy(alloc, plan.outputs())?;
+        let told = self.live.commit(alloc, plan)?;
+        if let Some(frame) = frame {
+            self.waiting.push_back_reserved(frame);
         }
         Ok(told)
     }

@@ -9,7 +9,7 @@ use crate::step_calls::{StepCall, step_of};
 use crate::steps::HALF;
 use grant_policy::Ranking;
 use live_core::{LiveCore, RestFault, ResumeFault};
-use operator_book::{Action, Copies, Machine, Output, SliceRow};
+use operator_book::{Action, Machine, Output, SliceRow};
 use plant::{Op, Plant};
 use plant_core::{CoreFault, ResliceFault};
 use run_model::Out;
@@ -48,7 +48,7 @@ fn do_action(alloc: Global, machine: &mut Machine, call: MachineCall) -> Option<
     ensures consts { machine.new.sound.consts ≡ machine.old.sound.consts }
 {
     let action = action(alloc, call).ok()?;
-    match machine.act(alloc, action, Copies::One) {
+    match machine.act(alloc, action) {
         Ok(_outputs) => Some(()),
         Err(_fault) => None,
     }
