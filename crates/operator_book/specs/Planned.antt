@@ -28,25 +28,25 @@ abbrev pub without_first : OperatorState → OperatorState
 without_first state = record state { inbox = drop 1 state.inbox }
 
 -- the verdict's change is made to the flows, and its reply is cached
-abbrev pub responded : Operator → Modem → ℕ → Kind → List ℕ → Verdict → OperatorState
-responded op modem tid kind reply v = record op.state {
+abbrev pub state_after_response : Operator → Modem → ℕ → Kind → List ℕ → Verdict → OperatorState
+state_after_response op modem tid kind reply v = record op.state {
   flows = flows_after v op.state.flows;
   kept = op.state.kept ++ begun_entry op.consts.timers modem tid kind reply (sfid_of v) (does_wait v) ∷ [];
 }
 
 -- the backlog of the flow is what its modem requests
-abbrev pub requested : Operator → ℕ → ℕ → OperatorState
-requested op sfid minislots = (with_change op sfid (flow_after_request minislots op.state.frame)).state
+abbrev pub state_after_request : Operator → ℕ → ℕ → OperatorState
+state_after_request op sfid minislots = (with_change op sfid (flow_after_request minislots op.state.frame)).state
 
 abbrev pub state_after_handling : HandledEffect → Operator → OperatorState
 state_after_handling handled.Nothing op = op.state
-state_after_handling (handled.Response modem tid kind reply verdict) op = responded op modem tid kind reply verdict
+state_after_handling (handled.Response modem tid kind reply verdict) op = state_after_response op modem tid kind reply verdict.value
 state_after_handling (handled.Acknowledged modem tid kind code) op = (ack_result op modem tid kind code).state
-state_after_handling (handled.Requested sfid minislots) op = requested op sfid minislots
+state_after_handling (handled.Requested sfid minislots) op = state_after_request op sfid minislots
 
 -- the timers have counted a tick, these grants are taken off the backlogs, and the next frame follows
-abbrev pub ticked : Operator → List (ℕ × ℕ) → OperatorState
-ticked op granted = record {
+abbrev pub state_after_tick : Operator → List (ℕ × ℕ) → OperatorState
+state_after_tick op granted = record {
   flows = all_granted op.state.frame granted (flows_left op.state);
   kept = kept_after op.consts.timers op.state.kept;
   inbox = op.state.inbox;
@@ -59,7 +59,7 @@ abbrev pub state_after : Effect → Operator → OperatorState
 state_after effects.Nothing op = op.state
 state_after (effects.Received arrival) op = (with_inbox op (op.state.inbox ++ arrival ∷ [])).state
 state_after (effects.Handled effect) op = without_first (state_after_handling effect op)
-state_after (effects.Ticked granted) op = ticked op granted
+state_after (effects.Ticked granted) op = state_after_tick op granted
 state_after (effects.Resliced from row) op = (reslice_result op.state from row).state
 
 abbrev pub after_effect : Operator → Effect → Operator
@@ -75,7 +75,7 @@ pub record MayRespond (op : Operator) (modem : Modem) (tid : ℕ) (verdict : Ver
 
 abbrev pub MayHandle : Operator → HandledEffect → Type 0
 MayHandle op handled.Nothing = Unit {0}
-MayHandle op (handled.Response modem tid kind reply verdict) = MayRespond op modem tid verdict
+MayHandle op (handled.Response modem tid kind reply verdict) = MayRespond op modem tid verdict.value
 MayHandle op (handled.Acknowledged modem tid kind code) = Unit {0}
 MayHandle op (handled.Requested sfid minislots) = Unit {0}
 

@@ -55,7 +55,7 @@ fn reply_of(verdict: &Verdict) -> &Reply
 
 /// Returns the output of a reply that was cached before.
 #[inline(always)]
-fn repeated(alloc: Global, modem: Modem, reply: &Bytes) -> Result<Vec<Output>, AllocError>
+fn repeated_reply(alloc: Global, modem: Modem, reply: &Bytes) -> Result<Vec<Output>, AllocError>
     ensures { IfOk result (λ told. told.items ≡ outputs.Reply modem reply.now ∷ []) }
 {
     let bytes = reply.copy(alloc)?;
@@ -96,17 +96,16 @@ impl MachineState {
         let reply = Bytes::from_vec(write_reply(alloc, reply_of(&verdict))?);
         let bytes = reply.copy(alloc)?;
         let outputs = single(alloc, Output::Reply { modem, bytes })?;
+        let verdict = Box::new(alloc, verdict)?;
         Ok(Plan {
             outputs,
-            effect: Effect::Handled {
-                effect: HandledEffect::Response {
-                    modem,
-                    tid,
-                    kind,
-                    reply,
-                    verdict,
-                },
-            },
+            effect: Effect::Handled(HandledEffect::Response {
+                modem,
+                tid,
+                kind,
+                reply,
+                verdict,
+            }),
         })
     }
 
@@ -131,7 +130,7 @@ impl MachineState {
         }
         if let Some(entry) = self.kept.find(modem, tid) {
             let told = if entry.kind == kind {
-                repeated(alloc, modem, &entry.reply)?
+                repeated_reply(alloc, modem, &entry.reply)?
             } else {
                 let modem = Some(modem);
                 single(
@@ -166,9 +165,7 @@ impl MachineState {
         if let Some(outputs) = self.early_answer(alloc, modem, kind, tid)? {
             return Ok(Plan {
                 outputs,
-                effect: Effect::Handled {
-                    effect: HandledEffect::Nothing,
-                },
+                effect: Effect::Handled(HandledEffect::Nothing),
             });
         }
         let verdict = self.verdict(modem, request);

@@ -6,7 +6,7 @@ ghost use Rattle.flow_table.specs.Flow.{flow_after_ack, flow_after_request};
 ghost use Rattle.operator_model.specs.Changed.{with_flows, with_change, with_inbox};
 ghost use Rattle.operator_model.specs.Handle.{undone, flows_after, sfid_of, does_wait, ack_result};
 ghost use Rattle.operator_book.specs.Held.{flow_table_of, MayPut};
-ghost use Rattle.operator_book.specs.Planned.{MayCommit, MayHandle, MayRespond, after_effect, state_after_handling, responded};
+ghost use Rattle.operator_book.specs.Planned.{MayCommit, MayHandle, MayRespond, after_effect, state_after_handling, state_after_response};
 
 use crate::machine::MachineState;
 use crate::plan::{Effect, HandledEffect, Plan};
@@ -67,8 +67,8 @@ impl MachineState {
     {
         match effect {
             Effect::Nothing => Ok(()),
-            Effect::Received { arrival } => Ok(self.inbox.push_back(arrival)?),
-            Effect::Handled { effect } => {
+            Effect::Received(arrival) => Ok(self.inbox.push_back(arrival)?),
+            Effect::Handled(effect) => {
                 self.commit_handled(effect)?;
                 self.take_first();
                 Ok(())
@@ -131,7 +131,7 @@ impl MachineState {
         verdict: &Verdict,
     ) -> Result<(), AllocError>
         requires { MayRespond self.old modem tid verdict.now }
-        ensures ok { OnOk result (self.new ≡ record self.old { state = responded self.old modem tid kind reply verdict.now }) }
+        ensures ok { OnOk result (self.new ≡ record self.old { state = state_after_response self.old modem tid kind reply verdict.now }) }
         ensures err { OnErr result (self.new ≡ self.old) }
     {
         self.change_flows(verdict)?;

@@ -41,9 +41,7 @@ impl MachineState {
         let outputs = single(alloc, Output::Silent { modem, cause })?;
         Ok(Plan {
             outputs,
-            effect: Effect::Handled {
-                effect: HandledEffect::Nothing,
-            },
+            effect: Effect::Handled(HandledEffect::Nothing),
         })
     }
 
@@ -61,9 +59,7 @@ impl MachineState {
         if let Some(outputs) = self.early_answer(alloc, modem, kind, tid)? {
             return Ok(Plan {
                 outputs,
-                effect: Effect::Handled {
-                    effect: HandledEffect::Nothing,
-                },
+                effect: Effect::Handled(HandledEffect::Nothing),
             });
         }
         self.response_plan(alloc, modem, kind, tid, Verdict::Refused { reply })
@@ -95,14 +91,12 @@ impl MachineState {
         };
         Ok(Plan {
             outputs: Vec::new(alloc),
-            effect: Effect::Handled {
-                effect: HandledEffect::Acknowledged {
-                    modem,
-                    tid,
-                    kind,
-                    code,
-                },
-            },
+            effect: Effect::Handled(HandledEffect::Acknowledged {
+                modem,
+                tid,
+                kind,
+                code,
+            }),
         })
     }
 
@@ -127,12 +121,10 @@ impl MachineState {
         }
         Ok(Plan {
             outputs: Vec::new(alloc),
-            effect: Effect::Handled {
-                effect: HandledEffect::Requested {
-                    sfid: asker.sfid,
-                    minislots,
-                },
-            },
+            effect: Effect::Handled(HandledEffect::Requested {
+                sfid: asker.sfid,
+                minislots,
+            }),
         })
     }
 
@@ -253,9 +245,7 @@ impl MachineState {
         }
         Ok(Plan {
             outputs: Vec::new(alloc),
-            effect: Effect::Received {
-                arrival: Arrival { modem, heard },
-            },
+            effect: Effect::Received(Arrival { modem, heard }),
         })
     }
 }

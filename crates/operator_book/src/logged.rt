@@ -85,15 +85,15 @@ impl RecordedMachine {
         // For the proof: what always holds of `self`.
         self.always();
         room_for_one(&mut self.history)?;
-        let done = action.copy(alloc)?;
+        let recorded = action.copy(alloc)?;
         let plan = self.machine.plan(alloc, ranking, action)?;
-        let kept = output_copies(alloc, plan.outputs())?;
-        let told = self.machine.commit(alloc, plan)?;
+        let copies = output_copies(alloc, plan.outputs())?;
+        let outputs = self.machine.commit(alloc, plan)?;
         self.history.push_reserved(Entry {
-            action: done,
-            outputs: Outputs::from_vec(kept),
+            action: recorded,
+            outputs: Outputs::from_vec(copies),
         });
-        Ok(told)
+        Ok(outputs)
     }
 
     /// Makes room for one entry more, which a slice change will take.

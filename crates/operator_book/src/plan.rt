@@ -22,9 +22,9 @@ pub(crate) enum Effect {
     /// Nothing changes.
     Nothing,
     /// What was received is put at the end of the inbox.
-    Received { arrival: Arrival },
+    Received(Arrival),
     /// What was received first is taken out of the inbox, and has this effect.
-    Handled { effect: HandledEffect },
+    Handled(HandledEffect),
     /// The timers count one tick, these grants are taken off the backlogs, and the next frame
     /// follows.
     Ticked { granted: Grants },
@@ -37,13 +37,14 @@ pub(crate) enum Effect {
 pub(crate) enum HandledEffect {
     /// Nothing changes.
     Nothing,
-    /// The verdict's change is made to the flows, and these bytes of its reply are cached.
+    /// The verdict's change is made to the flows, and these bytes of its reply are cached. The
+    /// verdict is boxed, so that a plan is small: a flow is large.
     Response {
         modem: Modem,
         tid: u16,
         kind: Kind,
         reply: Bytes,
-        verdict: Verdict,
+        verdict: Box<Verdict>,
     },
     /// The response that waits for this acknowledgement is held, and what waits of its flow is
     /// committed or undone.

@@ -6,7 +6,7 @@ ghost use Rattle.flow_table.specs.Flow.{flow_after_grant};
 ghost use Rattle.operator_model.specs.Changed.{with_flows, with_change};
 ghost use Rattle.operator_model.specs.Frame.{tick_result, resent, all_undone, all_granted, share_at, next_at, frame_elements, frame_grants};
 ghost use Rattle.operator_model.specs.Sound.{IsSound};
-ghost use Rattle.operator_book.specs.Planned.{IsPlanFor, ticked};
+ghost use Rattle.operator_book.specs.Planned.{IsPlanFor, state_after_tick};
 
 use crate::machine::MachineState;
 use crate::plan::{Effect, Plan};
@@ -130,7 +130,7 @@ impl MachineState {
         granted: &[(u32, u16)],
     ) -> Result<(), AllocError>
         requires { self.old.state.frame < 4294967295 }
-        ensures ok { OnOk result (self.new ≡ record self.old { state = ticked self.old granted.now }) }
+        ensures ok { OnOk result (self.new ≡ record self.old { state = state_after_tick self.old granted.now }) }
         ensures err { OnErr result (self.new ≡ self.old) }
     {
         let Ticked {
