@@ -67,13 +67,15 @@ outs_told plant books maps =
     ap (λ (t : List ℕ). outs_text plant (outs_from 0 books) ++ t) (sym (flat_map-map (out_line plant) (λ (made : MapBytes). outs.Map made) maps))
     ∙ sym (flat_map-append (out_line plant) (outs_from 0 books) (map (λ (made : MapBytes). outs.Map made) maps))
 
--- all of them, behind nothing
-pub all_told : (plant : PlantFields) (books these : List BookView) (maps those : List MapBytes) (start first second : List ℕ) → start ≡ []
+-- all of them, behind what was there
+pub all_told : (plant : PlantFields) (books these : List BookView) (maps those : List MapBytes) (start first second : List ℕ)
     → first ≡ start ++ outs_text plant (outs_from 0 these) → second ≡ first ++ flat_map map_line those → these ≡ books → those ≡ maps
-    → second ≡ outs_text plant (outs_of books maps)
-all_told plant books these maps those start first second empty begun grown same_books same_maps =
+    → second ≡ start ++ outs_text plant (outs_of books maps)
+all_told plant books these maps those start first second begun grown same_books same_maps =
     grown
-    ∙ (ap (λ (t : List ℕ). t ++ flat_map map_line those) (begun ∙ ap (λ (t : List ℕ). t ++ outs_text plant (outs_from 0 these)) empty)
-    ∙ (ap (λ (bs : List BookView). outs_text plant (outs_from 0 bs) ++ flat_map map_line those) same_books
+    ∙ (ap (λ (t : List ℕ). t ++ flat_map map_line those) begun
+    ∙ (append_assoc start (outs_text plant (outs_from 0 these)) (flat_map map_line those)
+    ∙ ap (λ (t : List ℕ). start ++ t)
+    (ap (λ (bs : List BookView). outs_text plant (outs_from 0 bs) ++ flat_map map_line those) same_books
     ∙ (ap (λ (ms : List MapBytes). outs_text plant (outs_from 0 books) ++ flat_map map_line ms) same_maps
-    ∙ outs_told plant books maps)))
+    ∙ outs_told plant books maps))))

@@ -3,7 +3,6 @@
 ghost use Rattle.std.specs.Prelude.{◌≡◌, ◌<◌, ◌++◌, length, map, slice_get, IfOk, OnOk};
 ghost use Rattle.std.specs.List.{flat_map};
 ghost use Rattle.std.specs.Io.KnownBytes.{Appends};
-ghost use Rattle.std.specs.String.{string_bytes};
 ghost use Rattle.operator_book.specs.ViewOf.{view_of, policy_of};
 ghost use Rattle.run_audit.specs.Outs.{outs_from, outs_of};
 ghost use Rattle.run_receipts.specs.OwnParts.{history_outputs};
@@ -11,7 +10,7 @@ ghost use Rattle.script_format.specs.Script.{steps_without_numbers};
 ghost use Rattle.script_format.specs.Text.{operator_name, map_line, output_line, outs_text};
 ghost use Rattle.plant_workers.specs.Faulting.{IsFault};
 ghost use Rattle.plant_script.specs.Task.{IsWritten};
-ghost use Rattle.plant_script.specs.OnThreads.{IsThreadedRunOf, ReportsCore, ReportsFault, ReportsPlace, ReportsStray, refused_place_text};
+ghost use Rattle.plant_script.specs.OnThreads.{IsThreadedRunOf, ReportsCore, ReportsFault, ReportsPlace, ReportsStray, refused_place_text, stray_line};
 ghost use Rattle.plant_script.specs.Statuses.{status_code};
 
 use crate::answer::Answer;
@@ -28,7 +27,7 @@ use plant_workers::{OpenGate, run_workers};
 use run_model::Step;
 use run_plan::first_spent;
 use run_receipts::{RunFault, Settled};
-use script_format::{LineStep, put_map, put_name, put_output};
+use script_format::{LineStep, write_map, write_name, write_output};
 use std::alloc::{AllocError, Global};
 use std::io;
 use std::io::Write;
@@ -47,63 +46,55 @@ fn steps_in(alloc: Global, lines: &[LineStep]) -> Result<Vec<Step>, AllocError>
 }
 
 /// Appends the lines of an operator's outputs.
-fn put_outputs(
-    alloc: Global,
-    text: &mut String,
-    plant: &Plant,
-    op: Op,
-    outputs: &[Output],
-) -> Result<(), AllocError>
-    ensures { OnOk result (string_bytes text.new ≡ string_bytes text.old
+fn put_outputs(text: &mut Vec<u8>, plant: &Plant, op: Op, outputs: &[Output]) -> io::Result<()>
+    ensures { OnOk result (text.new.items ≡ text.old.items
         ++ flat_map (output_line (operator_name (slice_get plant.now.rows op))) outputs.now) }
 {
     for output in outputs {
-        put_output(alloc, text, plant, op, output)?;
+        write_output(text, plant, op, output)?;
     }
     Ok(())
 }
 
 /// Appends the lines of all that an operator's history output.
-fn put_history(
-    alloc: Global,
-    text: &mut String,
-    plant: &Plant,
-    op: Op,
-    history: &[Entry],
-) -> Result<(), AllocError>
-    ensures { OnOk result (string_bytes text.new ≡ string_bytes text.old
+fn put_history(text: &mut Vec<u8>, plant: &Plant, op: Op, history: &[Entry]) -> io::Result<()>
+    ensures { OnOk result (text.new.items ≡ text.old.items
         ++ flat_map (output_line (operator_name (slice_get plant.now.rows op))) (history_outputs history.now)) }
 {
     for entry in history {
-        put_outputs(alloc, text, plant, op, entry.outputs.as_slice())?;
+        put_outputs(text, plant, op, entry.outputs.as_slice())?;
     }
     Ok(())
 }
 
 /// Appends the lines of all that the operators' books output, book by book.
-fn put_books(
-    alloc: Global,
-    text: &mut String,
-    plant: &Plant,
-    books: &[Book],
-) -> Result<(), AllocError>
-    ensures { OnOk result (string_bytes text.new ≡ string_bytes text.old
+fn put_books(text: &mut Vec<u8>, plant: &Plant, books: &[Book]) -> io::Result<()>
+    ensures { OnOk result (text.new.items ≡ text.old.items
         ++ outs_text plant.now (outs_from 0 (map view_of books.now))) }
 {
     for (op, book) in books.iter().enumerate() {
-        put_history(alloc, text, plant, op, book.history())?;
+        put_history(text, plant, op, book.history())?;
     }
     Ok(())
 }
 
 /// Appends the lines of MAPs.
-fn put_maps(alloc: Global, text: &mut String, maps: &[MapBytes]) -> Result<(), AllocError>
-    ensures { OnOk result (string_bytes text.new ≡ string_bytes text.old ++ flat_map map_line maps.now) }
+fn put_maps(text: &mut Vec<u8>, maps: &[MapBytes]) -> io::Result<()>
+    ensures { OnOk result (text.new.items ≡ text.old.items ++ flat_map map_line maps.now) }
 {
     for made in maps {
-        put_map(alloc, text, made)?;
+        write_map(text, made)?;
     }
     Ok(())
+}
+
+/// Appends the lines of all that a settled run output: the operators' books, and then the MAPs.
+fn put_settled(text: &mut Vec<u8>, plant: &Plant, settled: &Settled) -> io::Result<()>
+    ensures { OnOk result (text.new.items ≡ text.old.items
+        ++ outs_text plant.now (outs_of (map view_of settled.now.books.items) settled.now.maps.items)) }
+{
+    put_books(text, plant, settled.books.as_slice())?;
+    put_maps(text, settled.maps.as_slice())
 }
 
 /// Returns what is answered where the run is settled.
@@ -111,14 +102,14 @@ fn answer_of_settled(alloc: Global, plant: &Plant, settled: &Settled) -> Result<
     ensures { IfOk result (λ answer. (status_code answer.status ≡ 0) × (answer.text.items
         ≡ outs_text plant.now (outs_of (map view_of settled.now.books.items) settled.now.maps.items))) }
 {
-    let mut text = String::new(alloc);
-    put_books(alloc, &mut text, plant, settled.books.as_slice())?;
-    put_maps(alloc, &mut text, settled.maps.as_slice())?;
-    let text = text.into_bytes();
-    Ok(Answer {
-        status: Status::Success,
-        text,
-    })
+    let mut text = Vec::new(alloc);
+    match put_settled(&mut text, plant, settled) {
+        Ok(()) => Ok(Answer {
+            status: Status::Success,
+            text,
+        }),
+        Err(_full) => Err(AllocError),
+    }
 }
 
 /// Returns what is answered where the line at a place of the script's steps is refused.
@@ -144,6 +135,19 @@ fn answer_to_core(alloc: Global, plant: &Plant, lines: &[LineStep]) -> Result<An
     }
 }
 
+/// Appends the line of an operator whose history strays, at this place or at none.
+fn put_stray(text: &mut Vec<u8>, plant: &Plant, op: Op, index: Option<usize>) -> io::Result<()>
+    ensures { OnOk result (text.new.items ≡ text.old.items
+        ++ stray_line (operator_name (slice_get plant.now.rows op)) (refused_place_text index)) }
+{
+    text.write_all(b"fault: strayed ")?;
+    write_name(text, plant, op)?;
+    match index {
+        Some(index) => write!(text, " {index}\n"),
+        None => text.write_all(b" -\n"),
+    }
+}
+
 /// Returns what is answered where an operator's history strays, at this place or at none.
 fn answer_to_stray(
     alloc: Global,
@@ -154,17 +158,14 @@ fn answer_to_stray(
     ensures { IfOk result (λ answer.
         ReportsStray (operator_name (slice_get plant.now.rows op)) (refused_place_text index) (status_code answer.status) answer.text.items) }
 {
-    let mut text = String::from_str(alloc, "fault: strayed ")?;
-    put_name(&mut text, plant, op)?;
-    match index {
-        Some(index) => write!(text, " {index}\n")?,
-        None => text.push_str(" -\n")?,
+    let mut text = Vec::new(alloc);
+    match put_stray(&mut text, plant, op, index) {
+        Ok(()) => Ok(Answer {
+            status: Status::Strayed,
+            text,
+        }),
+        Err(_full) => Err(AllocError),
     }
-    let text = text.into_bytes();
-    Ok(Answer {
-        status: Status::Strayed,
-        text,
-    })
 }
 
 /// Returns what is answered to a fault that comes of the run's steps.

@@ -2,7 +2,6 @@
 
 ghost use Rattle.std.specs.Prelude.{◌≡◌, ◌≢◌, ◌++◌, [], map, slice_get, IfOk, OnOk};
 ghost use Rattle.std.specs.Io.KnownBytes.{Appends};
-ghost use Rattle.std.specs.String.{string_bytes};
 ghost use Rattle.plant.specs.declared.plant.PlantFields.{PlantFields};
 ghost use Rattle.run_model.specs.IsStateAfter.{IsStateAfter};
 ghost use Rattle.plant_core.specs.CoreView.{core_view};
@@ -27,7 +26,7 @@ use line_service::run_steps;
 use live_core::LiveCore;
 use plant::{Op, Plant};
 use plant_core::{CoreOpenFault, PlantCore};
-use script_format::{LineStep, put_actions};
+use script_format::{LineStep, write_actions};
 use std::alloc::{AllocError, Global};
 use std::io;
 use std::io::Write;
@@ -53,25 +52,26 @@ fn run_unheard(
 }
 
 /// Returns the text, and after it the invalid line, if there is one.
-fn answer_of_text(mut text: String, refused: Option<u64>) -> Result<Answer, AllocError>
-    ensures { IfOk result (λ answer. IsEnded (string_bytes text) refused answer) }
+fn answer_of_text(mut text: Vec<u8>, refused: Option<u64>) -> Result<Answer, AllocError>
+    ensures { IfOk result (λ answer. IsEnded text.items refused answer) }
 {
     let mut status = Status::Success;
     if let Some(number) = refused {
-        write!(text, "fault: line {number}\n")?;
+        if write!(text, "fault: line {number}\n").is_err() {
+            return Err(AllocError);
+        }
         status = Status::InvalidLine;
     }
-    let text = text.into_bytes();
     Ok(Answer { status, text })
 }
 
 /// Appends the lines of all that an operator did; none past the last operator.
-fn put_history(alloc: Global, text: &mut String, core: &PlantCore, op: Op) -> Result<(), AllocError>
-    ensures { OnOk result (string_bytes text.new ≡ string_bytes text.old
+fn put_history(text: &mut Vec<u8>, core: &PlantCore, op: Op) -> io::Result<()>
+    ensures { OnOk result (text.new.items ≡ text.old.items
         ++ book_text (slice_get (core_view core.now).books op)) }
 {
     match core.history(op) {
-        Some(history) => put_actions(alloc, text, history),
+        Some(history) => write_actions(text, history),
         None => Ok(()),
     }
 }
@@ -88,9 +88,11 @@ fn answer_of_history(
         (λ done told. history_at (slice_get (core_view core.old).plant.rows op) op done) (status_code answer.status) answer.text.items) }
 {
     let refused = run_unheard(alloc, core, lines)?;
-    let mut text = String::new(alloc);
-    put_history(alloc, &mut text, core, op)?;
-    answer_of_text(text, refused)
+    let mut text = Vec::new(alloc);
+    match put_history(&mut text, core, op) {
+        Ok(()) => answer_of_text(text, refused),
+        Err(_full) => Err(AllocError),
+    }
 }
 
 /// Returns a core of the plant, as it is opened. The rankings are in the plant's order of

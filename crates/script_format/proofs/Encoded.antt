@@ -1,11 +1,20 @@
 -- Lists written part by part: what they are written as is written of their parts, one behind the other.
-use Rattle.std.proofs.Common.{◌≡◌, ℕ, ◌+◌, ◌*◌, ◌-◌, ◌/◌, ◌%◌, List, [], ◌∷◌, ◌++◌, length, take, drop, ap, refl, sym, subst, ◌∙◌, append_assoc, append-nil, take-append-drop, length-drop, arith, Option}
+use Rattle.std.proofs.Common.{◌≡◌, ℕ, ◌+◌, ◌*◌, ◌-◌, ◌/◌, ◌%◌, ◌<◌, List, [], ◌∷◌, ◌++◌, length, take, drop, ap, refl, sym, subst, ◌∙◌, append_assoc, append-nil, take-append-drop, length-drop, arith, Option}
 use Rattle.std.specs.Prelude.{slice_index, slice_range}
 use Rattle.std.specs.Io.KnownBytes.{Appends}
 use Rattle.std.specs.List.{flat_map}
 use Rattle.std.proofs.KnownBytes.{Appends-trans}
 use Rattle.std.proofs.lemmas.List.{take-take, drop-take, drop_all, take_all}
-use Rattle.hex.specs.Hex.{encode_upper, encode_with}
+use Rattle.dsx_messages.specs.Modem.{hex_digit, hex_pair}
+use Rattle.hex.specs.Hex.{encode_upper, encode_with, upper_digits}
+
+-- a digit of the table
+digit_is : (n : ℕ) → n < 16 → slice_index upper_digits n ≡ hex_digit n
+digit_is n lt = grind (arith)
+
+-- the two digits of a byte, of the table
+pub pair_is : (byte : ℕ) → byte < 256 → slice_index upper_digits (byte / 16) ∷ slice_index upper_digits (byte % 16) ∷ [] ≡ hex_pair byte
+pair_is byte lt = rw (digit_is (byte / 16) (omega arith), digit_is (byte % 16) (omega arith)) refl
 
 -- bytes in hexadecimal, one list behind the other
 pub encode_more : (t xs ys : List ℕ) → encode_with t (xs ++ ys) ≡ encode_with t xs ++ encode_with t ys

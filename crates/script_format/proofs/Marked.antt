@@ -1,10 +1,7 @@
--- Numbers behind marks, and pairs of digits.
+-- Numbers behind marks.
 use Rattle.std.proofs.Common.{◌≡◌, ℕ, ◌+◌, ◌-◌, ◌^◌, ◌<◌, ◌≤◌, List, [], ◌∷◌, ◌++◌, length, drop, set, arith, ap, ◌∙◌, refl, sym, subst, length-set, append_assoc}
 use Rattle.std.specs.Fmt.{decimal}
-use Rattle.std.specs.Str.{IsAscii}
-use Rattle.std.proofs.lemmas.Fmt.{length-decimal-le, IsAscii-decimal}
-use Rattle.std.proofs.lemmas.Str.{IsAscii-append}
-use Rattle.std.proofs.lemmas.Str.Ascii.{IsAscii-cons, IsAscii-nil}
+use Rattle.std.proofs.lemmas.Fmt.{length-decimal-le}
 use Rattle.std.proofs.lemmas.List.{drop-set}
 use Rattle.slice_scheduler.specs.declared.span.Span.{Span}
 use Rattle.slice_scheduler.specs.Iuc.{iuc_number}
@@ -21,10 +18,6 @@ marked xs rest s m some within e =
     let back : s - 1 + 1 ≡ s = omega arith in
     drop-set xs (s - 1) m lt ∙ ap (λ (ys : List ℕ). m ∷ ys) (ap (λ (i : ℕ). drop i xs) back ∙ e)
 
--- a number behind a mark is ASCII
-pub marked_ascii : (m n : ℕ) (rest : List ℕ) → m < 128 → n < 2 ^ 16 → IsAscii rest → IsAscii (m ∷ (decimal n ++ rest))
-marked_ascii m n rest lt h ascii = IsAscii-cons m _ lt (IsAscii-append (decimal n) rest (IsAscii-decimal n (omega arith)) ascii)
-
 -- four numbers, each behind a mark
 abbrev pub in_marks : List ℕ → List ℕ → List ℕ → List ℕ → List ℕ
 in_marks sid iuc start len = 32 ∷ (sid ++ 47 ∷ (iuc ++ 47 ∷ (start ++ 47 ∷ len)))
@@ -37,26 +30,11 @@ marks_before sid iuc start len rest =
     ∙ ap (λ (t : List ℕ). sid ++ 47 ∷ t) (append_assoc iuc (47 ∷ (start ++ 47 ∷ len)) rest
     ∙ ap (λ (t : List ℕ). iuc ++ 47 ∷ t) (append_assoc start (47 ∷ len) rest))))
 
-pub pending_ascii : IsAscii (47 ∷ 80 ∷ [])
-pending_ascii = IsAscii-cons 47 (80 ∷ []) (omega arith) (IsAscii-cons 80 [] (omega arith) IsAscii-nil)
-
 -- four numbers written one before the other
 pub marks_written : (span : Span) (d4 d3 d2 d1 d0 : List ℕ) → d4 ≡ 32 ∷ (decimal span.sid ++ d3) → d3 ≡ 47 ∷ (decimal (iuc_number span.iuc) ++ d2)
     → d2 ≡ 47 ∷ (decimal span.start ++ d1) → d1 ≡ 47 ∷ (decimal span.len ++ d0) → d4 ≡ after_space (span_text span) ++ d0
 marks_written span d4 d3 d2 d1 d0 e4 e3 e2 e1 =
     rw (e4, e3, e2, e1) (marks_before (decimal span.sid) (decimal (iuc_number span.iuc)) (decimal span.start) (decimal span.len) d0)
-
--- two characters before others
-pub pair_ascii : (a b : ℕ) (rest : List ℕ) → (a < 128) × (b < 128) → IsAscii rest → IsAscii (a ∷ b ∷ rest)
-pair_ascii a b rest small ascii = IsAscii-cons a (b ∷ rest) small.0 (IsAscii-cons b rest small.1 ascii)
-
--- three texts, one behind the other
-pub headed : (old one two new head name rest : List ℕ) → one ≡ old ++ head → two ≡ one ++ name → new ≡ two ++ rest
-    → new ≡ old ++ (head ++ (name ++ rest))
-headed old one two new head name rest first second third =
-    third
-    ∙ (ap (λ (t : List ℕ). t ++ rest) (second ∙ ap (λ (t : List ℕ). t ++ name) first)
-    ∙ (append_assoc (old ++ head) name rest ∙ append_assoc old head (name ++ rest)))
 
 -- the mark of a grant pending, written before what stands from a place on
 pub pending_marks : (xs : List ℕ) (end : ℕ) → 2 ≤ end → end ≤ length xs → drop (end - 2) (set (set xs (end - 1) 80) (end - 2) 47) ≡ 47 ∷ 80 ∷ drop end xs

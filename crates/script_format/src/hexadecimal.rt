@@ -1,7 +1,8 @@
 //! Bytes in upper-case hexadecimal, many of them in one write.
 
-ghost use Rattle.std.specs.Prelude.{◌≡◌, ◌*◌, ◌<◌, ◌≤◌, [], ◌∷◌, ◌++◌, length, take, slice_index, OnOk};
+ghost use Rattle.std.specs.Prelude.{◌≡◌, ◌*◌, ◌/◌, ◌%◌, ◌<◌, ◌≤◌, [], ◌∷◌, ◌++◌, length, take, slice_index, OnOk};
 ghost use Rattle.std.specs.Io.KnownBytes.{Appends};
+ghost use Rattle.dsx_messages.specs.Modem.{hex_pair};
 ghost use Rattle.hex.specs.Hex.{encode_upper, upper_digits};
 
 use std::io;
@@ -24,15 +25,25 @@ fn digit(number: u8) -> u8
     DIGITS[number as usize]
 }
 
+/// Returns the two digits of a byte.
+#[tactic(auto, using(crate::proofs::Encoded::pair_is))]
+pub(crate) fn hex_pair(byte: u8) -> (u8, u8)
+    ensures high { result.0 ≡ slice_index upper_digits (byte / 16) }
+    ensures low { result.1 ≡ slice_index upper_digits (byte % 16) }
+    ensures pair { result.0 ∷ result.1 ∷ [] ≡ hex_pair byte }
+{
+    (digit(byte / 16), digit(byte % 16))
+}
+
 /// Puts the digits of bytes at the front of their room.
 fn fill(room: &mut [u8; ROOM], bytes: &[u8])
     requires { length bytes.now ≤ 64 }
     ensures { take (2 * length bytes.now) room.new ≡ encode_upper bytes.now }
 {
     for i in 0..bytes.len() {
-        let byte = bytes[i];
-        room[2 * i] = digit(byte / 16);
-        room[2 * i + 1] = digit(byte % 16);
+        let (high, low) = hex_pair(bytes[i]);
+        room[2 * i] = high;
+        room[2 * i + 1] = low;
     }
 }
 

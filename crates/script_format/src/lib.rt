@@ -8,7 +8,6 @@ mod hexadecimal;
 mod input;
 mod lines;
 mod script;
-mod text;
 mod unhex;
 mod writing;
 
@@ -17,5 +16,4 @@ pub use fields::FieldFault;
 pub use input::{before_bar, plant_text, script_text};
 pub use lines::{LineFault, message_in, messages_of, parts_of, put_parts};
 pub use script::{LineStep, Sender, place_of, put_line, steps_of};
-pub use text::{put_actions, put_map, put_name, put_output};
-pub use writing::write_outs;
+pub use writing::{write_actions, write_map, write_name, write_output, write_outs};

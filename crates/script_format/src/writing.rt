@@ -1,21 +1,23 @@
-//! The text of what is output, written where it is made: no memory is taken for it.
+//! The lines of outputs and of an operator's own steps, written where they are made: no memory is
+//! taken for them.
 
 ghost use Rattle.std.specs.Prelude.{◌≤◌, ◌++◌, ◌∷◌, [], length, codes, slice_get, OnOk};
 ghost use Rattle.std.specs.Io.KnownBytes.{Appends};
 ghost use Rattle.std.specs.List.{flat_map};
 ghost use Rattle.hex.specs.Hex.{encode_upper};
 ghost use Rattle.operator_model.specs.declared.output.Output.TheVariants.{Silent, Frame};
-ghost use Rattle.script_format.specs.Text.{address, after_space, span_text, pending_text, elements_text, operator_name, sender_text, output_line, map_line, out_line, outs_text};
+ghost use Rattle.operator_model.specs.Replay.{actions_of};
+ghost use Rattle.script_format.specs.Text.{address, after_space, span_text, pending_text, elements_text, operator_name, sender_text, message_text, output_line, map_line, out_line, outs_text, heard_line, action_line, actions_text};
 
 use crate::causes::cause_name;
 use crate::digits::{
-    PENDINGS, PENDINGS_ROOM, SPANS, SPANS_ROOM, address_digits, pendings_digits, reply_head,
+    PENDINGS, PENDINGS_ROOM, SPANS, SPANS_ROOM, address_digits, line_head, pendings_digits,
     spans_digits,
 };
 use crate::hexadecimal::write_hex_line;
 use dsx_messages::Modem;
 use map_assembly::MapBytes;
-use operator_model::{Cause, Output};
+use operator_model::{Action, Cause, Entry, Heard, Output, SliceRow};
 use plant::{Op, Plant};
 use run_model::Out;
 use slice_scheduler::{Elements, Span};
@@ -86,7 +88,7 @@ fn write_elements<W: Write>(writer: &mut W, elements: &Elements) -> io::Result<(
 }
 
 /// Writes the name of an operator.
-fn write_name<W: Write>(writer: &mut W, plant: &Plant, op: Op) -> io::Result<()>
+pub fn write_name<W: Write>(writer: &mut W, plant: &Plant, op: Op) -> io::Result<()>
     ensures { OnOk result (Appends (W.contents writer.old) (W.contents writer.new) (operator_name (slice_get plant.now.rows op))) }
 {
     match plant.rows().get(op) {
@@ -121,7 +123,7 @@ fn write_reply<W: Write>(writer: &mut W, modem: Modem, bytes: &[u8]) -> io::Resu
     ensures { OnOk result (Appends (W.contents writer.old) (W.contents writer.new)
         (codes "R " ++ (address modem ++ (codes " " ++ (encode_upper bytes.now ++ 10 ∷ []))))) }
 {
-    writer.write_all(&reply_head(modem))?;
+    writer.write_all(&line_head(b'R', modem))?;
     write_hex_line(writer, bytes)
 }
 
@@ -144,7 +146,12 @@ fn write_frame<W: Write>(
 }
 
 /// Writes the line of an operator's output.
-fn write_output<W: Write>(writer: &mut W, plant: &Plant, op: Op, output: &Output) -> io::Result<()>
+pub fn write_output<W: Write>(
+    writer: &mut W,
+    plant: &Plant,
+    op: Op,
+    output: &Output,
+) -> io::Result<()>
     ensures { OnOk result (Appends (W.contents writer.old) (W.contents writer.new)
         (output_line (operator_name (slice_get plant.now.rows op)) output.now)) }
 {
@@ -156,7 +163,7 @@ fn write_output<W: Write>(writer: &mut W, plant: &Plant, op: Op, output: &Output
 }
 
 /// Writes the line of a MAP.
-fn write_map<W: Write>(writer: &mut W, made: &MapBytes) -> io::Result<()>
+pub fn write_map<W: Write>(writer: &mut W, made: &MapBytes) -> io::Result<()>
     ensures { OnOk result (Appends (W.contents writer.old) (W.contents writer.new) (map_line made.now)) }
 {
     let frame = made.frame;
@@ -180,6 +187,65 @@ pub fn write_outs<W: Write>(writer: &mut W, plant: &Plant, outs: &[Out]) -> io::
 {
     for out in outs {
         write_out(writer, plant, out)?;
+    }
+    Ok(())
+}
+
+/// Writes the bytes of a message, a dash for none, and the end of their line.
+fn write_message_bytes<W: Write>(writer: &mut W, bytes: &[u8]) -> io::Result<()>
+    ensures { OnOk result (Appends (W.contents writer.old) (W.contents writer.new) (message_text bytes.now ++ 10 ∷ [])) }
+{
+    if bytes.is_empty() {
+        writer.write_all(b"-\n")
+    } else {
+        write_hex_line(writer, bytes)
+    }
+}
+
+/// Writes the line of a message of a modem.
+fn write_message<W: Write>(writer: &mut W, modem: Modem, bytes: &[u8]) -> io::Result<()>
+    ensures { OnOk result (Appends (W.contents writer.old) (W.contents writer.new)
+        (codes "M " ++ (address modem ++ (codes " " ++ (message_text bytes.now ++ 10 ∷ []))))) }
+{
+    writer.write_all(&line_head(b'M', modem))?;
+    write_message_bytes(writer, bytes)
+}
+
+/// Writes the line of what was received of a modem.
+fn write_heard<W: Write>(writer: &mut W, modem: Modem, heard: &Heard) -> io::Result<()>
+    ensures { OnOk result (Appends (W.contents writer.old) (W.contents writer.new) (heard_line modem heard.now)) }
+{
+    match heard {
+        Heard::Message(bytes) => write_message(writer, modem, bytes.as_slice()),
+        Heard::Request { sid, minislots } => write!(writer, "Q {modem} {sid} {minislots}\n"),
+    }
+}
+
+/// Writes the line of an action.
+fn write_action<W: Write>(writer: &mut W, action: &Action) -> io::Result<()>
+    ensures { OnOk result (Appends (W.contents writer.old) (W.contents writer.new) (action_line action.now)) }
+{
+    match action {
+        Action::Arrive { modem, heard } => write_heard(writer, *modem, heard),
+        Action::Work => writer.write_all(b"W\n"),
+        Action::Tick => writer.write_all(b"T\n"),
+        Action::Reslice { from, row } => {
+            let SliceRow {
+                start,
+                length,
+                budget,
+            } = *row;
+            write!(writer, "Z {from} {start}/{length}/{budget}\n")
+        }
+    }
+}
+
+/// Writes the lines of the actions of a history.
+pub fn write_actions<W: Write>(writer: &mut W, history: &[Entry]) -> io::Result<()>
+    ensures { OnOk result (Appends (W.contents writer.old) (W.contents writer.new) (actions_text (actions_of history.now))) }
+{
+    for entry in history {
+        write_action(writer, &entry.action)?;
     }
     Ok(())
 }

@@ -9,7 +9,7 @@ use param_sets::{ParamSet, Units, need};
 use plant::Op;
 use plant_core::PlantCore;
 use run_model::Out;
-use script_format::{cause_name, put_name};
+use script_format::cause_name;
 use slice_scheduler::{Elements, Iuc, Span};
 use std::alloc::{AllocError, Global};
 
@@ -232,7 +232,10 @@ fn put_frame(
     elements: &Elements,
 ) -> Result<(), AllocError> {
     write!(text, "frame {number} of ")?;
-    put_name(text, core.plant(), op)?;
+    if let Some(row) = core.plant().rows().get(op) {
+        let name = row.get_fields().name;
+        write!(text, "{name}")?;
+    }
     text.push_str("\n")?;
     put_spans(text, elements.get_spans())?;
     put_pending(text, elements.get_pending())

@@ -1,5 +1,4 @@
 use Rattle.std.proofs.Common.{◌≡◌, ◌++◌, drop, map}
-use Rattle.std.specs.String.{string_bytes}
 use Rattle.operator_book.specs.ViewOf.{view_of}
 use Rattle.run_audit.specs.Outs.{outs_from}
 use Rattle.script_format.specs.Text.{outs_text}
@@ -7,5 +6,5 @@ use Rattle.plant_script.proofs.on_threads.put_books.Given as goal
 
 abbrev pub invariant-loop-op : goal.invariant-loop-op
 invariant-loop-op g l =
-    string_bytes l.text ++ outs_text l.plant (outs_from l.op (map view_of (drop l.op l.books)))
-    ≡ string_bytes l.fn.text ++ outs_text l.plant (outs_from 0 (map view_of l.books))
+    l.text.items ++ outs_text l.plant (outs_from l.op (map view_of (drop l.op l.books)))
+    ≡ l.fn.text.items ++ outs_text l.plant (outs_from 0 (map view_of l.books))

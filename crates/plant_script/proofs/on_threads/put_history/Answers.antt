@@ -1,7 +1,6 @@
 use Rattle.std.proofs.Common.{◌++◌}
 use Rattle.std.specs.Prelude.{slice_get}
 use Rattle.std.specs.List.{flat_map}
-use Rattle.std.specs.String.{string_bytes}
 use Rattle.run_receipts.specs.OwnParts.{history_outputs}
 use Rattle.script_format.specs.Text.{operator_name, output_line}
 use Rattle.plant_script.proofs.Telling.{entries_more}
@@ -10,5 +9,5 @@ use Rattle.plant_script.proofs.on_threads.put_history.Goals as goal
 pub loop-entry-preserved : goal.loop-entry-preserved
 loop-entry-preserved c =
     let f = output_line (operator_name (slice_get c.args.plant.now.rows c.args.op)) in
-    entries_more f c.args.history.now c.loop-entry.entry-index c.entry-item.result c.as_slice.result.now (string_bytes c.loop-entry.text) (string_bytes c.put_outputs.new.text)
-    (string_bytes c.args.text.now ++ flat_map f (history_outputs c.args.history.now)) c.loop-entry-test.true c.entry-item.is c.as_slice.ensures c.in_ok-put_outputs.ensures c.loop-entry.invariant
+    entries_more f c.args.history.now c.loop-entry.entry-index c.entry-item.result c.as_slice.result.now (c.loop-entry.text.items) (c.put_outputs.new.text.items)
+    (c.args.text.now.items ++ flat_map f (history_outputs c.args.history.now)) c.loop-entry-test.true c.entry-item.is c.as_slice.ensures c.in_ok-put_outputs.ensures c.loop-entry.invariant

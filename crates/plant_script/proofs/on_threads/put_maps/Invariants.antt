@@ -1,8 +1,7 @@
 use Rattle.std.proofs.Common.{◌≡◌, ◌++◌, take}
 use Rattle.std.specs.List.{flat_map}
-use Rattle.std.specs.String.{string_bytes}
 use Rattle.script_format.specs.Text.{map_line}
 use Rattle.plant_script.proofs.on_threads.put_maps.Given as goal
 
 abbrev pub invariant-loop-made : goal.invariant-loop-made
-invariant-loop-made l = string_bytes l.text ≡ string_bytes l.fn.text ++ flat_map map_line (take l.made-index l.maps)
+invariant-loop-made l = l.text.items ≡ l.fn.text.items ++ flat_map map_line (take l.made-index l.maps)

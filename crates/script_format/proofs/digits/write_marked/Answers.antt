@@ -1,7 +1,6 @@
-use Rattle.std.specs.Str.{IsAscii}
-use Rattle.std.proofs.Common.{ℕ, List, drop, subst, sym, ◌≤◌, length, arith}
+use Rattle.std.proofs.Common.{◌≤◌, length, arith}
 use Rattle.std.specs.Fmt.{decimal}
-use Rattle.script_format.proofs.Marked.{few_digits, marked, marked_ascii}
+use Rattle.script_format.proofs.Marked.{few_digits, marked}
 use Rattle.script_format.proofs.digits.write_marked.Goals as goal
 
 pub write_digits-start-requires : goal.write_digits-start-requires
@@ -25,12 +24,3 @@ returns-clause-written c =
     let at = c.write_digits-start.result in
     let fits : at ≤ length c.write_digits-start.new.buf = omega (arith, c.write_digits-start.auto.buf, c.requires.1, c.write_digits-start.ensures.start) in
     marked c.write_digits-start.new.buf _ at c.args.mark (omega (arith, short, c.requires.0, c.write_digits-start.ensures.start)) fits (rw (← c.from.ensures) c.write_digits-start.ensures.written)
-
-pub returns-clause-ascii : goal.returns-clause-ascii
-returns-clause-ascii c small rest =
-    let short : length (decimal c.from.result) ≤ 5 = rw c.from.ensures (few_digits c.args.number c.ranges.number.fits) in
-    let at = c.write_digits-start.result in
-    let fits : at ≤ length c.write_digits-start.new.buf = omega (arith, c.write_digits-start.auto.buf, c.requires.1, c.write_digits-start.ensures.start) in
-    subst (λ (xs : List ℕ). IsAscii xs)
-    (sym (marked c.write_digits-start.new.buf _ at c.args.mark (omega (arith, short, c.requires.0, c.write_digits-start.ensures.start)) fits (rw (← c.from.ensures) c.write_digits-start.ensures.written)))
-    (marked_ascii c.args.mark c.args.number (drop c.args.end c.args.room.now) small c.ranges.number.fits rest)

@@ -1,0 +1,8 @@
+use Rattle.std.proofs.Common.{take}
+use Rattle.std.specs.Io.KnownBytes.{Appends}
+use Rattle.operator_model.specs.Replay.{actions_of}
+use Rattle.script_format.specs.Text.{actions_text}
+use Rattle.script_format.proofs.writing.write_actions.Given as goal
+
+abbrev pub invariant-loop-entry : goal.invariant-loop-entry
+invariant-loop-entry g l = Appends (g.W.Write.contents l.fn.writer) (g.W.Write.contents l.writer) (actions_text (actions_of (take l.entry-index l.history)))
