@@ -10,9 +10,9 @@ use Rattle.run_model.specs.declared.step.Step.{Step}
 use Rattle.run_model.specs.declared.step.Out.{Out}
 use Rattle.run_model.specs.IsStateAfter.{CoreView}
 use Rattle.live_core.specs.After.{IsAfterFrom}
-use Rattle.script_format.specs.declared.fields.FieldFault.{FieldFault}
+use Rattle.script_format.specs.declared.fields.FieldError.{FieldError}
 use Rattle.script_format.specs.declared.script.LineStep.{LineStep}
-use Rattle.script_format.specs.declared.fields.FieldFault.TheVariants.{Shape}
+use Rattle.script_format.specs.declared.fields.FieldError.TheVariants.{TooLong}
 use Rattle.script_format.specs.Fields.{FieldResult}
 use Rattle.script_format.specs.Script.{steps_without_numbers}
 use Rattle.script_format.specs.Text.{outs_text}
@@ -38,8 +38,8 @@ ends_so live (Some line) ends.NoMemory is = is
 short_enough : (plant : PlantFields) (number : ℕ) (line : List ℕ) (steps : List LineStep) → steps_said plant number line ≡ Ok steps → 4096 < length line → ⊥
 short_enough plant number line steps said long =
     let over : nat_le (length line) 4096 ≡ false = grind (arith, nat_tests, long) in
-    let none : steps_said plant number line ≡ Err Shape = rw over refl in
-    let wrong : ◌≡◌ {A = FieldResult (List LineStep)} (Err Shape) (Ok steps) = sym none ∙ said in cc
+    let none : steps_said plant number line ≡ Err TooLong = rw over refl in
+    let wrong : ◌≡◌ {A = FieldResult (List LineStep)} (Err TooLong) (Ok steps) = sym none ∙ said in cc
 
 -- a line that says steps
 pub steps_answered : (plant : PlantFields) (start : Start) (before : List Step) (shown : List Out) (number : ℕ) (line : List ℕ) (steps : List LineStep) (live : CoreView) (end : StepsEnd) (w0 w1 : Option (List ℕ))
@@ -67,9 +67,9 @@ not_done : (end : LineOutcome) → IsNotDone end (nothing end)
 not_done end = record { none_done = refl; none_told = refl; end_is = refl }
 
 -- a line that says none
-pub none_answered : (plant : PlantFields) (start : Start) (before : List Step) (shown : List Out) (number : ℕ) (line : List ℕ) (fault : FieldFault) (live : CoreView) (known : Option (List ℕ))
-    → IsAfterFrom plant start before shown live → steps_said plant number line ≡ Err fault → HasAnswered plant start before shown number line live AtFault known known
-none_answered plant start before shown number line fault live known after said = record {
+pub none_answered : (plant : PlantFields) (start : Start) (before : List Step) (shown : List Out) (number : ℕ) (line : List ℕ) (error : FieldError) (live : CoreView) (known : Option (List ℕ))
+    → IsAfterFrom plant start before shown live → steps_said plant number line ≡ Err error → HasAnswered plant start before shown number line live AtFault known known
+none_answered plant start before shown number line error live known after said = record {
   answered = nothing AtFault;
   is = record {
     after = unchanged plant start before shown live after;
@@ -110,7 +110,7 @@ end_written plant start before shown number line live end w0 w1 w2 has wrote = r
 }
 
 -- a line that is too long says nothing
-pub long_said : (plant : PlantFields) (number : ℕ) (bytes line : List ℕ) (is_long : Bool) → is_long ≡ true → IsHeld bytes is_long line → steps_said plant number line ≡ Err Shape
+pub long_said : (plant : PlantFields) (number : ℕ) (bytes line : List ℕ) (is_long : Bool) → is_long ≡ true → IsHeld bytes is_long line → steps_said plant number line ≡ Err TooLong
 long_said plant number bytes line is_long is held =
     let long : 4096 < length line = subst (λ (b : Bool). IsHeld bytes b line) is held in
     let over : nat_le (length line) 4096 ≡ false = grind (arith, nat_tests, long) in

@@ -12,7 +12,7 @@ use Rattle.run_model.specs.IsTraceOf.{IsTraceFrom}
 use Rattle.run_model.specs.Ordered.{OrderedFrom}
 use Rattle.plant_core.specs.Faults.{step_fault}
 use Rattle.live_core.specs.After.{IsAfterFrom}
-use Rattle.script_format.specs.declared.fields.FieldFault.TheVariants.{Shape}
+use Rattle.script_format.specs.declared.fields.FieldError.TheVariants.{TooLong}
 use Rattle.script_format.specs.declared.script.LineStep.{LineStep}
 use Rattle.script_format.specs.Fields.{FieldResult}
 use Rattle.script_format.specs.Lines.{lines_of}
@@ -25,7 +25,7 @@ use Rattle.line_service.specs.declared.line_outcome.LineOutcome.TheVariants.{Don
 
 -- a line of more than 4,096 bytes says nothing
 abbrev pub steps_said : PlantFields → ℕ → List ℕ → FieldResult (List LineStep)
-steps_said plant number line = if nat_le (length line) 4096 then line_steps plant number line else Err Shape
+steps_said plant number line = if nat_le (length line) 4096 then line_steps plant number line else Err TooLong
 
 -- ---- what is answered to a line
 

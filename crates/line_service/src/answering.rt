@@ -17,7 +17,7 @@ use crate::line_outcome::LineOutcome;
 use crate::steps_end::{StepsEnd, end_of};
 use live_core::LiveCore;
 use plant::Plant;
-use script_format::{FieldFault, LineStep, put_line, write_outs};
+use script_format::{FieldError, FieldFault, LineStep, put_line, write_outs};
 use std::alloc::Global;
 use std::io;
 use std::io::Write;
@@ -33,7 +33,7 @@ fn steps_said(
     ensures memory { result ≡ Err NoMemory → length line.now ≤ 4096 }
 {
     if line.len() > MOST_BYTES {
-        return Err(FieldFault::Shape);
+        return Err(FieldFault::Invalid(FieldError::TooLong));
     }
     let mut fields = Vec::new(alloc);
     let mut steps = Vec::new(alloc);
@@ -96,7 +96,7 @@ fn do_line<W: Write>(
             let end = run_steps(alloc, core, steps, writer)?;
             Ok(line_outcome(end))
         }
-        Err(FieldFault::Shape) => Ok(LineOutcome::AtFault),
+        Err(FieldFault::Invalid(_error)) => Ok(LineOutcome::AtFault),
         Err(FieldFault::NoMemory) => Ok(LineOutcome::NoMemory),
     }
 }

@@ -1,5 +1,5 @@
 -- Lines of a script, one after the other.
-use Rattle.std.proofs.Common.{◌≡◌, ℕ, zero, suc, ◌+◌, ◌<◌, List, [], ◌∷◌, ◌++◌, length, drop, Bool, true, false, if◌then◌else◌, codes, Ok, Err, refl, sym, ap, ◌∙◌, add-one, arith}
+use Rattle.std.proofs.Common.{◌≡◌, ℕ, zero, suc, ◌+◌, ◌<◌, List, [], ◌∷◌, ◌++◌, length, drop, Bool, true, false, ◌||◌, if◌then◌else◌, codes, Ok, Err, refl, sym, ap, ◌∙◌, add-one, arith}
 use Rattle.std.specs.Str.{bytes_eq}
 use Rattle.std.proofs.lemmas.Slice.Eq.{bytes_eq-Decides}
 use Rattle.lists.specs.Results.{◌>>=◌, Fails}
@@ -8,8 +8,11 @@ use Rattle.script_format.proofs.Splits.{field_first}
 use Rattle.plant.specs.declared.operator_row.RowFields.{RowFields}
 use Rattle.plant.specs.declared.plant.PlantFields.{PlantFields}
 use Rattle.operator_model.specs.declared.action.SliceRow.{SliceRow}
+use Rattle.script_format.specs.declared.fields.FieldError.{FieldError}
+use Rattle.script_format.specs.declared.fields.FieldError.TheVariants.{UnknownCommand, FieldCount}
 use Rattle.script_format.specs.declared.fields.FieldFault.{FieldFault}
-use Rattle.script_format.specs.declared.fields.FieldFault.TheVariants.{Shape, NoMemory}
+use Rattle.script_format.specs.declared.fields.FieldFault.TheVariants.{Invalid, NoMemory}
+use Rattle.script_format.specs.Senders.{alone_error}
 use Rattle.script_format.specs.declared.script.LineStep.{LineStep}
 use Rattle.script_format.specs.Fields.{FieldResult, field_cause, behind}
 use Rattle.script_format.specs.Script.{tick_steps, all_ticks, message_steps, request_steps, ticked_steps, resliced_steps, steps_in, share_in, shares_after, line_steps, steps_after}
@@ -28,24 +31,24 @@ ticks_at number rows op lt =
     ∙ ap (λ (n : ℕ). tick_steps number op ++ all_ticks number (drop n rows) (op + 1)) (sym (add-one op))
 
 -- one share more
-pub shares_more : (rows : List SliceRow) (field : List ℕ) (fields : List (List ℕ)) (row : SliceRow) → share_in field ≡ Ok row
-    → shares_after rows (field ∷ fields) ≡ shares_after (rows ++ row ∷ []) fields
-shares_more rows field fields row e = ap (λ (r : FieldResult SliceRow). r >>= λ row. shares_after (rows ++ row ∷ []) fields) e
+pub shares_more : (rows : List SliceRow) (text : List ℕ) (fields : List (List ℕ)) (row : SliceRow) → share_in (length rows + 2) text ≡ Ok row
+    → shares_after rows (text ∷ fields) ≡ shares_after (rows ++ row ∷ []) fields
+shares_more rows text fields row e = ap (λ (r : FieldResult SliceRow). r >>= λ row. shares_after (rows ++ row ∷ []) fields) e
 
-pub shares_fail : (rows : List SliceRow) (field : List ℕ) (fields : List (List ℕ)) (fault : FieldFault) → share_in field ≡ Err fault
-    → shares_after rows (field ∷ fields) ≡ Err fault
-shares_fail rows field fields fault e = ap (λ (r : FieldResult SliceRow). r >>= λ row. shares_after (rows ++ row ∷ []) fields) e
+pub shares_fail : (rows : List SliceRow) (text : List ℕ) (fields : List (List ℕ)) (error : FieldError) → share_in (length rows + 2) text ≡ Err error
+    → shares_after rows (text ∷ fields) ≡ Err error
+shares_fail rows text fields error e = ap (λ (r : FieldResult SliceRow). r >>= λ row. shares_after (rows ++ row ∷ []) fields) e
 
-pub shares_stop : (fault : FieldFault) (rows : List SliceRow) (field : List ℕ) (fields all : List (List ℕ)) → shares_after rows (field ∷ fields) ≡ shares_after [] all
-    → Fails (field_cause fault) (share_in field) → Fails (field_cause fault) (shares_after [] all)
-shares_stop NoMemory rows field fields all e f = tt
-shares_stop Shape rows field fields all e f = sym e ∙ shares_fail rows field fields Shape f
+pub shares_stop : (fault : FieldFault) (rows : List SliceRow) (text : List ℕ) (fields all : List (List ℕ)) → shares_after rows (text ∷ fields) ≡ shares_after [] all
+    → Fails (field_cause fault) (share_in (length rows + 2) text) → Fails (field_cause fault) (shares_after [] all)
+shares_stop NoMemory rows text fields all e f = tt
+shares_stop (Invalid error) rows text fields all e f = sym e ∙ shares_fail rows text fields error f
 
 -- one line more
 steps_by : (plant : PlantFields) (number : ℕ) (steps : List LineStep) (line : List ℕ) (lines : List (List ℕ)) (said : FieldResult (List LineStep)) → line_steps plant number line ≡ said
-    → steps_after plant number steps (line ∷ lines) ≡ elim said [ Ok more ↦ steps_after plant (number + 1) (steps ++ more) lines | Err fault ↦ Err number ]
+    → steps_after plant number steps (line ∷ lines) ≡ elim said [ Ok more ↦ steps_after plant (number + 1) (steps ++ more) lines | Err error ↦ Err number ]
 steps_by plant number steps line lines said e =
-    ap (λ (r : FieldResult (List LineStep)). elim r [ Ok more ↦ steps_after plant (number + 1) (steps ++ more) lines | Err fault ↦ Err number ]) e
+    ap (λ (r : FieldResult (List LineStep)). elim r [ Ok more ↦ steps_after plant (number + 1) (steps ++ more) lines | Err error ↦ Err number ]) e
 
 pub same_steps : (a b : List LineStep) → ◌≡◌ {A = FieldResult (List LineStep)} (Ok a) (Ok b) → a ≡ b
 same_steps a b e = cc
@@ -56,18 +59,19 @@ steps_more plant number steps new line lines (Ok more) e h =
     steps_by plant number steps line lines (Ok more) e ∙ ap (λ (x : List LineStep). steps_after plant (number + 1) x lines) (same_steps (steps ++ more) new h)
 steps_more plant number steps new line lines (Err fault) e h = absurd cc
 
-pub steps_fail : (plant : PlantFields) (number : ℕ) (steps : List LineStep) (line : List ℕ) (lines : List (List ℕ)) (fault : FieldFault) (said : FieldResult (List LineStep)) → line_steps plant number line ≡ said
-    → behind steps said ≡ Err fault → steps_after plant number steps (line ∷ lines) ≡ Err number
-steps_fail plant number steps line lines fault (Ok more) e h = absurd cc
-steps_fail plant number steps line lines fault (Err other) e h = steps_by plant number steps line lines (Err other) e
+pub steps_fail : (plant : PlantFields) (number : ℕ) (steps : List LineStep) (line : List ℕ) (lines : List (List ℕ)) (error : FieldError) (said : FieldResult (List LineStep)) → line_steps plant number line ≡ said
+    → behind steps said ≡ Err error → steps_after plant number steps (line ∷ lines) ≡ Err number
+steps_fail plant number steps line lines error (Ok more) e h = absurd cc
+steps_fail plant number steps line lines error (Err other) e h = steps_by plant number steps line lines (Err other) e
 
 -- ---- a line by its fields
 
 -- a line of one field, other than `T`
-pub alone : (plant : PlantFields) (number : ℕ) (word : List ℕ) → bytes_eq word (codes "T") ≡ false → steps_in plant number (word ∷ []) ≡ Err Shape
+pub alone : (plant : PlantFields) (number : ℕ) (word : List ℕ) → bytes_eq word (codes "T") ≡ false → steps_in plant number (word ∷ []) ≡ Err (alone_error word)
 unfolding steps_in message_steps request_steps resliced_steps
 alone plant number word e = rw e (cases (bytes_eq word (codes "M")) (bytes_eq word (codes "Q")) (bytes_eq word (codes "Z"))) where
-  cases : (m q z : Bool) → ◌≡◌ {A = FieldResult (List LineStep)} (if m then Err Shape else (if q then Err Shape else (if z then Err Shape else Err Shape))) (Err Shape)
+  cases : (m q z : Bool) → ◌≡◌ {A = FieldResult (List LineStep)} (if m then Err FieldCount else (if q then Err FieldCount else (if z then Err FieldCount else Err UnknownCommand)))
+      (Err (if m || (q || z) then FieldCount else UnknownCommand))
   cases true q z = refl
   cases false true z = refl
   cases false false true = refl
@@ -82,6 +86,6 @@ alone_ticks plant number word e =
     ap (λ (w : List ℕ). steps_in plant number (w ∷ [])) ((bytes_eq-Decides word (codes "T")).0 e) ∙ ticks_alone plant number
 
 -- more fields than one
-pub ticked_more : (plant : PlantFields) (number : ℕ) (second rest : List ℕ) (fields : List (List ℕ)) → fields ≡ second ∷ parts_of 32 rest → ticked_steps plant number fields ≡ Err Shape
+pub ticked_more : (plant : PlantFields) (number : ℕ) (second rest : List ℕ) (fields : List (List ℕ)) → fields ≡ second ∷ parts_of 32 rest → ticked_steps plant number fields ≡ Err FieldCount
 unfolding ticked_steps
 ticked_more plant number second rest fields e = let more = field_first rest in rw (e, more.2) refl

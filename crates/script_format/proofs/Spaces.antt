@@ -1,5 +1,5 @@
 -- Fields that have no space in them, and a line's first space.
-use Rattle.std.proofs.Common.{◌≡◌, ℕ, zero, suc, ◌+◌, ◌-◌, ◌*◌, ◌<◌, ◌==◌, ◌⊎◌, inl, inr, Bool, true, false, ◌&&◌, nat_le, List, [], ◌∷◌, length, take, drop, slice_index, Some, Result, Ok, Err, if◌then◌else◌, codes, refl, sym, ap, ◌∙◌, arith}
+use Rattle.std.proofs.Common.{◌≡◌, ℕ, zero, suc, ◌+◌, ◌-◌, ◌*◌, ◌<◌, ◌==◌, ◌⊎◌, inl, inr, Bool, true, false, ◌&&◌, nat_le, List, [], ◌∷◌, length, take, drop, slice_index, Option, Some, None, Result, Ok, Err, if◌then◌else◌, codes, refl, sym, ap, ◌∙◌, arith}
 use Rattle.std.specs.Char.{is_ascii_digit}
 use Rattle.std.specs.List.{AllPass}
 use Rattle.std.specs.Str.{bytes_eq}
@@ -12,8 +12,10 @@ use Rattle.hex.specs.declared.error.FromHexError.{FromHexError}
 use Rattle.hex.proofs.HexLemmas.{decode_of-ok, decode_sized-ok, decode_sized-twice}
 use Rattle.script_format.specs.Lines.{parts_of}
 use Rattle.script_format.specs.Messages.{message_in}
-use Rattle.script_format.specs.Fields.{required_field, number_after, short_in, bytes_in}
-use Rattle.script_format.specs.declared.fields.FieldFault.TheVariants.{Shape}
+use Rattle.lists.specs.Results.{◌>>=◌}
+use Rattle.script_format.specs.declared.fields.NumberName.{NumberName}
+use Rattle.script_format.specs.declared.fields.FieldError.TheVariants.{Number}
+use Rattle.script_format.specs.Fields.{required_field, number_after, decimal_in, of_digits, short_in, message_bytes}
 use Rattle.script_format.proofs.Splits.{split_first}
 
 -- ---- no space
@@ -32,35 +34,41 @@ digits_spaceless : (bytes : List ℕ) → AllPass is_hex_digit bytes → NoSpace
 digits_spaceless bytes all k low high hit = let one = all k 0 high in let other = not_space is_hex_digit (slice_index bytes k) refl one in cc
 
 -- what is read as a message has no space in it
-pub bytes_spaceless : (field bytes : List ℕ) → bytes_in field ≡ Ok bytes → NoSpace field
+pub bytes_spaceless : (field bytes : List ℕ) → message_bytes field ≡ Some bytes → NoSpace field
 bytes_spaceless field bytes h = some (length field == 0) h where
-  digits : (r : Result (List ℕ) FromHexError) → decode_of field ≡ r → required_field (result_ok r) ≡ Ok bytes → NoSpace field
+  digits : (r : Result (List ℕ) FromHexError) → decode_of field ≡ r → result_ok r ≡ Some bytes → NoSpace field
   digits (Ok read) e is = digits_spaceless field (decode_of-ok field read e).1
   digits (Err fault) e is = absurd cc
 
-  dash : (t : Bool) → bytes_eq field (codes "-") ≡ t → required_field (if t then Some [] else result_ok (decode_of field)) ≡ Ok bytes → NoSpace field
+  dash : (t : Bool) → bytes_eq field (codes "-") ≡ t → (if t then Some [] else result_ok (decode_of field)) ≡ Some bytes → NoSpace field
   dash true e is = rw ((bytes_eq-Decides field (codes "-")).0 e) (NoSpace-cons 45 [] refl (λ k low high. absurd (omega arith)))
   dash false e is = digits (decode_of field) refl is
 
-  some : (t : Bool) → (if t then Err Shape else required_field (message_in field)) ≡ Ok bytes → NoSpace field
+  some : (t : Bool) → (if t then None else message_in field) ≡ Some bytes → NoSpace field
   some true is = absurd cc
   some false is = dash (bytes_eq field (codes "-")) refl is
 
-number_spaceless : (most number : ℕ) (field : List ℕ) (value : ℕ) → number_after most number field ≡ Ok value → NoSpace field
+number_spaceless : (most number : ℕ) (field : List ℕ) (value : ℕ) → number_after most number field ≡ Some value → NoSpace field
 number_spaceless most number [] value h = λ k low high. absurd (omega arith)
 number_spaceless most number (d ∷ digits) value h =
     one (is_ascii_digit d && nat_le (number * 10 + (d - 48)) most) refl (number_spaceless most (number * 10 + (d - 48)) digits value) h where
-      one : (t : Bool) → (is_ascii_digit d && nat_le (number * 10 + (d - 48)) most) ≡ t → (number_after most (number * 10 + (d - 48)) digits ≡ Ok value → NoSpace digits)
-          → (if t then number_after most (number * 10 + (d - 48)) digits else Err Shape) ≡ Ok value → NoSpace (d ∷ digits)
+      one : (t : Bool) → (is_ascii_digit d && nat_le (number * 10 + (d - 48)) most) ≡ t → (number_after most (number * 10 + (d - 48)) digits ≡ Some value → NoSpace digits)
+          → (if t then number_after most (number * 10 + (d - 48)) digits else None) ≡ Some value → NoSpace (d ∷ digits)
       one true e others is = NoSpace-cons d digits (not_space is_ascii_digit d refl (and_parts (is_ascii_digit d) (nat_le (number * 10 + (d - 48)) most) e).0) (others is)
       one false e others is = absurd cc
 
+decimal_spaceless : (most : ℕ) (field : List ℕ) (value : ℕ) → decimal_in most field ≡ Some value → NoSpace field
+decimal_spaceless most field value h = one (length field == 0) h where
+  one : (t : Bool) → (if t then None else number_after most 0 field) ≡ Some value → NoSpace field
+  one true is = absurd cc
+  one false is = number_spaceless most 0 field value is
+
 -- what is read as a number has no space in it
-pub short_spaceless : (field : List ℕ) (value : ℕ) → short_in field ≡ Ok value → NoSpace field
-short_spaceless field value h = one (nat_le 1 (length field) && nat_le (length field) 5) h where
-  one : (t : Bool) → (if t then number_after 65535 0 field else Err Shape) ≡ Ok value → NoSpace field
-  one true is = number_spaceless 65535 0 field value is
-  one false is = absurd cc
+pub short_spaceless : (place : ℕ) (name : NumberName) (field : List ℕ) (value : ℕ) → short_in place name field ≡ Ok value → NoSpace field
+short_spaceless place name field value h = one (decimal_in 65535 field) refl h where
+  one : (o : Option ℕ) → decimal_in 65535 field ≡ o → (required_field (Number place name 65535) o >>= of_digits place name 5 field) ≡ Ok value → NoSpace field
+  one (Some number) e is = decimal_spaceless 65535 field number e
+  one None e is = absurd cc
 
 -- so has what is read as so many bytes
 pub sized_spaceless : (field : List ℕ) (n : ℕ) (bytes : List ℕ) → decode_sized field n ≡ Ok bytes → NoSpace field

@@ -14,7 +14,8 @@ use Rattle.operator_model.specs.declared.heard.Heard.{Heard}
 use Rattle.operator_model.specs.declared.heard.Heard.TheVariants.{Message, Request}
 use Rattle.run_model.specs.declared.step.Step.{Step}
 use Rattle.run_model.specs.declared.step.Step.TheVariants.{Arrive, Work, Tick, Collect, Reslice}
-use Rattle.script_format.specs.declared.fields.FieldFault.TheVariants.{Shape}
+use Rattle.script_format.specs.declared.fields.NumberName.TheVariants.{Sid, Minislots, Frame, Start, Length, Budget}
+use Rattle.script_format.specs.declared.fields.FieldError.TheVariants.{UnknownCommand, FieldCount, Address, UnknownModem, UnknownOperator, SliceParts}
 use Rattle.script_format.specs.declared.script.LineStep.{LineStep}
 use Rattle.script_format.specs.declared.script.Sender.{Sender}
 use Rattle.script_format.specs.Lines.{parts_of, lines_of, line_fields}
@@ -23,12 +24,12 @@ use Rattle.script_format.specs.Fields.{FieldResult, required_field, two_of, thre
 -- ---- names
 
 abbrev pub sender_of : Modem → Option ℕ → FieldResult Sender
-sender_of modem None = Err Shape
+sender_of modem None = Err (UnknownModem modem)
 sender_of modem (Some op) = Ok (record { modem = modem; op = op })
 
 abbrev pub sender_at : List RowFields → Result (List ℕ) FromHexError → FieldResult Sender
 sender_at rows (Ok address) = sender_of (record { 0 = address }) (holder rows (record { 0 = address }))
-sender_at rows (Err fault) = Err Shape
+sender_at rows (Err fault) = Err Address
 
 -- a modem of the plant by its address, of 12 hexadecimal digits, and whose it is
 unfoldable pub sender_in : PlantFields → List ℕ → FieldResult Sender
@@ -39,7 +40,7 @@ is_named name row = bytes_eq row.name name
 
 -- an operator by its name
 abbrev pub operator_in : PlantFields → List ℕ → FieldResult ℕ
-operator_in plant field = required_field (position_from (is_named field) 0 plant.rows)
+operator_in plant field = required_field UnknownOperator (position_from (is_named field) 0 plant.rows)
 
 -- ---- the steps of a line, each with the line's number
 
@@ -55,14 +56,20 @@ message_steps plant number fields = do
   bytes ← bytes_in two.1
   Ok (heard_steps number sender (Message bytes))
 
+-- the two numbers of a request, in fields 2 and 3
+abbrev pub request_in : List ℕ → List ℕ → FieldResult Heard
+request_in sid minislots = do
+  sid ← short_in 2 Sid sid
+  minislots ← short_in 3 Minislots minislots
+  Ok (Request sid minislots)
+
 -- `Q address sid minislots`
 unfoldable pub request_steps : PlantFields → ℕ → List (List ℕ) → FieldResult (List LineStep)
 request_steps plant number fields = do
-  three ← three_of fields
+  three ← three_of FieldCount fields
   sender ← sender_in plant three.0
-  sid ← short_in three.1
-  minislots ← short_in three.2
-  Ok (heard_steps number sender (Request sid minislots))
+  request ← request_in three.1 three.2
+  Ok (heard_steps number sender request)
 
 -- an operator ticks, and its frame is collected
 abbrev pub tick_steps : ℕ → ℕ → List LineStep
@@ -79,42 +86,43 @@ ticked_steps plant number [] = Ok (all_ticks number plant.rows 0)
 ticked_steps plant number (name ∷ []) = do
   op ← operator_in plant name
   Ok (tick_steps number op)
-ticked_steps plant number (name ∷ other ∷ fields) = Err Shape
+ticked_steps plant number (name ∷ other ∷ fields) = Err FieldCount
 
--- `start/length/budget`
-unfoldable pub share_in : List ℕ → FieldResult SliceRow
-share_in field = do
-  three ← three_of (parts_of 47 field)
-  start ← short_in three.0
-  length ← short_in three.1
-  budget ← short_in three.2
+-- `start/length/budget`, in a field of this number
+unfoldable pub share_in : ℕ → List ℕ → FieldResult SliceRow
+share_in field text = do
+  three ← three_of (SliceParts field) (parts_of 47 text)
+  start ← short_in field Start three.0
+  length ← short_in field Length three.1
+  budget ← short_in field Budget three.2
   Ok (record { start = start; length = length; budget = budget })
 
+-- the slices from one on, after those of the fields from 2 on
 abbrev pub shares_after : List SliceRow → List (List ℕ) → FieldResult (List SliceRow)
 shares_after rows [] = Ok rows
-shares_after rows (field ∷ fields) = share_in field >>= λ row. shares_after (rows ++ row ∷ []) fields
+shares_after rows (text ∷ fields) = share_in (length rows + 2) text >>= λ row. shares_after (rows ++ row ∷ []) fields
 
 -- one for each operator
 abbrev pub shares_in : PlantFields → List (List ℕ) → FieldResult (List SliceRow)
-shares_in plant fields = if length fields == length plant.rows then shares_after [] fields else Err Shape
+shares_in plant fields = if length fields == length plant.rows then shares_after [] fields else Err FieldCount
 
 -- `Z from share share ..`
 unfoldable pub resliced_steps : PlantFields → ℕ → List (List ℕ) → FieldResult (List LineStep)
-resliced_steps plant number [] = Err Shape
+resliced_steps plant number [] = Err FieldCount
 resliced_steps plant number (first ∷ fields) = do
-  from ← number_in 10 4294967295 first
+  from ← number_in 1 Frame 10 4294967295 first
   rows ← shares_in plant fields
   Ok (record { number = number; step = Reslice from rows } ∷ [])
 
 -- by the first field
 unfoldable pub steps_in : PlantFields → ℕ → List (List ℕ) → FieldResult (List LineStep)
-steps_in plant number [] = Err Shape
+steps_in plant number [] = Err UnknownCommand
 steps_in plant number (word ∷ fields) =
     if bytes_eq word (codes "M") then message_steps plant number fields else
     if bytes_eq word (codes "Q") then request_steps plant number fields else
     if bytes_eq word (codes "T") then ticked_steps plant number fields else
     if bytes_eq word (codes "Z") then resliced_steps plant number fields else
-    Err Shape
+    Err UnknownCommand
 
 -- an empty line says nothing
 unfoldable pub line_steps : PlantFields → ℕ → List ℕ → FieldResult (List LineStep)

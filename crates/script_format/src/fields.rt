@@ -1,23 +1,80 @@
 //! What is in a field of a script's line.
 
-ghost use Rattle.std.specs.Prelude.{◌≡◌, ◌≤◌, [], ◌∷◌, map, MatchOption, IfOk};
-ghost use Rattle.lists.specs.Results.{result_map, Gives};
-ghost use Rattle.script_format.specs.Fields.{field_cause, three_of, number_in, short_in, bytes_in};
+ghost use Rattle.std.specs.Prelude.{◌≡◌, ◌≤◌, [], ◌∷◌, map, MatchOption, IfOk, IfSome};
+ghost use Rattle.lists.specs.Results.{result_map};
+ghost use Rattle.script_format.specs.Fields.{three_of, decimal_in, number_in, short_in, message_bytes};
 ghost use Rattle.script_format.specs.Lines.{line_fields};
-ghost use Rattle.script_format.specs.declared.fields.FieldFault.TheVariants.{NoMemory};
+ghost use Rattle.script_format.specs.declared.fields.FieldFault.TheVariants.{Invalid, NoMemory};
 
 use crate::lines::{message_in, part};
+use dsx_messages::Modem;
 use memchr::memchr;
 use std::alloc::{AllocError, AllocFailed, Global};
 use tlv24::Bytes;
 
+/// A number of a line, by what it says.
+#[derive(Clone, Copy, Debug, PartialEq, Eq)]
+pub enum NumberName {
+    Sid,
+    Minislots,
+    Frame,
+    Start,
+    Length,
+    Budget,
+}
+
+/// The first thing wrong with a line, from the left. Fields are counted from 0, the command.
+#[derive(Clone, Copy, Debug, PartialEq, Eq)]
+pub enum FieldError {
+    /// The first field is not a command.
+    UnknownCommand,
+    /// The command needs another number of fields.
+    FieldCount,
+    /// Field 1 is not an address, 12 hexadecimal digits.
+    Address,
+    /// No operator lists the modem whose address is in field 1.
+    UnknownModem {
+        modem: Modem,
+    },
+    /// Field 2 is not a message, pairs of hexadecimal digits or a dash.
+    Hexadecimal,
+    /// No operator has the name in field 1.
+    UnknownOperator,
+    /// The field is not a slice, three numbers separated by slashes.
+    SliceParts {
+        field: usize,
+    },
+    /// The number in the field is not decimal, or is greater than its limit.
+    Number {
+        field: usize,
+        name: NumberName,
+        limit: u32,
+    },
+    /// The number in the field has more digits than it may have.
+    DigitCount {
+        field: usize,
+        name: NumberName,
+        digits: usize,
+    },
+    /// The line has more bytes than its reader takes.
+    TooLong,
+}
+
 /// Why a line of a script says no steps.
 #[derive(Clone, Copy, Debug, PartialEq, Eq)]
 pub enum FieldFault {
-    /// It has another shape, or names an operator or a modem that the plant does not have.
-    Shape,
+    /// The line is invalid, and this is the first thing wrong with it.
+    Invalid(FieldError),
     /// Memory ran out before any effect.
     NoMemory,
+}
+
+impl From<FieldError> for FieldFault {
+    ghost from_gives = { λ error fault. fault ≡ Invalid error };
+
+    fn from(error: FieldError) -> FieldFault {
+        FieldFault::Invalid(error)
+    }
 }
 
 impl From<AllocError> for FieldFault {
@@ -63,55 +120,79 @@ pub fn word_and_rest(line: &[u8]) -> Option<(&[u8], &[u8])>
     }
 }
 
-/// Returns three fields, if there are just three.
-pub fn three_of<'a>(fields: &[&'a [u8]]) -> Result<(&'a [u8], &'a [u8], &'a [u8]), FieldFault>
-    ensures { result_map (λ p. (p.0.now, p.1.now, p.2.now)) result ≡ three_of (map (λ field. field.now) fields.now) }
+/// Returns three fields, if there are just three, otherwise the error.
+pub fn three_of<'a>(
+    error: FieldError,
+    fields: &[&'a [u8]],
+) -> Result<(&'a [u8], &'a [u8], &'a [u8]), FieldError>
+    ensures { result_map (λ p. (p.0.now, p.1.now, p.2.now)) result ≡ three_of error (map (λ field. field.now) fields.now) }
 {
     match fields {
         [a, b, c] => Ok((*a, *b, *c)),
-        _ => Err(FieldFault::Shape),
+        _ => Err(error),
     }
 }
 
-/// Returns a decimal number of at most so many digits, and at most `most`. Leading zeros are
-/// digits.
-pub fn number_in(digits: usize, most: u32, field: &[u8]) -> Result<u32, FieldFault>
-    ensures value { result ≡ number_in digits most field.now }
-    ensures bound { IfOk result (λ number. number ≤ most) }
+/// Returns the number of decimal digits, if it is at most `most`. Leading zeros are digits.
+fn decimal_in(most: u32, text: &[u8]) -> Option<u32>
+    ensures value { result ≡ decimal_in most text.now }
+    ensures bound { IfSome result (λ number. number ≤ most) }
 {
-    if field.is_empty() || field.len() > digits {
-        return Err(FieldFault::Shape);
+    if text.is_empty() {
+        return None;
     }
     let mut number = 0u64;
-    for digit in field {
+    for digit in text {
         if !digit.is_ascii_digit() {
-            return Err(FieldFault::Shape);
+            return None;
         }
         number = number * 10 + (*digit - b'0') as u64;
         if number > most as u64 {
-            return Err(FieldFault::Shape);
+            return None;
         }
     }
-    Ok(number as u32)
+    Some(number as u32)
+}
+
+/// Returns a decimal number of at most so many digits, and at most `limit`.
+pub fn number_in(
+    field: usize,
+    name: NumberName,
+    digits: usize,
+    limit: u32,
+    text: &[u8],
+) -> Result<u32, FieldError>
+    ensures value { result ≡ number_in field name digits limit text.now }
+    ensures bound { IfOk result (λ number. number ≤ limit) }
+{
+    let Some(number) = decimal_in(limit, text) else {
+        return Err(FieldError::Number { field, name, limit });
+    };
+    if text.len() > digits {
+        return Err(FieldError::DigitCount {
+            field,
+            name,
+            digits,
+        });
+    }
+    Ok(number)
 }
 
 /// Returns a decimal number of 1 to 5 digits, at most 65,535.
-pub fn short_in(field: &[u8]) -> Result<u16, FieldFault>
-    ensures { result ≡ short_in field.now }
+pub fn short_in(field: usize, name: NumberName, text: &[u8]) -> Result<u16, FieldError>
+    ensures { result ≡ short_in field name text.now }
 {
-    let number = number_in(5, 65535, field)?;
+    let number = number_in(field, name, 5, 65535, text)?;
     Ok(number as u16)
 }
 
-/// Returns the bytes of a message: `-` for none, else hexadecimal.
-pub fn bytes_in(alloc: Global, field: &[u8]) -> Result<Bytes, FieldFault>
-    ensures { Gives field_cause (λ bytes. bytes) result (bytes_in field.now) }
+/// Returns the bytes of a message: `-` for none, else hexadecimal. None where the text is not a
+/// message.
+pub fn message_bytes(alloc: Global, text: &[u8]) -> Result<Option<Bytes>, AllocError>
+    ensures { IfOk result (λ bytes. bytes ≡ message_bytes text.now) }
 {
-    if field.is_empty() {
-        return Err(FieldFault::Shape);
+    if text.is_empty() {
+        return Ok(None);
     }
-    match message_in(alloc, field)? {
-        Some(bytes) => Ok(bytes),
-        None => Err(FieldFault::Shape),
-    }
+    message_in(alloc, text)
 }

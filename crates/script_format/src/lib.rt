@@ -12,7 +12,7 @@ mod unhex;
 mod writing;
 
 pub use causes::cause_name;
-pub use fields::FieldFault;
+pub use fields::{FieldError, FieldFault, NumberName};
 pub use input::{before_bar, plant_text, script_text};
 pub use lines::{LineFault, message_in, messages_of, parts_of, put_parts};
 pub use script::{LineStep, Sender, place_of, put_line, steps_of};

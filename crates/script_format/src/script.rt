@@ -3,14 +3,18 @@
 ghost use Rattle.std.specs.Prelude.{◌≡◌, [], ◌∷◌, map, Err, IfErr};
 ghost use Rattle.std.specs.List.{position_from};
 ghost use Rattle.lists.specs.Results.{result_map, Gives};
-ghost use Rattle.script_format.specs.declared.fields.FieldFault.TheVariants.{Shape, NoMemory};
+ghost use Rattle.script_format.specs.declared.fields.FieldError.{FieldError};
+ghost use Rattle.script_format.specs.declared.fields.FieldFault.TheVariants.{Invalid, NoMemory};
 ghost use Rattle.script_format.specs.Fields.{field_cause, behind};
 ghost use Rattle.script_format.specs.Lines.{line_fields};
-ghost use Rattle.script_format.specs.Script.{sender_in, is_named, operator_in, heard_steps, message_steps, request_steps, tick_steps, all_ticks, ticked_steps, share_in, shares_after, shares_in, resliced_steps, steps_in, line_steps, steps_after, steps_of};
-ghost use Rattle.script_format.specs.Senders.{sender_first};
+ghost use Rattle.script_format.specs.Script.{sender_in, is_named, operator_in, heard_steps, message_steps, request_in, request_steps, tick_steps, all_ticks, ticked_steps, share_in, shares_after, shares_in, resliced_steps, steps_in, line_steps, steps_after, steps_of};
+ghost use Rattle.script_format.specs.Senders.{address_error, alone_error, one_error, sender_first, three_error, two_error};
 ghost use Rattle.script_format.specs.GivesSteps.{GivesSteps};
 
-use crate::fields::{FieldFault, bytes_in, halves, number_in, short_in, three_of, word_and_rest};
+use crate::fields::{
+    FieldError, FieldFault, NumberName, halves, message_bytes, number_in, short_in, three_of,
+    word_and_rest,
+};
 use crate::lines::{LineFault, part, parts_of, put_parts};
 use crate::unhex::decode_into;
 use dsx_messages::Modem;
@@ -36,17 +40,58 @@ pub struct Sender {
 /// Returns a modem of the plant by its address.
 #[tactic(auto, unfolding(crate::specs::Script::sender_in))]
 #[inline(always)]
-fn sender_in(plant: &Plant, field: &[u8]) -> Result<Sender, FieldFault>
+fn sender_in(plant: &Plant, field: &[u8]) -> Result<Sender, FieldError>
     ensures { result ≡ sender_in plant.now field.now }
 {
     let mut address = [0u8; 6];
     if field.len() != 12 || !decode_into(field, &mut address) {
-        return Err(FieldFault::Shape);
+        return Err(FieldError::Address);
     }
     let modem = Modem(address);
     match plant.operator_of(modem) {
         Some(op) => Ok(Sender { modem, op }),
-        None => Err(FieldFault::Shape),
+        None => Err(FieldError::UnknownModem { modem }),
+    }
+}
+
+/// Returns the error of a line whose first field has not the length of an address.
+fn address_error(line: &[u8]) -> FieldError
+    ensures { result ≡ address_error (line_fields line.now) }
+{
+    match halves(line) {
+        None => FieldError::FieldCount,
+        Some(_more) => FieldError::Address,
+    }
+}
+
+/// Returns the error of a field of a line, unless the line has not just one field: then that is
+/// wrong first.
+fn one_error(line: &[u8], error: FieldError) -> FieldError
+    ensures { result ≡ one_error (line_fields line.now) error }
+{
+    match halves(line) {
+        None => error,
+        Some(_more) => FieldError::FieldCount,
+    }
+}
+
+/// Returns the error of a field of a line, unless the line has not just two fields.
+fn two_error(line: &[u8], error: FieldError) -> FieldError
+    ensures { result ≡ two_error (line_fields line.now) error }
+{
+    match halves(line) {
+        None => FieldError::FieldCount,
+        Some((_first, rest)) => one_error(rest, error),
+    }
+}
+
+/// Returns the error of a field of a line, unless the line has not just three fields.
+fn three_error(line: &[u8], error: FieldError) -> FieldError
+    ensures { result ≡ three_error (line_fields line.now) error }
+{
+    match halves(line) {
+        None => FieldError::FieldCount,
+        Some((_first, rest)) => two_error(rest, error),
     }
 }
 
@@ -54,15 +99,15 @@ fn sender_in(plant: &Plant, field: &[u8]) -> Result<Sender, FieldFault>
 /// space is searched for.
 #[tactic(auto, using(crate::proofs::FirstFields::sender_lacks, crate::proofs::FirstFields::sender_unparted))]
 #[inline(always)]
-fn sender_first<'a>(plant: &Plant, line: &'a [u8]) -> Result<(Sender, &'a [u8]), FieldFault>
+fn sender_first<'a>(plant: &Plant, line: &'a [u8]) -> Result<(Sender, &'a [u8]), FieldError>
     ensures { result_map (λ p. (p.0, line_fields p.1.now)) result ≡ sender_first plant.now (line_fields line.now) }
 {
     if line.len() < 13 || line[12] != b' ' {
-        return Err(FieldFault::Shape);
+        return Err(address_error(line));
     }
     match sender_in(plant, part(line, 0, 12)) {
         Ok(sender) => Ok((sender, part(line, 13, line.len()))),
-        Err(_fault) => Err(FieldFault::Shape),
+        Err(error) => Err(error),
     }
 }
 
@@ -81,12 +126,12 @@ pub fn place_of(rows: &[OperatorRow], name: &[u8]) -> Option<Op>
 }
 
 /// Returns an operator of the plant by its name.
-fn operator_in(plant: &Plant, field: &[u8]) -> Result<Op, FieldFault>
+fn operator_in(plant: &Plant, field: &[u8]) -> Result<Op, FieldError>
     ensures { result ≡ operator_in plant.now field.now }
 {
     match place_of(plant.rows(), field) {
         Some(op) => Ok(op),
-        None => Err(FieldFault::Shape),
+        None => Err(FieldError::UnknownOperator),
     }
 }
 
@@ -122,15 +167,32 @@ fn put_message(
 ) -> Result<(), FieldFault>
     ensures said { Gives field_cause (λ _. steps.new.items) result
         (behind steps.old.items (message_steps plant.now number (line_fields line.now))) }
-    ensures unsaid { result ≡ Err Shape → steps.new.items ≡ steps.old.items }
+    ensures unsaid { (error : FieldError) → result ≡ Err (Invalid error) → steps.new.items ≡ steps.old.items }
 {
-    let (sender, message) = sender_first(plant, line)?;
-    let bytes = bytes_in(alloc, message)?;
-    put_heard(number, sender, Heard::Message(bytes), steps)
+    match sender_first(plant, line) {
+        Err(error) => Err(FieldFault::Invalid(two_error(line, error))),
+        Ok((sender, message)) => match message_bytes(alloc, message)? {
+            Some(bytes) => put_heard(number, sender, Heard::Message(bytes), steps),
+            None => {
+                let error = one_error(message, FieldError::Hexadecimal);
+                Err(FieldFault::Invalid(error))
+            }
+        },
+    }
+}
+
+/// Returns a request of these numbers.
+#[inline(always)]
+fn request_in(sid: &[u8], minislots: &[u8]) -> Result<Heard, FieldError>
+    ensures { result ≡ request_in sid.now minislots.now }
+{
+    let sid = short_in(2, NumberName::Sid, sid)?;
+    let minislots = short_in(3, NumberName::Minislots, minislots)?;
+    Ok(Heard::Request { sid, minislots })
 }
 
 /// Appends the steps of a request for minislots.
-#[tactic(auto, using(crate::proofs::FirstFields::request_stop, crate::proofs::FirstFields::request_alone, crate::proofs::FirstFields::request_sid_unread, crate::proofs::FirstFields::request_unread, crate::proofs::FirstFields::request_read))]
+#[tactic(auto, using(crate::proofs::FirstFields::request_stop, crate::proofs::FirstFields::request_alone, crate::proofs::FirstFields::request_unread, crate::proofs::FirstFields::request_read))]
 #[inline(always)]
 fn put_request(
     plant: &Plant,
@@ -140,15 +202,19 @@ fn put_request(
 ) -> Result<(), FieldFault>
     ensures said { Gives field_cause (λ _. steps.new.items) result
         (behind steps.old.items (request_steps plant.now number (line_fields line.now))) }
-    ensures unsaid { result ≡ Err Shape → steps.new.items ≡ steps.old.items }
+    ensures unsaid { (error : FieldError) → result ≡ Err (Invalid error) → steps.new.items ≡ steps.old.items }
 {
-    let (sender, numbers) = sender_first(plant, line)?;
-    let Some((sid, minislots)) = halves(numbers) else {
-        return Err(FieldFault::Shape);
+    let (sender, numbers) = match sender_first(plant, line) {
+        Ok(first) => first,
+        Err(error) => return Err(FieldFault::Invalid(three_error(line, error))),
     };
-    let sid = short_in(sid)?;
-    let minislots = short_in(minislots)?;
-    put_heard(number, sender, Heard::Request { sid, minislots }, steps)
+    let Some((sid, minislots)) = halves(numbers) else {
+        return Err(FieldFault::Invalid(FieldError::FieldCount));
+    };
+    match request_in(sid, minislots) {
+        Ok(request) => put_heard(number, sender, request, steps),
+        Err(error) => Err(FieldFault::Invalid(one_error(minislots, error))),
+    }
 }
 
 /// Appends the steps of one operator's tick.
@@ -188,38 +254,39 @@ fn put_ticked(
 ) -> Result<(), FieldFault>
     ensures said { Gives field_cause (λ _. steps.new.items) result
         (behind steps.old.items (ticked_steps plant.now number (line_fields line.now))) }
-    ensures unsaid { result ≡ Err Shape → steps.new.items ≡ steps.old.items }
+    ensures unsaid { (error : FieldError) → result ≡ Err (Invalid error) → steps.new.items ≡ steps.old.items }
 {
     match halves(line) {
         None => {
             let op = operator_in(plant, line)?;
             put_tick(number, op, steps)
         }
-        Some(_more) => Err(FieldFault::Shape),
+        Some(_more) => Err(FieldFault::Invalid(FieldError::FieldCount)),
     }
 }
 
-/// Returns a slice and a budget.
+/// Returns the slice and the budget in a field.
 #[tactic(auto, unfolding(crate::specs::Script::share_in))]
-fn share_in(alloc: Global, field: &[u8]) -> Result<SliceRow, FieldFault>
-    ensures { Gives field_cause (λ row. row) result (share_in field.now) }
+fn share_in(alloc: Global, field: usize, text: &[u8]) -> Result<SliceRow, FieldFault>
+    ensures { Gives field_cause (λ row. row) result (share_in field text.now) }
 {
-    let parts = parts_of(alloc, b'/', field)?;
-    let (start, length, budget) = three_of(parts.as_slice())?;
+    let parts = parts_of(alloc, b'/', text)?;
+    let error = FieldError::SliceParts { field };
+    let (start, length, budget) = three_of(error, parts.as_slice())?;
     Ok(SliceRow {
-        start: short_in(start)?,
-        length: short_in(length)?,
-        budget: short_in(budget)?,
+        start: short_in(field, NumberName::Start, start)?,
+        length: short_in(field, NumberName::Length, length)?,
+        budget: short_in(field, NumberName::Budget, budget)?,
     })
 }
 
-/// Returns the slices and budgets of fields.
+/// Returns the slices and budgets of the fields from 2 on.
 fn shares_of(alloc: Global, fields: &[&[u8]]) -> Result<SliceRows, FieldFault>
     ensures { Gives field_cause (λ rows. rows) result (shares_after [] (map (λ field. field.now) fields.now)) }
 {
     let mut rows = Vec::new(alloc);
     for field in fields {
-        match share_in(alloc, field) {
+        match share_in(alloc, rows.as_slice().len() + 2, field) {
             Ok(row) => rows.push(row)?,
             Err(fault) => return Err(fault),
         }
@@ -234,7 +301,7 @@ fn shares_in(alloc: Global, plant: &Plant, fields: &[&[u8]]) -> Result<SliceRows
     if fields.len() == plant.rows().len() {
         shares_of(alloc, fields)
     } else {
-        Err(FieldFault::Shape)
+        Err(FieldFault::Invalid(FieldError::FieldCount))
     }
 }
 
@@ -249,16 +316,27 @@ fn put_resliced(
 ) -> Result<(), FieldFault>
     ensures said { Gives field_cause (λ _. steps.new.items) result
         (behind steps.old.items (resliced_steps plant.now number (map (λ field. field.now) fields.now))) }
-    ensures unsaid { result ≡ Err Shape → steps.new.items ≡ steps.old.items }
+    ensures unsaid { (error : FieldError) → result ≡ Err (Invalid error) → steps.new.items ≡ steps.old.items }
 {
     let [first, fields @ ..] = fields else {
-        return Err(FieldFault::Shape);
+        return Err(FieldFault::Invalid(FieldError::FieldCount));
     };
-    let from = number_in(10, u32::MAX, first)?;
+    let from = number_in(1, NumberName::Frame, 10, u32::MAX, first)?;
     let rows = shares_in(alloc, plant, fields)?;
     let step = Step::Reslice { from, rows };
     steps.push(LineStep { number, step })?;
     Ok(())
+}
+
+/// Returns the error of a line of one field that needs more: of an unknown command, that it is.
+fn alone_error(word: &[u8]) -> FieldError
+    ensures { result ≡ alone_error word.now }
+{
+    if word == b"M".as_slice() || word == b"Q".as_slice() || word == b"Z".as_slice() {
+        FieldError::FieldCount
+    } else {
+        FieldError::UnknownCommand
+    }
 }
 
 /// Appends the steps of a line of one field.
@@ -270,12 +348,12 @@ fn put_alone(
 ) -> Result<(), FieldFault>
     ensures said { Gives field_cause (λ _. steps.new.items) result
         (behind steps.old.items (steps_in plant.now number (word.now ∷ []))) }
-    ensures unsaid { result ≡ Err Shape → steps.new.items ≡ steps.old.items }
+    ensures unsaid { (error : FieldError) → result ≡ Err (Invalid error) → steps.new.items ≡ steps.old.items }
 {
     if word == b"T".as_slice() {
         put_all_ticks(number, plant.rows(), steps)
     } else {
-        Err(FieldFault::Shape)
+        Err(FieldFault::Invalid(alone_error(word)))
     }
 }
 
@@ -293,7 +371,7 @@ fn put_word<'a>(
 ) -> Result<(), FieldFault>
     ensures said { Gives field_cause (λ _. steps.new.items) result
         (behind steps.old.items (steps_in plant.now number (word.now ∷ line_fields line.now))) }
-    ensures unsaid { result ≡ Err Shape → steps.new.items ≡ steps.old.items }
+    ensures unsaid { (error : FieldError) → result ≡ Err (Invalid error) → steps.new.items ≡ steps.old.items }
 {
     if word == b"M".as_slice() {
         put_message(alloc, plant, number, line, steps)
@@ -305,7 +383,7 @@ fn put_word<'a>(
         put_parts(b' ', line, fields)?;
         put_resliced(alloc, plant, number, fields.as_slice(), steps)
     } else {
-        Err(FieldFault::Shape)
+        Err(FieldFault::Invalid(FieldError::UnknownCommand))
     }
 }
 
@@ -321,7 +399,7 @@ pub fn put_line<'a>(
     steps: &mut Vec<LineStep>,
 ) -> Result<(), FieldFault>
     ensures said { Gives field_cause (λ _. steps.new.items) result (behind steps.old.items (line_steps plant.now number line.now)) }
-    ensures unsaid { result ≡ Err Shape → steps.new.items ≡ steps.old.items }
+    ensures unsaid { (error : FieldError) → result ≡ Err (Invalid error) → steps.new.items ≡ steps.old.items }
 {
     if line.is_empty() {
         return Ok(());
@@ -342,7 +420,7 @@ fn steps_of_lines(alloc: Global, plant: &Plant, lines: &[&[u8]]) -> Result<Vec<L
     for line in lines {
         match put_line(alloc, plant, number, line, &mut fields, &mut steps) {
             Ok(()) => {}
-            Err(FieldFault::Shape) => return Err(LineFault::Shape { number }),
+            Err(FieldFault::Invalid(_error)) => return Err(LineFault::Shape { number }),
             Err(FieldFault::NoMemory) => return Err(LineFault::NoMemory),
         }
         number += 1;

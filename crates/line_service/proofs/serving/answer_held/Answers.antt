@@ -1,7 +1,7 @@
 use Rattle.std.proofs.Common.{◌∙◌, List, ℕ, subst}
 use Rattle.std.proofs.KnownBytes.{Appends-kept}
 use Rattle.live_core.specs.LiveView.{live_view}
-use Rattle.script_format.specs.declared.fields.FieldFault.TheVariants.{Shape}
+use Rattle.script_format.specs.declared.fields.FieldError.TheVariants.{TooLong}
 use Rattle.line_service.specs.SoFar.{LineIsAnswered}
 use Rattle.line_service.proofs.LineLemmas.{end_written, none_answered, long_said, whole_held}
 use Rattle.line_service.proofs.StepLemmas.{on_ok, on_ok_map, reachable_on}
@@ -15,7 +15,7 @@ returns-then-held-clause-answered g c =
     on_ok c.flush.result _
     (λ plant start before shown after line held.
     end_written plant start before shown c.args.number line _ _ _ _ _
-    (none_answered plant start before shown c.args.number line Shape _ _ after (long_said plant c.args.number c.args.held.now.bytes.items line c.args.held.now.is_long c.if-held.true held))
+    (none_answered plant start before shown c.args.number line TooLong _ _ after (long_said plant c.args.number c.args.held.now.bytes.items line c.args.held.now.is_long c.if-held.true held))
     (Appends-kept _ _ _ _ c.in_ok-write_end.ensures c.flush.ensures.bytes))
 
 pub returns-clause-reached : goal.returns-clause-reached

@@ -1,4 +1,4 @@
-use Rattle.std.proofs.Common.{ap, sym, ◌∙◌}
+use Rattle.std.proofs.Common.{Err, ap, sym, ◌∙◌}
 use Rattle.std.specs.Str.{bytes_eq}
 use Rattle.script_format.specs.Fields.{behind}
 use Rattle.script_format.proofs.Scripts.{alone, alone_ticks}
@@ -12,4 +12,4 @@ returns-then-eq-clause-said c =
 pub returns-else-eq-clause-said : goal.returns-else-eq-clause-said
 returns-else-eq-clause-said c =
     let other = ap (bytes_eq c.args.word.now) (sym c.as_slice.ensures) ∙ sym c.if-eq.ensures in
-    ap (behind c.args.steps.now.items) (alone c.args.plant.now c.args.number c.args.word.now other)
+    ap (behind c.args.steps.now.items) (alone c.args.plant.now c.args.number c.args.word.now other) ∙ ap Err (sym c.alone_error.ensures)

@@ -14,7 +14,7 @@ returns-in-Err c =
     let here = line_at c.args.fields.now place none c.loop-field-test.true in
     shares_stop c.in-Err.fault c.loop-field.rows.items (get_or c.args.fields.now place none).now (drop (place + 1) fields) fields
     (ap (shares_after c.loop-field.rows.items) (sym here) ∙ c.loop-field.invariant)
-    c.in-Err.ensures
+    (rw c.as_slice.ensures.value at c.in-Err.ensures)
 
 pub loop-field-preserved : goal.loop-field-preserved
 loop-field-preserved c =
@@ -23,6 +23,6 @@ loop-field-preserved c =
     let fields = map (λ (f : Bor (List ℕ)). f.now) c.args.fields.now in
     let here = line_at c.args.fields.now place none c.loop-field-test.true in
     ap (λ (x : List SliceRow). shares_after x (drop (place + 1) fields)) c.in_ok-push-in-Ok.ensures.items
-    ∙ sym (shares_more c.loop-field.rows.items (get_or c.args.fields.now place none).now (drop (place + 1) fields) c.in-Ok.row c.in-Ok.ensures)
+    ∙ sym (shares_more c.loop-field.rows.items (get_or c.args.fields.now place none).now (drop (place + 1) fields) c.in-Ok.row (rw c.as_slice.ensures.value at c.in-Ok.ensures))
     ∙ ap (shares_after c.loop-field.rows.items) (sym here)
     ∙ c.loop-field.invariant

@@ -1,7 +1,7 @@
 use Rattle.std.proofs.Common.{◌≡◌, ℕ, ◌+◌, List, [], map, drop, get_or, refl, sym, ap, subst, ◌∙◌, arith}
 use Rattle.std.specs.Borrow.{Bor}
 use Rattle.script_format.specs.declared.fields.FieldFault.{FieldFault}
-use Rattle.script_format.specs.declared.fields.FieldFault.TheVariants.{Shape}
+use Rattle.script_format.specs.declared.fields.FieldFault.TheVariants.{Invalid}
 use Rattle.lists.specs.Results.{Fails}
 use Rattle.script_format.specs.Fields.{field_cause, behind}
 use Rattle.script_format.specs.Script.{line_steps, steps_after}
@@ -9,8 +9,8 @@ use Rattle.script_format.proofs.Splits.{line_at}
 use Rattle.script_format.proofs.Scripts.{steps_more, steps_fail}
 use Rattle.script_format.proofs.script.steps_of_lines.Goals as goal
 
-pub returns-in-Err-Shape : goal.returns-in-Err-Shape
-returns-in-Err-Shape c =
+pub returns-in-Err-Invalid : goal.returns-in-Err-Invalid
+returns-in-Err-Invalid c =
     let none : Bor (List ℕ) = record { ref_ptr = (0, 0); now = [] } in
     let place = c.loop-line.line-index in
     let plant = c.args.plant.now in
@@ -20,10 +20,10 @@ returns-in-Err-Shape c =
     let lines = map (λ (l : Bor (List ℕ)). l.now) c.args.lines.now in
     let here = line_at c.args.lines.now place none c.loop-line-test.true in
     let said = line_steps plant number line in
-    let fails : Fails (field_cause Shape) (behind steps said) = subst (λ (f : FieldFault). Fails (field_cause f) (behind steps said)) c.in-Err-Shape.field-0-is c.in-Err-Shape.ensures.said in
+    let fails : Fails (field_cause (Invalid _)) (behind steps said) = subst (λ (f : FieldFault). Fails (field_cause f) (behind steps said)) c.in-Err-Invalid.field-0-is c.in-Err-Invalid.ensures.said in
     sym c.loop-line.invariant.goes_on
     ∙ ap (steps_after plant number steps) here
-    ∙ steps_fail plant number steps line (drop (place + 1) lines) Shape said refl fails
+    ∙ steps_fail plant number steps line (drop (place + 1) lines) _ said refl fails
 
 pub loop-line-preserved : goal.loop-line-preserved
 loop-line-preserved c =
