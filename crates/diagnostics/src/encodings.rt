@@ -11,18 +11,17 @@ use slice_table::{Field, Place};
 use tlv24::{FlowTlv, SetType, TlvFault, read_flow};
 use toml::Table;
 
-/// Says why a text cannot be decoded as hexadecimal.
-pub(crate) fn say_no_hex(reason: &mut Reason, digits: &str, fault: FromHexError) {
-    match (fault, first_beside(digits, Letters::Hexadecimal)) {
-        (FromHexError::OutOfMemory, _) => reason.is_lost = true,
-        (_, Some((before, c))) => {
+/// Says which character of a text is not a hexadecimal digit, or that their number is odd.
+pub(crate) fn say_no_hex(reason: &mut Reason, digits: &str) {
+    match first_beside(digits, Letters::Hexadecimal) {
+        Some((before, c)) => {
             let place = (before as u64).saturating_add(1);
             reason.say(
                 "character {}, {}, is not a hexadecimal digit",
                 &[GapText::Number(place), GapText::Letter(c)],
             );
         }
-        (_, None) => reason.say(
+        None => reason.say(
             "it must have an even number of hexadecimal digits, not {}",
             &[GapText::Number(digits.len() as u64)],
         ),
@@ -88,8 +87,12 @@ fn encoding_of(reason: &mut Reason, bytes: &[u8]) -> Option<FlowTlv> {
 pub(crate) fn encoding_in(reason: &mut Reason, digits: &str) -> Option<FlowTlv> {
     match hex::decode(reason.alloc, digits) {
         Ok(bytes) => encoding_of(reason, bytes.as_slice()),
-        Err(fault) => {
-            say_no_hex(reason, digits, fault);
+        Err(FromHexError::OutOfMemory) => {
+            reason.is_lost = true;
+            None
+        }
+        Err(_) => {
+            say_no_hex(reason, digits);
             None
         }
     }

@@ -1,7 +1,7 @@
 //! What the program says on standard error: why its status is not 0, and warnings.
 
 use crate::file::File;
-use crate::lines::{NumberedStep, add_no_messages, say_line, say_stranger, steps_of};
+use crate::lines::{add_no_messages, say_line, say_stranger, steps_of};
 use crate::parts::{InputParts, parts_of};
 use crate::plain::is_plain;
 use crate::plants::{say_faults, say_no_bar, say_no_toml};
@@ -11,6 +11,7 @@ use crate::report::Report;
 use crate::unread::say_all_unread;
 use command_line::{BatchWord, RunReport, Word, text_of_wrong};
 use plant::Plant;
+use script_format::LineStep;
 use slice_table::{PlantFault, read_plant};
 use std::alloc::{AllocError, Global};
 use toml::Table;
@@ -71,26 +72,21 @@ fn say_script(reason: &mut Reason, plant: Plant, parts: &InputParts<'_>) {
     let mut report = Report::new(reason.alloc, MOST_LINES);
     let steps = steps_of(&mut report, &plant, script, parts.bar);
     if report.is_empty() {
-        say_refused(reason, plant, parts, steps.steps);
+        say_refused(reason, plant, parts, steps);
     } else {
         report.say(reason, "invalid line", "invalid lines");
     }
 }
 
 /// Says which step is refused.
-fn say_refused(
-    reason: &mut Reason,
-    plant: Plant,
-    parts: &InputParts<'_>,
-    steps: Vec<NumberedStep>,
-) {
+fn say_refused(reason: &mut Reason, plant: Plant, parts: &InputParts<'_>, steps: Vec<LineStep>) {
     let mut wrong = Reason::new(reason.alloc);
     let number = refused_of(&mut wrong, plant, steps);
     if !wrong.is_silent() {
         let script = parts.script.unwrap_or("");
         let line = script
             .split('\n')
-            .nth(number.saturating_sub(1))
+            .nth(number.saturating_sub(1) as usize)
             .unwrap_or("");
         say_line(reason, parts.bar, number, line);
         reason.say("{}\n", &[GapText::Told(&wrong)]);

@@ -4,7 +4,6 @@ ghost use Rattle.plant.specs.Plant.{IsPlant};
 ghost use Rattle.plant_core.specs.CoreView.{core_view};
 
 use crate::joint::{Side, name_of, say_over_slice, say_overlap};
-use crate::lines::NumberedStep;
 use crate::reason::{GapText, Reason};
 use crate::values::say_slice;
 use grant_policy::{RankInput, Ranking, rank_by};
@@ -12,6 +11,7 @@ use operator_book::{Action, BookFault, Entry, SliceRow};
 use plant::{Op, Plant};
 use plant_core::{CoreFault, CoreOpenFault, PlantCore, ResliceFault};
 use run_model::{SliceRows, Step};
+use script_format::LineStep;
 
 /// What a refused step asked for, as far as a reason says it.
 #[derive(Drop)]
@@ -232,11 +232,11 @@ fn say_core(reason: &mut Reason, core: &mut PlantCore, asked: &Asked, fault: Cor
 }
 
 /// Runs steps up to the first that is refused. Returns the number of its line, and the reason says why.
-fn first_refused(reason: &mut Reason, core: &mut PlantCore, steps: Vec<NumberedStep>) -> usize
+fn first_refused(reason: &mut Reason, core: &mut PlantCore, steps: Vec<LineStep>) -> u64
     requires { IsPlant (core_view core.old).plant }
 {
     let mut outs = Vec::new(reason.alloc);
-    for NumberedStep { number, step } in steps {
+    for LineStep { number, step } in steps {
         let asked = asked_of(reason, &step);
         if let Err(fault) = core.step_over(reason.alloc, step, &mut outs) {
             core.always();
@@ -253,8 +253,8 @@ fn refused_by(
     reason: &mut Reason,
     plant: Plant,
     rankings: Vec<Ranking>,
-    steps: Vec<NumberedStep>,
-) -> usize {
+    steps: Vec<LineStep>,
+) -> u64 {
     match PlantCore::open(reason.alloc, plant, rankings) {
         Ok(mut core) => {
             core.always();
@@ -268,7 +268,7 @@ fn refused_by(
 }
 
 /// Runs the steps on the plant's core. Returns the number of the line of the first that is refused, and the reason says why.
-pub(crate) fn refused_of(reason: &mut Reason, plant: Plant, steps: Vec<NumberedStep>) -> usize {
+pub(crate) fn refused_of(reason: &mut Reason, plant: Plant, steps: Vec<LineStep>) -> u64 {
     let mut rankings = Vec::new(reason.alloc);
     for row in plant.rows() {
         let policy = row.get_fields().policy;

@@ -126,8 +126,6 @@ pub(crate) fn say_slice_value<'v>(
 /// The characters that a text may have.
 #[derive(Clone, Copy)]
 pub(crate) enum Letters {
-    /// Decimal digits.
-    Decimal,
     /// Hexadecimal digits.
     Hexadecimal,
     /// Letters and digits of ASCII.
@@ -138,7 +136,6 @@ impl Letters {
     /// Returns whether a character is one of these.
     fn has(self, c: char) -> bool {
         match self {
-            Letters::Decimal => c.is_ascii_digit(),
             Letters::Hexadecimal => c.is_ascii_hexdigit(),
             Letters::Alphanumeric => c.is_ascii_alphanumeric(),
         }
