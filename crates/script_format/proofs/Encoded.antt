@@ -5,16 +5,12 @@ use Rattle.std.specs.Io.KnownBytes.{Appends}
 use Rattle.std.specs.List.{flat_map}
 use Rattle.std.proofs.KnownBytes.{Appends-trans}
 use Rattle.std.proofs.lemmas.List.{take-take, drop-take, drop_all, take_all}
-use Rattle.dsx_messages.specs.Modem.{hex_digit, hex_pair}
+use Rattle.dsx_messages.specs.Modem.{hex_digit}
 use Rattle.hex.specs.Hex.{encode_upper, encode_with, upper_digits}
 
--- a digit of the table
-digit_is : (n : ℕ) → n < 16 → slice_index upper_digits n ≡ hex_digit n
+-- a digit as one of a table
+pub digit_is : (n : ℕ) → n < 16 → hex_digit n ≡ slice_index upper_digits n
 digit_is n lt = grind (arith)
-
--- the two digits of a byte, of the table
-pub pair_is : (byte : ℕ) → byte < 256 → slice_index upper_digits (byte / 16) ∷ slice_index upper_digits (byte % 16) ∷ [] ≡ hex_pair byte
-pair_is byte lt = rw (digit_is (byte / 16) (omega arith), digit_is (byte % 16) (omega arith)) refl
 
 -- bytes in hexadecimal, one list behind the other
 pub encode_more : (t xs ys : List ℕ) → encode_with t (xs ++ ys) ≡ encode_with t xs ++ encode_with t ys

@@ -2,7 +2,7 @@
 
 ghost use Rattle.std.specs.Prelude.{◌≡◌, ◌*◌, ◌/◌, ◌%◌, ◌<◌, ◌≤◌, [], ◌∷◌, ◌++◌, length, take, slice_index, OnOk};
 ghost use Rattle.std.specs.Io.KnownBytes.{Appends};
-ghost use Rattle.dsx_messages.specs.Modem.{hex_pair};
+ghost use Rattle.dsx_messages.specs.Modem.{hex_digit, hex_pair};
 ghost use Rattle.hex.specs.Hex.{encode_upper, upper_digits};
 
 use std::io;
@@ -14,19 +14,20 @@ const STEP: usize = 64;
 /// Room for their digits, and for the end of a line.
 const ROOM: usize = 129;
 
-/// The digits, in upper case.
-const DIGITS: &[u8; 16] = b"0123456789ABCDEF";
-
-/// Returns the digit of a number below 16.
+/// Returns the upper-case digit of a number below 16. No table: many digits are computed at once.
 fn digit(number: u8) -> u8
     requires { number < 16 }
-    ensures { result ≡ slice_index upper_digits number }
+    ensures { result ≡ hex_digit number }
 {
-    DIGITS[number as usize]
+    if number < 10 {
+        b'0' + number
+    } else {
+        b'A' - 10 + number
+    }
 }
 
 /// Returns the two digits of a byte.
-#[tactic(auto, using(crate::proofs::Encoded::pair_is))]
+#[tactic(auto, using(crate::proofs::Encoded::digit_is))]
 pub(crate) fn hex_pair(byte: u8) -> (u8, u8)
     ensures high { result.0 ≡ slice_index upper_digits (byte / 16) }
     ensures low { result.1 ≡ slice_index upper_digits (byte % 16) }
