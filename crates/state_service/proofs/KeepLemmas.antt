@@ -46,10 +46,8 @@ state_put least count plant saved snapshot content le says is = record {
 }
 
 -- the one or the other
-pub before_or_after : (least : ℕ) (before later : Option JournalContent) → HasNoFewer least before → HasNoFewer least later → (c : List ℕ) → IsBeforeOrAfter before later c
-    → HasNoFewer least (journal_content c)
-before_or_after least before later one other c is =
-    ⊎_elim (λ same. subst (λ (o : Option JournalContent). HasNoFewer least o) (sym same) one) (λ same. subst (λ (o : Option JournalContent). HasNoFewer least o) (sym same) other) is
+pub before_or_after : (P : Option JournalContent → Type 0) (before later : Option JournalContent) → P before → P later → (c : List ℕ) → IsBeforeOrAfter before later c → P (journal_content c)
+before_or_after P before later one other c is = ⊎_elim (λ same. subst P (sym same) one) (λ same. subst P (sym same) other) is
 
 -- a journal that leads to a core
 pub leading_has : (content : Option JournalContent) (live : CoreView) (count : ℕ) → LeadsHere content live count → HasLines content count
@@ -96,10 +94,9 @@ module _ {D : Type 0} (moment : D → ℕ) (left_since : D → ℕ → List ℕ 
   }
 
   -- no call on a file that is on the disk
-  pub nothing_lost : (device : D) (seen : D → List ℕ) (may_leave : D → List ℕ → Type 0) (least : ℕ) → ((c : List ℕ) → left_since device (moment device) c → may_leave device c)
-      → Only (seen device) (may_leave device) → HasNoFewer least (journal_content (seen device)) → LeavesOnly moment left_since device device (λ c. HasNoFewer least (journal_content c))
-  nothing_lost device seen may_leave least now only has =
-      at_rest device (λ c. HasNoFewer least (journal_content c)) (λ c left. subst (λ (d : List ℕ). HasNoFewer least (journal_content d)) (sym (only c (now c left))) has)
+  pub unchanged : (device : D) (seen : D → List ℕ) (may_leave : D → List ℕ → Type 0) (P : Option JournalContent → Type 0) → ((c : List ℕ) → left_since device (moment device) c → may_leave device c)
+      → Only (seen device) (may_leave device) → P (journal_content (seen device)) → LeavesOnly moment left_since device device (λ c. P (journal_content c))
+  unchanged device seen may_leave P now only has = at_rest device (λ c. P (journal_content c)) (λ c left. subst (λ (d : List ℕ). P (journal_content d)) (sym (only c (now c left))) has)
 
   -- a call that adds no outcome
   pub none_added : (may_leave : D → List ℕ → Type 0) (old new : D) (P : List ℕ → Type 0) → ((c : List ℕ) → left_since old (moment old) c → may_leave old c) → ((c : List ℕ) → may_leave old c → P c)
@@ -110,20 +107,10 @@ module _ {D : Type 0} (moment : D → ℕ) (left_since : D → ℕ → List ℕ 
     before = λ t c le left. ⊎_elim (λ past. inl past) (λ is. inr (here c (same c is))) (time.nothing_else t c le left);
   }
 
-  -- so a journal with these lines loses none
-  pub loses_none : (old new : D) (content : Option JournalContent) (count : ℕ) (plant : PlantFields) (saved : Snapshot) (lines : List (Vec ℕ Global)) → StandsForState content count plant saved (texts lines)
-      → LeavesOnly moment left_since old new (λ c. HasNoFewer (count + length lines) (journal_content c)) → LeavesOnly moment left_since old new (λ c. LosesNoLine content (journal_content c))
-  loses_none old new content count plant saved lines stands only =
-      weaker old new (λ c. HasNoFewer (count + length lines) (journal_content c)) (λ c. LosesNoLine content (journal_content c)) only
-      (λ c has. record { least = count + length lines; had = inl (stands_has content count plant saved lines stands); has = has })
-
-  -- a state that is put in the place of lines
-  pub put_moments : (old new : D) (before : Option JournalContent) (snapshot : List (List ℕ)) (least count : ℕ) (plant : PlantFields) (saved : Snapshot) → HasNoFewer least before → least ≤ count
-      → SaysState snapshot count plant saved → LeavesOnly moment left_since old new (IsBeforeOrAfter before (fresh snapshot))
-      → LeavesOnly moment left_since old new (λ c. HasNoFewer least (journal_content c))
-  put_moments old new before snapshot least count plant saved has le says only =
-      weaker old new (IsBeforeOrAfter before (fresh snapshot)) (λ c. HasNoFewer least (journal_content c)) only
-      (before_or_after least before (fresh snapshot) has (state_put least count plant saved snapshot (fresh snapshot) le says refl))
+  -- lines that are put in a journal, or a state in their place
+  pub put_moments : (old new : D) (P : Option JournalContent → Type 0) (before later : Option JournalContent) → P before → P later → LeavesOnly moment left_since old new (IsBeforeOrAfter before later)
+      → LeavesOnly moment left_since old new (λ c. P (journal_content c))
+  put_moments old new P before later one other only = weaker old new (IsBeforeOrAfter before later) (λ c. P (journal_content c)) only (before_or_after P before later one other)
 
   -- one call, and then more
   pub joined : (old mid new : D) (P : List ℕ → Type 0) → LeavesOnly moment left_since old mid P → LeavesOnly moment left_since mid new P → LeavesOnly moment left_since old new P
@@ -132,13 +119,6 @@ module _ {D : Type 0} (moment : D → ℕ) (left_since : D → ℕ → List ℕ 
     each = λ c left. ⊎_elim (so_far.each c) (λ p. p) (more.before (moment old) c so_far.later left);
     before = λ t c le left. ⊎_elim (so_far.before t c le) (λ p. inr p) (more.before t c (omega (arith, le, so_far.later)) left);
   }
-
-  -- a batch
-  pub batch_moments : (old new : D) (before : Option JournalContent) (lines : List (List ℕ)) (least : ℕ) → HasNoFewer least before
-      → LeavesOnly moment left_since old new (IsBeforeOrAfter before (with_lines lines before)) → LeavesOnly moment left_since old new (λ c. HasNoFewer least (journal_content c))
-  batch_moments old new before lines least has only =
-      weaker old new (IsBeforeOrAfter before (with_lines lines before)) (λ c. HasNoFewer least (journal_content c)) only
-      (before_or_after least before (with_lines lines before) has (lines_added least before (with_lines lines before) lines has refl))
 
 -- a journal is begun
 pub begun_loses_none : (bytes file : List ℕ) (content : Option JournalContent) → bytes ≡ [] → IsBegunWith file content → LosesNoLine (journal_content bytes) content

@@ -2,4 +2,5 @@ pub mod ReadLemmas
 pub mod CommandLemmas
 pub mod ServeLemmas
 pub mod KeepLemmas
+pub mod CrashLemmas
 pub mod BeginLemmas

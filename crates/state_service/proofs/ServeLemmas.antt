@@ -12,13 +12,13 @@ use Rattle.resumed_service.proofs.ServedLemmas.{known_map}
 use Rattle.state_service.specs.declared.period_end.DueState.{DueState}
 use Rattle.state_service.specs.declared.reading.BatchEnd.{BatchEnd}
 use Rattle.state_service.specs.declared.reading.BatchEnd.TheVariants.{Open, Command, Ended}
-use Rattle.state_service.specs.declared.performing.Refusal.{Refusal}
-use Rattle.state_service.specs.declared.performing.Refusal.TheVariants.{NoSnapshot, NoNumber}
-use Rattle.state_service.specs.Commands.{AreNoCommands, IsRefusedCommand, IsRefusedFor, IsSnapshotDue, IsNumberDue, IsCommandDue}
+use Rattle.state_service.specs.declared.performing.CommandRefusal.{CommandRefusal}
+use Rattle.state_service.specs.declared.performing.CommandRefusal.TheVariants.{NoSnapshot, NoNumber}
+use Rattle.state_service.specs.Commands.{AreNoCommands, IsRefusedCommand, IsCommandRefusedFor, IsSnapshotDue, IsNumberDue, IsCommandDue}
 use Rattle.state_service.specs.Taking.{AreTakenSoFar, IsAfterBatch}
 use Rattle.state_service.specs.Serving.{Event, lines_done, text_told, LeadOn, AreDoneNext, IsServing, IsAtLine, GoesOnFromState, GoesOnUnderNumber}
 use Rattle.state_service.specs.Serving.Event.{Done, Saved, SnapshotGiven, NumberGiven, CommandRefused}
-use Rattle.state_service.specs.Periods.{IsAfterLines, GoesOnOnceSaved}
+use Rattle.state_service.specs.Periods.{IsAfterLines, GoesOnAfterSave}
 
 pub none_if : {A : Type 0} (option : Option A) → ((some : A) → option ≡ Some some → ⊥) → option ≡ None
 none_if None other = refl
@@ -72,7 +72,7 @@ module _ (file : List ℕ) (first : CoreView) (count : ℕ) (end : BatchEnd) (ol
 module _ (file : List ℕ) (first : CoreView) (count : ℕ) (input rest part : List ℕ) (live : CoreView) (now : ℕ) (old new : Option (List ℕ)) (due : DueState) where
   -- it is the core's, and nothing waits for it
   pub state_due : due.answer.items ≡ [] → IsKeptState live file now due.kept.snapshot due.kept.start.plant due.kept.start.saved
-      → IsServing file first count input rest part live now old new → GoesOnOnceSaved due file first count input rest part now old new
+      → IsServing file first count input rest part live now old new → GoesOnAfterSave due file first count input rest part now old new
   state_due none kept so_far = λ next later restarted wrote. record {
     events = Saved ∷ so_far.events;
     lead = (
@@ -96,7 +96,7 @@ module _ (file : List ℕ) (first : CoreView) (count : ℕ) (input rest part : L
     after = omega (arith, so_far.count_is)
 
     -- a snapshot is requested
-    snapshot_due : IsSnapshotDue file live line (now + 1) due → GoesOnOnceSaved due file first count input rest part (now + 1) old new
+    snapshot_due : IsSnapshotDue file live line (now + 1) due → GoesOnAfterSave due file first count input rest part (now + 1) old new
     snapshot_due is = λ next later restarted wrote. record {
       events = SnapshotGiven line due.answer.items ∷ so_far.events;
       lead = (
@@ -113,7 +113,7 @@ module _ (file : List ℕ) (first : CoreView) (count : ℕ) (input rest part : L
     }
 
     -- another frame number is
-    number_due : IsNumberDue file live line (now + 1) due → GoesOnOnceSaved due file first count input rest part (now + 1) old new
+    number_due : IsNumberDue file live line (now + 1) due → GoesOnAfterSave due file first count input rest part (now + 1) old new
     number_due is = λ next later restarted wrote. record {
       events = NumberGiven line is.other.frame ∷ so_far.events;
       lead = (
@@ -139,10 +139,10 @@ module _ (file : List ℕ) (first : CoreView) (count : ℕ) (input rest part : L
           (subst (λ (bytes : List ℕ). Appends new later bytes) is.answer_is wrote);
     }
 
-    command_due : IsCommandDue file live line (now + 1) due → GoesOnOnceSaved due file first count input rest part (now + 1) old new
+    command_due : IsCommandDue file live line (now + 1) due → GoesOnAfterSave due file first count input rest part (now + 1) old new
     command_due is = ⊎_elim snapshot_due number_due is
 
-refused_for : (file : List ℕ) (live : CoreView) (line : List ℕ) (refusal : Refusal) → IsRefusedFor file live line refusal → IsRefusedCommand file live line
+refused_for : (file : List ℕ) (live : CoreView) (line : List ℕ) (refusal : CommandRefusal) → IsCommandRefusedFor file live line refusal → IsRefusedCommand file live line
 refused_for file live line NoSnapshot is = inl is
 refused_for file live line (NoNumber why) is = inr (why, is)
 
@@ -163,34 +163,34 @@ command_refused file first count input rest part line text live next now old new
 module _ (file : List ℕ) (first : CoreView) (count : ℕ) (part : List ℕ) (known rest old : Option (List ℕ)) where
   -- a state is saved, and its answer written
   pub saved_where : (due : DueState) (next : CoreView) (now : ℕ) (new later : Option (List ℕ)) → IsRestarted due.kept.start.plant due.kept.start.saved.frame (states_of due.kept.start.saved) next
-      → Appends new later due.answer.items → WhereKnown known rest (λ input left. GoesOnOnceSaved due file first count input left part now old new)
+      → Appends new later due.answer.items → WhereKnown known rest (λ input left. GoesOnAfterSave due file first count input left part now old new)
       → WhereKnown known rest (λ input left. IsServing file first count input left part next now old later)
   saved_where due next now new later restarted wrote =
-      known_map known rest (λ input left. GoesOnOnceSaved due file first count input left part now old new) (λ input left. IsServing file first count input left part next now old later)
+      known_map known rest (λ input left. GoesOnAfterSave due file first count input left part now old new) (λ input left. IsServing file first count input left part next now old later)
       (λ input left here. here next later restarted wrote)
 
   module _ (live : CoreView) (now : ℕ) (new : Option (List ℕ)) where
     pub state_due_where : (due : DueState) → due.answer.items ≡ [] → IsKeptState live file now due.kept.snapshot due.kept.start.plant due.kept.start.saved
         → WhereKnown known rest (λ input left. IsServing file first count input left part live now old new)
-        → WhereKnown known rest (λ input left. GoesOnOnceSaved due file first count input left part now old new)
+        → WhereKnown known rest (λ input left. GoesOnAfterSave due file first count input left part now old new)
     state_due_where due none kept =
-        known_map known rest (λ input left. IsServing file first count input left part live now old new) (λ input left. GoesOnOnceSaved due file first count input left part now old new)
+        known_map known rest (λ input left. IsServing file first count input left part live now old new) (λ input left. GoesOnAfterSave due file first count input left part now old new)
         (λ input left. state_due file first count input left part live now old new due none kept)
 
     -- a command is performed once the state is saved
     pub command_due_where : (due : DueState) (saved_file line : List ℕ) (number : ℕ) → saved_file ≡ file → number ≡ now + 1 → IsCommandDue saved_file live line number due
         → WhereKnown known rest (λ input left. IsAtLine line file first count input left part live now old new)
-        → WhereKnown known rest (λ input left. GoesOnOnceSaved due file first count input left part number old new)
+        → WhereKnown known rest (λ input left. GoesOnAfterSave due file first count input left part number old new)
     command_due_where due saved_file line number same counted is =
-        known_map known rest (λ input left. IsAtLine line file first count input left part live now old new) (λ input left. GoesOnOnceSaved due file first count input left part number old new)
+        known_map known rest (λ input left. IsAtLine line file first count input left part live now old new) (λ input left. GoesOnAfterSave due file first count input left part number old new)
         (λ input left so_far.
-        subst (λ (n : ℕ). GoesOnOnceSaved due file first count input left part n old new) (sym counted)
+        subst (λ (n : ℕ). GoesOnAfterSave due file first count input left part n old new) (sym counted)
         (command_due file first count input left part live now old new due line so_far
         (subst (λ (n : ℕ). IsCommandDue file live line n due) counted (subst (λ (f : List ℕ). IsCommandDue f live line number due) same is))))
 
     -- it is refused
-    pub command_refused_where : (saved_file line text : List ℕ) (lines : List (List ℕ)) (refusal : Refusal) (next : CoreView) (done : ℕ) (later : Option (List ℕ)) → saved_file ≡ file → lines ≡ line ∷ []
-        → done ≡ now + length lines → IsRefusedFor saved_file live line refusal → AreDoneNext live now lines next text → Appends new later text
+    pub command_refused_where : (saved_file line text : List ℕ) (lines : List (List ℕ)) (refusal : CommandRefusal) (next : CoreView) (done : ℕ) (later : Option (List ℕ)) → saved_file ≡ file → lines ≡ line ∷ []
+        → done ≡ now + length lines → IsCommandRefusedFor saved_file live line refusal → AreDoneNext live now lines next text → Appends new later text
         → WhereKnown known rest (λ input left. IsAtLine line file first count input left part live now old new)
         → WhereKnown known rest (λ input left. IsServing file first count input left part next done old later)
     command_refused_where saved_file line text lines refusal next done later same alone counted refused are wrote =
@@ -198,5 +198,5 @@ module _ (file : List ℕ) (first : CoreView) (count : ℕ) (part : List ℕ) (k
         (λ input left so_far.
         let one : done ≡ now + 1 = counted ∙ ap (λ (ls : List (List ℕ)). now + length ls) alone in
         subst (λ (n : ℕ). IsServing file first count input left part next n old later) (sym one)
-        (command_refused file first count input left part line text live next now old new later (refused_for file live line refusal (subst (λ (f : List ℕ). IsRefusedFor f live line refusal) same refused))
+        (command_refused file first count input left part line text live next now old new later (refused_for file live line refusal (subst (λ (f : List ℕ). IsCommandRefusedFor f live line refusal) same refused))
         (subst (λ (ls : List (List ℕ)). AreDoneNext live now ls next text) alone are) wrote so_far))

@@ -10,8 +10,8 @@ use Rattle.resumed_service.specs.declared.new_frame_fault.NewFrameFault.TheVaria
 use Rattle.resumed_service.specs.Items.{asks_snapshot, SnapshotIsGiven}
 use Rattle.resumed_service.specs.NewFrames.{asks_frame, NamesFrame, IsCoreRenumbered, IsNewFrameFault, frame_text}
 use Rattle.state_service.specs.declared.period_end.DueState.{DueState}
-use Rattle.state_service.specs.declared.performing.Refusal.{Refusal}
-use Rattle.state_service.specs.declared.performing.Refusal.TheVariants.{NoSnapshot, NoNumber}
+use Rattle.state_service.specs.declared.performing.CommandRefusal.{CommandRefusal}
+use Rattle.state_service.specs.declared.performing.CommandRefusal.TheVariants.{NoSnapshot, NoNumber}
 use Rattle.state_service.specs.declared.performing.CommandOutcome.{CommandOutcome}
 use Rattle.state_service.specs.declared.performing.CommandOutcome.TheVariants.{Due, Refused}
 
@@ -43,9 +43,9 @@ abbrev pub IsRefusedCommand : List ℕ → CoreView → List ℕ → Type 0
 IsRefusedCommand file live line = HasNoSnapshot live line ⊎ ((fault : NewFrameFault) × HasNoNumber file live line fault)
 
 -- for this reason
-abbrev pub IsRefusedFor : List ℕ → CoreView → List ℕ → Refusal → Type 0
-IsRefusedFor file live line NoSnapshot = HasNoSnapshot live line
-IsRefusedFor file live line (NoNumber why) = HasNoNumber file live line why
+abbrev pub IsCommandRefusedFor : List ℕ → CoreView → List ℕ → CommandRefusal → Type 0
+IsCommandRefusedFor file live line NoSnapshot = HasNoSnapshot live line
+IsCommandRefusedFor file live line (NoNumber why) = HasNoNumber file live line why
 
 -- ---- a command that is performed
 
@@ -70,4 +70,4 @@ IsCommandDue file live line count due = IsSnapshotDue file live line count due �
 -- what a command results in, as the line of this number
 abbrev pub IsOutcomeOf : List ℕ → CoreView → List ℕ → ℕ → CommandOutcome → Type 0
 IsOutcomeOf file live line number (Due due) = IsCommandDue file live line number due
-IsOutcomeOf file live line number (Refused refusal) = IsRefusedFor file live line refusal
+IsOutcomeOf file live line number (Refused refusal) = IsCommandRefusedFor file live line refusal

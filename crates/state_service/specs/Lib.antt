@@ -2,4 +2,5 @@ pub mod Commands
 pub mod Taking
 pub mod Serving
 pub mod Periods
+pub mod Crashes
 pub mod Beginning

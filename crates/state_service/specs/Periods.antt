@@ -22,15 +22,15 @@ IsAfterLines (batch.Command line) file first count input rest part live now old 
 IsAfterLines batch.Ended file first count input rest part live now old new = HasServed file first count input live now old new
 
 -- once the state is in the journal, and its answer is written, the service goes on from the core that is restored from the state
-abbrev pub GoesOnOnceSaved : DueState → List ℕ → CoreView → ℕ → List ℕ → List ℕ → List ℕ → ℕ → Option (List ℕ) → Option (List ℕ) → Type 0
-GoesOnOnceSaved due file first count input rest part now old new =
+abbrev pub GoesOnAfterSave : DueState → List ℕ → CoreView → ℕ → List ℕ → List ℕ → List ℕ → ℕ → Option (List ℕ) → Option (List ℕ) → Type 0
+GoesOnAfterSave due file first count input rest part now old new =
     (next : CoreView) (later : Option (List ℕ)) → IsRestarted due.kept.start.plant due.kept.start.saved.frame (states_of due.kept.start.saved) next
     → Appends new later due.answer.items → IsServing file first count input rest part next now old later
 
 -- all lines of the input are done, or the state is to be saved
 abbrev pub IsAfterPeriod : PeriodEnd → List ℕ → CoreView → ℕ → List ℕ → List ℕ → List ℕ → CoreView → ℕ → Option (List ℕ) → Option (List ℕ) → Type 0
 IsAfterPeriod Ended file first count input rest part live now old new = HasServed file first count input live now old new
-IsAfterPeriod (Due due) file first count input rest part live now old new = GoesOnOnceSaved due file first count input rest part now old new
+IsAfterPeriod (Due due) file first count input rest part live now old new = GoesOnAfterSave due file first count input rest part now old new
 
 -- the period goes on, or it has ended
 abbrev pub IsInPeriod : Option PeriodEnd → List ℕ → CoreView → ℕ → List ℕ → List ℕ → List ℕ → CoreView → ℕ → Option (List ℕ) → Option (List ℕ) → Type 0
@@ -50,9 +50,9 @@ abbrev pub SaysAtEnd : ℕ → PeriodEnd → Type 0
 SaysAtEnd count Ended = ⊤
 SaysAtEnd count (Due due) = SaysDue count due
 
-abbrev pub SaysIfEnded : ℕ → Option PeriodEnd → Type 0
-SaysIfEnded count None = ⊤
-SaysIfEnded count (Some end) = SaysAtEnd count end
+abbrev pub SaysAtEndIfAny : ℕ → Option PeriodEnd → Type 0
+SaysAtEndIfAny count None = ⊤
+SaysAtEndIfAny count (Some end) = SaysAtEnd count end
 
 -- unless a state is to be saved, the journal leads to the core
 abbrev pub LeadsAtEnd : PeriodEnd → Option JournalContent → CoreView → ℕ → Type 0

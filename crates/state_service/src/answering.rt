@@ -8,13 +8,15 @@ ghost use Rattle.run_model.specs.IsStateAfter.{CoreView};
 ghost use Rattle.line_service.specs.Bytes.{WhereKnown};
 ghost use Rattle.line_journal.specs.Device.{LeavesOnly};
 ghost use Rattle.line_journal.specs.Found.{texts};
-ghost use Rattle.line_journal.specs.Journal.{journal_content, IsJournalSettled};
-ghost use Rattle.state_service.specs.Commands.{is_command, IsRefusedFor};
-ghost use Rattle.state_service.specs.Serving.{AreDoneNext, IsAtLine, LeadsHere, HasNoFewer};
-ghost use Rattle.state_service.specs.Periods.{IsInPeriod, SaysIfEnded, LeadsUnlessDue};
+ghost use Rattle.line_journal.specs.Journal.{journal_content, with_lines, IsJournalSettled, IsBeforeOrAfter};
+ghost use Rattle.state_service.specs.declared.reading.BatchEnd.TheVariants.{Command};
+ghost use Rattle.state_service.specs.Commands.{is_command};
+ghost use Rattle.state_service.specs.Serving.{AreDoneNext, IsAtLine, LeadsHere};
+ghost use Rattle.state_service.specs.Periods.{IsInPeriod, SaysAtEndIfAny, LeadsUnlessDue};
+ghost use Rattle.state_service.specs.Crashes.{ServiceOrigin, IsJournalOf, IsJournalInPeriod, IsLeftFrom};
 
 use crate::fault::StateServiceFault;
-use crate::performing::{CommandOutcome, Refusal, command_outcome};
+use crate::performing::{CommandOutcome, CommandRefusal, command_outcome};
 use crate::period_end::PeriodEnd;
 use durable_service::{DurableState, LineFailure, do_batch};
 use line_journal::{Device, Journal};
@@ -41,10 +43,9 @@ pub(crate) fn answer_lines<D: Device, W: Write>(
         → LeadsHere (journal_content (D.seen journal.new.device)) (live_view service.new.core) service.new.count) }
     ensures answered { OnOk result ((text : List ℕ) × AreDoneNext (live_view service.old.core) service.old.count (texts lines.now)
         (live_view service.new.core) text × Appends (W.contents writer.old) (W.contents writer.new) text) }
-    ensures any_moment { (least : ℕ) → HasNoFewer least (journal_content (D.seen journal.old.device))
-        → LeavesOnly D.moment D.left_since journal.old.device journal.new.device (λ c. HasNoFewer least (journal_content c)) }
-    ensures no_fewer { (least : ℕ) → HasNoFewer least (journal_content (D.seen journal.old.device))
-        → OnOk result (HasNoFewer least (journal_content (D.seen journal.new.device))) }
+    ensures added { OnOk result (journal_content (D.seen journal.new.device) ≡ with_lines (texts lines.now) (journal_content (D.seen journal.old.device))) }
+    ensures any_moment { LeavesOnly D.moment D.left_since journal.old.device journal.new.device
+        (IsBeforeOrAfter (journal_content (D.seen journal.old.device)) (with_lines (texts lines.now) (journal_content (D.seen journal.old.device)))) }
 {
     let text = do_batch(alloc, journal, service, lines)?;
     writer.write_all(text.as_slice())?;
@@ -57,12 +58,17 @@ fn note_refusal<N: RefusalNotes>(
     alloc: Global,
     core: &LiveCore,
     number: u64,
-    refusal: &Refusal,
+    refusal: &CommandRefusal,
     notes: &mut N,
 ) {
     match refusal {
-        Refusal::NoSnapshot => {}
-        Refusal::NoNumber { why } => notes.note_frame_refused(alloc, number, core.plant(), why),
+        CommandRefusal::NoSnapshot => {}
+        CommandRefusal::NoNumber { why } => notes.note_frame_refused(
+            alloc,
+            number,
+            core.plant(),
+            why,
+        ),
     }
 }
 
@@ -95,16 +101,18 @@ pub(crate) fn serve_command<D: Device, W: Write, N: RefusalNotes>(
     ensures same_file { service.new.file ≡ service.old.file }
     ensures leads { IfOk result (λ end. LeadsHere (journal_content (D.seen journal.old.device)) (live_view service.old.core) service.old.count
         → LeadsUnlessDue end (journal_content (D.seen journal.new.device)) (live_view service.new.core) service.new.count) }
-    ensures says { IfOk result (SaysIfEnded service.new.count) }
+    ensures says { IfOk result (SaysAtEndIfAny service.new.count) }
     ensures on { IfOk result (λ end. (file : List ℕ) (first : CoreView) (count : ℕ) (known rest written : Option (List ℕ)) (part : List ℕ)
         → service.old.file ≡ file → WhereKnown known rest (λ input left. IsAtLine line.items file first count input left part
         (live_view service.old.core) service.old.count written (W.contents writer.old))
         → WhereKnown known rest (λ input left. IsInPeriod end file first count input left part
         (live_view service.new.core) service.new.count written (W.contents writer.new))) }
-    ensures any_moment { (least : ℕ) → HasNoFewer least (journal_content (D.seen journal.old.device))
-        → LeavesOnly D.moment D.left_since journal.old.device journal.new.device (λ c. HasNoFewer least (journal_content c)) }
-    ensures no_fewer { (least : ℕ) → HasNoFewer least (journal_content (D.seen journal.old.device))
-        → OnOk result (HasNoFewer least (journal_content (D.seen journal.new.device))) }
+    ensures holds { IfOk result (λ end. (origin : ServiceOrigin) (rest : Option (List ℕ)) (part : List ℕ)
+        → IsJournalOf origin (Command line) (journal_content (D.seen journal.old.device)) rest part
+        → IsJournalInPeriod end origin (journal_content (D.seen journal.new.device)) rest part) }
+    ensures any_moment { (origin : ServiceOrigin) (rest : Option (List ℕ)) (part : List ℕ)
+        → IsJournalOf origin (Command line) (journal_content (D.seen journal.old.device)) rest part
+        → LeavesOnly D.moment D.left_since journal.old.device journal.new.device (λ c. IsLeftFrom origin (journal_content c)) }
 {
     let number = number_after(service.count)?;
     let refusal = match command_outcome(alloc, service, number, line.as_slice())? {

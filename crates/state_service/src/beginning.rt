@@ -8,7 +8,7 @@ ghost use Rattle.line_journal.specs.Device.{Only, LeavesOnly};
 ghost use Rattle.line_journal.specs.Found.{texts};
 ghost use Rattle.line_journal.specs.Journal.{journal_content, IsJournalSettled};
 ghost use Rattle.durable_service.specs.Durable.{StandsForState};
-ghost use Rattle.state_service.specs.Beginning.{IsFoundIn, IsStateService, IsUnharmed};
+ghost use Rattle.state_service.specs.Beginning.{IsFoundIn, IsStateService, IsUnharmed, IsLeftByOpening, IsLeftAt};
 
 use crate::fault::StateServiceFault;
 use crate::serving::serve_restored;
@@ -53,7 +53,7 @@ fn open_state<D: Device>(
         state.start.saved (texts state.lines.items)) }
     ensures settled { IfOk result (λ state. IsJournalSettled D.seen D.may_leave device.new state.gate) }
     ensures is_found { OnOk result (IsFoundIn (D.seen device.old) file.now (journal_content (D.seen device.new))) }
-    ensures any_moment { LeavesOnly D.moment D.left_since device.old device.new (λ c. IsUnharmed (D.seen device.old) (journal_content c)) }
+    ensures any_moment { LeavesOnly D.moment D.left_since device.old device.new (λ c. IsLeftByOpening (D.seen device.old) file.now (journal_content c)) }
 {
     if !device.read(alloc)?.is_empty() {
         return read_state(alloc, device);
@@ -97,6 +97,9 @@ pub fn serve_state<D: Device, R: Read, W: Write, N: RefusalNotes>(
     // A crash at any moment leaves the journal as it was, or one with a state and no fewer lines.
     ensures any_moment { LeavesOnly D.moment D.left_since journal.old.device journal.new.device
         (λ c. IsUnharmed (D.seen journal.old.device) (journal_content c)) }
+    // It leaves a journal of the first lines of the input: a state to which they led, and those that follow.
+    ensures named { IfSome (R.remaining reader.old) (λ input. LeavesOnly D.moment D.left_since journal.old.device journal.new.device
+        (λ c. IsLeftAt (D.seen journal.old.device) (plant_text input) (script_text input) (journal_content c))) }
 {
     let given = read_given(alloc, reader)?;
     let mut lines = BufReader::with_capacity(alloc, READ_BYTES, reader)?;

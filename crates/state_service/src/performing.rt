@@ -18,7 +18,7 @@ use std::alloc::{AllocError, Global};
 
 /// Why a command is not performed.
 #[derive(Drop)]
-pub(crate) enum Refusal {
+pub(crate) enum CommandRefusal {
     /// The core does not rest, so there is no snapshot.
     NoSnapshot,
     /// The next frame does not get the number of the line.
@@ -31,7 +31,7 @@ pub(crate) enum CommandOutcome {
     /// It is performed once this state is saved.
     Due { due: DueState },
     /// It is refused.
-    Refused { refusal: Refusal },
+    Refused { refusal: CommandRefusal },
 }
 
 /// Returns the text of a snapshot.
@@ -66,7 +66,7 @@ fn snapshot_outcome(
         Ok(saved) => saved,
         Err(SaveFault::Unfinished { why: _ }) => {
             return Ok(CommandOutcome::Refused {
-                refusal: Refusal::NoSnapshot,
+                refusal: CommandRefusal::NoSnapshot,
             });
         }
         Err(SaveFault::NoMemory) => return Err(StateServiceFault::NoMemory),
@@ -93,7 +93,7 @@ fn frame_outcome(
         Err(NewFrameFault::NoMemory) => return Err(StateServiceFault::NoMemory),
         Err(why) => {
             return Ok(CommandOutcome::Refused {
-                refusal: Refusal::NoNumber { why },
+                refusal: CommandRefusal::NoNumber { why },
             });
         }
     };

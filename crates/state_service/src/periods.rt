@@ -7,9 +7,11 @@ ghost use Rattle.run_model.specs.IsStateAfter.{CoreView};
 ghost use Rattle.line_service.specs.Bytes.{WhereKnown};
 ghost use Rattle.line_journal.specs.Device.{LeavesOnly};
 ghost use Rattle.line_journal.specs.Journal.{JournalContent, journal_content, IsJournalSettled};
+ghost use Rattle.state_service.specs.declared.reading.BatchEnd.TheVariants.{Open};
 ghost use Rattle.state_service.specs.Taking.{HasCommand};
-ghost use Rattle.state_service.specs.Serving.{IsServing, LeadsHere, HasNoFewer};
-ghost use Rattle.state_service.specs.Periods.{IsAfterLines, IsInPeriod, IsAfterPeriod, IsKeptOf, SaysIfEnded, SaysAtEnd, LeadsUnlessDue, LeadsAtEnd};
+ghost use Rattle.state_service.specs.Serving.{IsServing, LeadsHere};
+ghost use Rattle.state_service.specs.Periods.{IsAfterLines, IsInPeriod, IsAfterPeriod, IsKeptOf, SaysAtEndIfAny, SaysAtEnd, LeadsUnlessDue, LeadsAtEnd};
+ghost use Rattle.state_service.specs.Crashes.{ServiceOrigin, IsJournalOf, IsJournalInPeriod, IsLeftFrom};
 
 use crate::answering::{answer_lines, serve_command};
 use crate::fault::StateServiceFault;
@@ -45,10 +47,10 @@ fn serve_batch<D: Device, B: BufRead, W: Write>(
         → WhereKnown known (B.remaining reader.new) (λ input rest. IsAfterLines end file first count input rest part.new.items
         (live_view service.new.core) service.new.count written (W.contents writer.new))) }
     ensures command { IfOk result HasCommand }
-    ensures any_moment { (least : ℕ) → HasNoFewer least (journal_content (D.seen journal.old.device))
-        → LeavesOnly D.moment D.left_since journal.old.device journal.new.device (λ c. HasNoFewer least (journal_content c)) }
-    ensures no_fewer { (least : ℕ) → HasNoFewer least (journal_content (D.seen journal.old.device))
-        → OnOk result (HasNoFewer least (journal_content (D.seen journal.new.device))) }
+    ensures holds { IfOk result (λ end. (origin : ServiceOrigin) → IsJournalOf origin Open (journal_content (D.seen journal.old.device)) (B.remaining reader.old) part.old.items
+        → IsJournalOf origin end (journal_content (D.seen journal.new.device)) (B.remaining reader.new) part.new.items) }
+    ensures any_moment { (origin : ServiceOrigin) → IsJournalOf origin Open (journal_content (D.seen journal.old.device)) (B.remaining reader.old) part.old.items
+        → LeavesOnly D.moment D.left_since journal.old.device journal.new.device (λ c. IsLeftFrom origin (journal_content c)) }
 {
     let LineBatch { lines, end } = read_batch(alloc, reader, part)?;
     if lines.is_empty() {
@@ -95,11 +97,11 @@ fn serve_lines<D: Device, B: BufRead, W: Write, N: RefusalNotes>(
         (live_view service.old.core) service.old.count written (W.contents writer.old))
         → WhereKnown known (B.remaining reader.new) (λ input rest. IsInPeriod end file first count input rest part.new.items
         (live_view service.new.core) service.new.count written (W.contents writer.new))) }
-    ensures says { IfOk result (SaysIfEnded service.new.count) }
-    ensures any_moment { (least : ℕ) → HasNoFewer least (journal_content (D.seen journal.old.device))
-        → LeavesOnly D.moment D.left_since journal.old.device journal.new.device (λ c. HasNoFewer least (journal_content c)) }
-    ensures no_fewer { (least : ℕ) → HasNoFewer least (journal_content (D.seen journal.old.device))
-        → OnOk result (HasNoFewer least (journal_content (D.seen journal.new.device))) }
+    ensures says { IfOk result (SaysAtEndIfAny service.new.count) }
+    ensures holds { IfOk result (λ end. (origin : ServiceOrigin) → IsJournalOf origin Open (journal_content (D.seen journal.old.device)) (B.remaining reader.old) part.old.items
+        → IsJournalInPeriod end origin (journal_content (D.seen journal.new.device)) (B.remaining reader.new) part.new.items) }
+    ensures any_moment { (origin : ServiceOrigin) → IsJournalOf origin Open (journal_content (D.seen journal.old.device)) (B.remaining reader.old) part.old.items
+        → LeavesOnly D.moment D.left_since journal.old.device journal.new.device (λ c. IsLeftFrom origin (journal_content c)) }
 {
     match serve_batch(alloc, journal, service, part, reader, writer)? {
         BatchEnd::Open => Ok(None),
@@ -120,7 +122,7 @@ fn end_if_resting(
         (live_view service.now.core) service.now.count written now)
         → WhereKnown known rest (λ input left. IsInPeriod end file first count input left part
         (live_view service.now.core) service.now.count written now)) }
-    ensures says { IfOk result (SaysIfEnded service.now.count) }
+    ensures says { IfOk result (SaysAtEndIfAny service.now.count) }
 {
     let Some(kept) = state_if_resting(alloc, service)? else {
         return Ok(None);
@@ -159,10 +161,10 @@ pub(crate) fn serve_period<D: Device, B: BufRead, W: Write, N: RefusalNotes>(
         → WhereKnown known (B.remaining reader.new) (λ input rest. IsAfterPeriod end file first count input rest part.new.items
         (live_view service.new.core) service.new.count written (W.contents writer.new))) }
     ensures says { IfOk result (SaysAtEnd service.new.count) }
-    ensures any_moment { (least : ℕ) → HasNoFewer least (journal_content (D.seen journal.old.device))
-        → LeavesOnly D.moment D.left_since journal.old.device journal.new.device (λ c. HasNoFewer least (journal_content c)) }
-    ensures no_fewer { (least : ℕ) → HasNoFewer least (journal_content (D.seen journal.old.device))
-        → OnOk result (HasNoFewer least (journal_content (D.seen journal.new.device))) }
+    ensures left { OnOk result ((origin : ServiceOrigin) → IsJournalOf origin Open (journal_content (D.seen journal.old.device)) (B.remaining reader.old) part.old.items
+        → IsLeftFrom origin (journal_content (D.seen journal.new.device))) }
+    ensures any_moment { (origin : ServiceOrigin) → IsJournalOf origin Open (journal_content (D.seen journal.old.device)) (B.remaining reader.old) part.old.items
+        → LeavesOnly D.moment D.left_since journal.old.device journal.new.device (λ c. IsLeftFrom origin (journal_content c)) }
 {
     let saved_at = service.count;
     for _ in 0..u64::MAX {

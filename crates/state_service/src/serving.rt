@@ -1,6 +1,6 @@
 //! A service that begins anew from its saved state now and then.
 
-ghost use Rattle.std.specs.Prelude.{◌≡◌, ◌≤◌, ◌+◌, [], Ok, ℕ, List, Option, length, IfOk, OnOk, IfSome};
+ghost use Rattle.std.specs.Prelude.{◌≡◌, [], Ok, ℕ, List, Option, IfOk, OnOk, IfSome};
 ghost use Rattle.toml.specs.Parse.{parse_document};
 ghost use Rattle.slice_table.specs.ReadPlant.{text_plant};
 ghost use Rattle.line_journal.specs.Device.{LeavesOnly};
@@ -8,9 +8,8 @@ ghost use Rattle.line_journal.specs.Found.{texts};
 ghost use Rattle.line_journal.specs.Journal.{JournalContent, journal_content, IsJournalSettled};
 ghost use Rattle.durable_service.specs.Durable.{StandsForState};
 ghost use Rattle.state_service.specs.declared.period_end.PeriodEnd.TheVariants.{Due};
-ghost use Rattle.state_service.specs.Beginning.{IsServedTo, IsServiceOn};
+ghost use Rattle.state_service.specs.Beginning.{IsServedUpTo, IsServiceOn, IsLeftUnder};
 ghost use Rattle.state_service.specs.Periods.{SaysDue};
-ghost use Rattle.state_service.specs.Serving.{HasNoFewer, LosesNoLine};
 
 use crate::fault::StateServiceFault;
 use crate::period_end::{DueState, PeriodEnd};
@@ -53,16 +52,15 @@ fn serve_kept<D: Device, B: BufRead, W: Write, N: RefusalNotes>(
     requires settled { IsJournalSettled D.seen D.may_leave journal.old.device journal.old.gate }
     requires says { SaysDue count due }
     ensures settled { OnOk result (IsJournalSettled D.seen D.may_leave journal.new.device journal.new.gate) }
-    ensures count { IfOk result (λ served. count ≤ served.count) }
     ensures on { IfOk result (λ served. (found : Option JournalContent) (given : List ℕ) (known written : Option (List ℕ))
-        → IsServedTo found (journal_content (D.seen journal.old.device)) given file count (Due due) part.old.items
+        → IsServedUpTo found (journal_content (D.seen journal.old.device)) given file count (Due due) part.old.items
         known (B.remaining reader.old) written (W.contents writer.old)
-        → IsServedTo found (journal_content (D.seen journal.new.device)) given served.file served.count served.end part.new.items
+        → IsServedUpTo found (journal_content (D.seen journal.new.device)) given served.file served.count served.end part.new.items
         known (B.remaining reader.new) written (W.contents writer.new)) }
-    ensures any_moment { (least : ℕ) → least ≤ count → HasNoFewer least (journal_content (D.seen journal.old.device))
-        → LeavesOnly D.moment D.left_since journal.old.device journal.new.device (λ c. HasNoFewer least (journal_content c)) }
-    ensures no_fewer { (least : ℕ) → least ≤ count → HasNoFewer least (journal_content (D.seen journal.old.device))
-        → OnOk result (HasNoFewer least (journal_content (D.seen journal.new.device))) }
+    ensures any_moment { (found : Option JournalContent) (given : List ℕ) (known written : Option (List ℕ))
+        → IsServedUpTo found (journal_content (D.seen journal.old.device)) given file count (Due due) part.old.items
+        known (B.remaining reader.old) written (W.contents writer.old)
+        → LeavesOnly D.moment D.left_since journal.old.device journal.new.device (λ c. IsLeftUnder found given known (journal_content c)) }
 {
     let DueState { kept, answer } = due;
     let KeptState { start, snapshot } = kept;
@@ -130,14 +128,11 @@ fn serve_first<D: Device, B: BufRead, W: Write, N: RefusalNotes>(
     requires given { text_plant (parse_document given.file.items) ≡ Ok given.plant }
     requires part { part.old.items ≡ [] }
     ensures settled { OnOk result (IsJournalSettled D.seen D.may_leave journal.new.device journal.new.gate) }
-    ensures count { IfOk result (λ served. state.start.count + length state.lines.items ≤ served.count) }
-    ensures on { IfOk result (λ served. IsServedTo (journal_content (D.seen journal.old.device)) (journal_content (D.seen journal.new.device))
+    ensures on { IfOk result (λ served. IsServedUpTo (journal_content (D.seen journal.old.device)) (journal_content (D.seen journal.new.device))
         given.file.items served.file served.count served.end part.new.items
         (B.remaining reader.old) (B.remaining reader.new) (W.contents writer.old) (W.contents writer.new)) }
-    ensures any_moment { (least : ℕ) → HasNoFewer least (journal_content (D.seen journal.old.device))
-        → LeavesOnly D.moment D.left_since journal.old.device journal.new.device (λ c. HasNoFewer least (journal_content c)) }
-    ensures no_fewer { (least : ℕ) → HasNoFewer least (journal_content (D.seen journal.old.device))
-        → OnOk result (HasNoFewer least (journal_content (D.seen journal.new.device))) }
+    ensures any_moment { LeavesOnly D.moment D.left_since journal.old.device journal.new.device
+        (λ c. IsLeftUnder (journal_content (D.seen journal.old.device)) given.file.items (B.remaining reader.old) (journal_content c)) }
 {
     let SavedState { start, lines, gate } = state;
     journal.gate = gate;
@@ -221,7 +216,7 @@ pub(crate) fn serve_restored<D: Device, B: BufRead, W: Write, N: RefusalNotes>(
         given.file.items input (journal_content (D.seen journal.new.device)) (W.contents writer.old) (W.contents writer.new))) }
     ensures settled { OnOk result (IsJournalSettled D.seen D.may_leave journal.new.device journal.new.gate) }
     ensures any_moment { LeavesOnly D.moment D.left_since journal.old.device journal.new.device
-        (λ c. LosesNoLine (journal_content (D.seen journal.old.device)) (journal_content c)) }
+        (λ c. IsLeftUnder (journal_content (D.seen journal.old.device)) given.file.items (B.remaining reader.old) (journal_content c)) }
 {
     let mut part = Vec::new(alloc);
     let mut served = serve_first(

@@ -9,7 +9,7 @@ ghost use Rattle.line_service.specs.Bytes.{WhereKnown};
 ghost use Rattle.line_journal.specs.Device.{LeavesOnly};
 ghost use Rattle.line_journal.specs.Found.{texts};
 ghost use Rattle.line_journal.specs.Journal.{JournalContent, journal_content, IsJournalSettled};
-ghost use Rattle.state_service.specs.Beginning.{IsServiceSoFar, IsRestoredFrom, IsSavedWith, HasRefusals};
+ghost use Rattle.state_service.specs.Beginning.{IsServiceSoFar, IsRestoredFrom, IsSavedWith, IsLeftUnder, HasRefusals};
 ghost use Rattle.state_service.specs.Periods.{SaysAtEnd, LeadsAtEnd};
 ghost use Rattle.state_service.specs.Serving.{LeadsHere, HasNoFewer};
 
@@ -59,7 +59,7 @@ fn change_service<W: Write>(
     ensures leads { IfOk result (λ started. (content : Option JournalContent)
         → LeadsAtEnd started.end content (live_view started.service.core) started.service.count) }
     ensures on { IfOk result (λ started. (found : Option JournalContent) (input : List ℕ) → LeadsHere found (live_view service.core) service.count
-        → IsSavedWith found service.file → IsServiceSoFar found given.file.items started.end input input []
+        → IsSavedWith found service.file → IsServiceSoFar found given.file.items started.end found input input []
         (live_view started.service.core) started.service.count (W.contents writer.old) (W.contents writer.new)) }
     ensures refused { IfErr result (HasRefusals (live_view service.core) given.plant) }
 {
@@ -113,12 +113,11 @@ pub(crate) fn start_service<D: Device, B: BufRead, W: Write, N: RefusalNotes>(
     ensures leads { IfOk result (λ started. LeadsAtEnd started.end (journal_content (D.seen journal.new.device))
         (live_view started.service.core) started.service.count) }
     ensures on { IfOk result (λ started. WhereKnown (B.remaining reader.old) (B.remaining reader.new) (λ input rest. IsServiceSoFar
-        (journal_content (D.seen journal.old.device)) given.file.items started.end input rest part.new.items
-        (live_view started.service.core) started.service.count (W.contents writer.old) (W.contents writer.new))) }
-    ensures any_moment { (least : ℕ) → HasNoFewer least (journal_content (D.seen journal.old.device))
-        → LeavesOnly D.moment D.left_since journal.old.device journal.new.device (λ c. HasNoFewer least (journal_content c)) }
-    ensures no_fewer { (least : ℕ) → HasNoFewer least (journal_content (D.seen journal.old.device))
-        → OnOk result (HasNoFewer least (journal_content (D.seen journal.new.device))) }
+        (journal_content (D.seen journal.old.device)) given.file.items started.end (journal_content (D.seen journal.new.device)) input rest
+        part.new.items (live_view started.service.core) started.service.count (W.contents writer.old) (W.contents writer.new))) }
+    ensures no_fewer { OnOk result (HasNoFewer (service.count + length lines.now) (journal_content (D.seen journal.new.device))) }
+    ensures any_moment { LeavesOnly D.moment D.left_since journal.old.device journal.new.device
+        (λ c. IsLeftUnder (journal_content (D.seen journal.old.device)) given.file.items (B.remaining reader.old) (journal_content c)) }
 {
     redo_lines(alloc, &mut service, lines)?;
     if service.file.as_slice() != given.file.as_slice() {

@@ -1,10 +1,11 @@
-use Rattle.std.proofs.Common.{◌≡◌, ℕ, List, Option, IfSome, ap, subst, ◌∙◌}
+use Rattle.std.proofs.Common.{◌≡◌, ℕ, List, Option, IfSome, refl, ap, subst, ◌∙◌}
 use Rattle.std.specs.Io.Buffered.{reader_remaining}
 use Rattle.script_format.proofs.Outcomes.{if_ok}
+use Rattle.line_journal.specs.Device.{LeavesOnly}
 use Rattle.line_journal.specs.Journal.{journal_content}
-use Rattle.state_service.specs.Beginning.{IsFoundIn, IsServiceOn, IsUnharmed}
-use Rattle.state_service.proofs.BeginLemmas.{given_serves, unharmed_from, unread_same}
-use Rattle.state_service.proofs.KeepLemmas.{weaker, joined}
+use Rattle.state_service.specs.Beginning.{IsFoundIn, IsServiceOn, IsUnharmed, IsLeftUnder, IsLeftByOpening}
+use Rattle.state_service.proofs.BeginLemmas.{given_serves, unharmed_from, unread_same, opening_unharmed, still_named, opening_named, service_named}
+use Rattle.state_service.proofs.KeepLemmas.{weaker, joined, unchanged}
 use Rattle.state_service.proofs.beginning.serve_state.Goals as goal
 
 pub returns-clause-served : goal.returns-clause-served
@@ -26,6 +27,44 @@ returns-clause-served g c =
     (subst (λ (o : Option (List ℕ)). IfSome o (λ input. IsServiceOn found file input content old new)) same served))
     c.serve_restored.ensures.served
 
+pub returns-in_err-state-clause-any_moment : goal.returns-in_err-state-clause-any_moment
+returns-in_err-state-clause-any_moment g c =
+    let moment = g.D.Device.moment in
+    let left = g.D.Device.left_since in
+    let old = c.args.journal.now.device in
+    let mid = c.open_state.new.device in
+    let seen = g.D.Device.seen old in
+    let file = c.in_ok-given.given.file.items in
+    let opening =
+    subst (λ (f : List ℕ). LeavesOnly moment left old mid (λ d. IsLeftByOpening seen f (journal_content d))) c.as_slice.ensures.value c.open_state.ensures.any_moment in
+    weaker moment left old mid (λ d. IsLeftByOpening seen file (journal_content d)) (λ d. IsUnharmed seen (journal_content d)) opening (λ d here. opening_unharmed seen file (journal_content d) here)
+
+pub returns-in_err-state-clause-named : goal.returns-in_err-state-clause-named
+returns-in_err-state-clause-named g c =
+    let moment = g.D.Device.moment in
+    let left = g.D.Device.left_since in
+    let old = c.args.journal.now.device in
+    let mid = c.open_state.new.device in
+    let seen = g.D.Device.seen old in
+    let file = c.in_ok-given.given.file.items in
+    let opening =
+    subst (λ (f : List ℕ). LeavesOnly moment left old mid (λ d. IsLeftByOpening seen f (journal_content d))) c.as_slice.ensures.value c.open_state.ensures.any_moment in
+    opening_named moment left seen (g.R.Read.remaining c.args.reader.now) old mid file c.in_ok-given.ensures.file opening
+
+pub returns-in_err-given-clause-named : goal.returns-in_err-given-clause-named
+returns-in_err-given-clause-named g c =
+    let old = c.args.journal.now.device in
+    let seen = g.D.Device.seen old in
+    still_named g.D.Device.moment g.D.Device.left_since seen (g.R.Read.remaining c.args.reader.now) old
+    (unchanged g.D.Device.moment g.D.Device.left_since old g.D.Device.seen g.D.Device.may_leave (λ o. o ≡ journal_content seen) (g.met.D.Device.only_now old) c.requires refl)
+
+pub returns-in_err-lines-clause-named : goal.returns-in_err-lines-clause-named
+returns-in_err-lines-clause-named g c =
+    let old = c.args.journal.now.device in
+    let seen = g.D.Device.seen old in
+    still_named g.D.Device.moment g.D.Device.left_since seen (g.R.Read.remaining c.args.reader.now) old
+    (unchanged g.D.Device.moment g.D.Device.left_since old g.D.Device.seen g.D.Device.may_leave (λ o. o ≡ journal_content seen) (g.met.D.Device.only_now old) c.requires refl)
+
 pub returns-clause-any_moment : goal.returns-clause-any_moment
 returns-clause-any_moment g c =
     let moment = g.D.Device.moment in
@@ -34,8 +73,32 @@ returns-clause-any_moment g c =
     let mid = c.open_state.new.device in
     let new = c.serve_restored.new.journal.device in
     let seen = g.D.Device.seen old in
-    let content = journal_content (g.D.Device.seen mid) in
-    joined moment left old mid new (λ d. IsUnharmed seen (journal_content d)) c.open_state.ensures.any_moment
+    let file = c.in_ok-given.given.file.items in
+    let found = journal_content (g.D.Device.seen mid) in
+    let opening =
+    subst (λ (f : List ℕ). LeavesOnly moment left old mid (λ d. IsLeftByOpening seen f (journal_content d))) c.as_slice.ensures.value c.open_state.ensures.any_moment in
+    let is_found = subst (λ (f : List ℕ). IsFoundIn seen f found) c.as_slice.ensures.value c.in_ok-state.ensures.is_found in
+    joined moment left old mid new (λ d. IsUnharmed seen (journal_content d))
+    (weaker moment left old mid (λ d. IsLeftByOpening seen file (journal_content d)) (λ d. IsUnharmed seen (journal_content d)) opening (λ d here. opening_unharmed seen file (journal_content d) here))
     (weaker moment left mid new _ (λ d. IsUnharmed seen (journal_content d)) c.serve_restored.ensures.any_moment
-    (λ d loses. unharmed_from seen c.in_ok-given.given.file.items content (journal_content d)
-    (subst (λ (f : List ℕ). IsFoundIn seen f content) c.as_slice.ensures.value c.in_ok-state.ensures.is_found) loses))
+    (λ d under. unharmed_from seen file found (journal_content d) is_found under.loses_none))
+
+pub returns-clause-named : goal.returns-clause-named
+returns-clause-named g c =
+    let moment = g.D.Device.moment in
+    let left = g.D.Device.left_since in
+    let old = c.args.journal.now.device in
+    let mid = c.open_state.new.device in
+    let new = c.serve_restored.new.journal.device in
+    let seen = g.D.Device.seen old in
+    let file = c.in_ok-given.given.file.items in
+    let found = journal_content (g.D.Device.seen mid) in
+    let opening =
+    subst (λ (f : List ℕ). LeavesOnly moment left old mid (λ d. IsLeftByOpening seen f (journal_content d))) c.as_slice.ensures.value c.open_state.ensures.any_moment in
+    let rest = g.R.Read.remaining c.read_given.new.reader in
+    let lines = c.in_ok-lines.lines in
+    let same : reader_remaining (λ (r : _). g.R.Read.remaining r.now) lines ≡ rest =
+    unread_same (λ (r : _). g.R.Read.remaining r.now) lines c.in_ok-lines.ensures.empty c.in_ok-lines.ensures.capacity ∙ ap (λ (r : _). g.R.Read.remaining r.now) c.in_ok-lines.ensures.inner in
+    let is_found = subst (λ (f : List ℕ). IsFoundIn seen f found) c.as_slice.ensures.value c.in_ok-state.ensures.is_found in
+    service_named moment left seen (g.R.Read.remaining c.args.reader.now) rest old mid new file found c.in_ok-given.ensures.file c.in_ok-given.ensures.lines is_found opening
+    (subst (λ (o : Option (List ℕ)). LeavesOnly moment left mid new (λ d. IsLeftUnder found file o (journal_content d))) same c.serve_restored.ensures.any_moment)

@@ -1,4 +1,4 @@
-use Rattle.std.proofs.Common.{rules, ◌≡◌, ◌++◌, List, Vec, ℕ, length, sym, ap, subst}
+use Rattle.std.proofs.Common.{rules, ◌≡◌, ◌++◌, List, Vec, ℕ, length, refl, sym, ap, subst}
 use Rattle.std.specs.declared.alloc.Global.{Global}
 use Rattle.std.proofs.lemmas.List.{nil_from_length}
 use Rattle.line_service.specs.Bytes.{WhereKnown}
@@ -6,7 +6,12 @@ use Rattle.live_core.specs.LiveView.{live_view}
 use Rattle.line_journal.specs.Found.{texts}
 use Rattle.state_service.specs.Taking.{IsAfterBatch}
 use Rattle.state_service.specs.Commands.{AreNoCommands}
+use Rattle.line_journal.specs.Journal.{journal_content, with_lines}
+use Rattle.state_service.specs.declared.reading.BatchEnd.TheVariants.{Open}
+use Rattle.state_service.specs.Crashes.{IsLeftFrom}
 use Rattle.state_service.proofs.ServeLemmas.{none_served, batch_served}
+use Rattle.state_service.proofs.KeepLemmas.{unchanged, put_moments}
+use Rattle.state_service.proofs.CrashLemmas.{journal_left, batch_more, batch_none}
 use Rattle.state_service.proofs.periods.serve_batch.Goals as goal
 
 pub returns-then-is_empty-clause-on : goal.returns-then-is_empty-clause-on
@@ -35,3 +40,66 @@ returns-clause-on g c file first count known written so_far =
     lines done.0
     (λ k before taken. subst (λ (ls : List (List ℕ)). WhereKnown k b (λ input rest. IsAfterBatch read.end input rest (before ++ ls) c.read_batch.new.part.items)) same (c.in_ok-lines.ensures.taken k before taken))
     (subst (λ (ls : List (List ℕ)). AreNoCommands ls) same c.in_ok-lines.ensures.plain) done.1 c.in_ok-answer_lines.ensures.count done.2 so_far
+
+pub returns-then-is_empty-clause-holds : goal.returns-then-is_empty-clause-holds
+returns-then-is_empty-clause-holds g c origin has =
+    let read = c.in_ok-lines.field-0 in
+    let none : length read.lines.items ≡ 0 = search rules in
+    batch_none origin read.end (journal_content (g.D.Device.seen c.args.journal.now.device)) (texts read.lines.items) c.args.part.now.items c.read_batch.new.part.items
+    (g.B.Read.remaining c.args.reader.now) (g.B.Read.remaining c.read_batch.new.reader) (λ k before taken. c.in_ok-lines.ensures.taken k before taken)
+    (ap (λ (ls : List (Vec ℕ Global)). texts ls) (nil_from_length read.lines.items none)) has
+
+pub returns-clause-holds : goal.returns-clause-holds
+returns-clause-holds g c origin has =
+    let read = c.in_ok-lines.field-0 in
+    let lines = texts c.as_slice.result.now in
+    let b = g.B.Read.remaining c.read_batch.new.reader in
+    let same : texts read.lines.items ≡ lines = sym (ap (λ (ls : List (Vec ℕ Global)). texts ls) c.as_slice.ensures.value) in
+    batch_more origin read.end (journal_content (g.D.Device.seen c.args.journal.now.device)) (journal_content (g.D.Device.seen c.answer_lines.new.journal.device)) lines c.args.part.now.items
+    c.read_batch.new.part.items (g.B.Read.remaining c.args.reader.now) b
+    (λ k before taken. subst (λ (ls : List (List ℕ)). WhereKnown k b (λ input rest. IsAfterBatch read.end input rest (before ++ ls) c.read_batch.new.part.items)) same (c.in_ok-lines.ensures.taken k before taken))
+    c.in_ok-answer_lines.ensures.added has
+
+pub returns-in_err-lines-clause-any_moment : goal.returns-in_err-lines-clause-any_moment
+returns-in_err-lines-clause-any_moment g c origin has =
+    unchanged g.D.Device.moment g.D.Device.left_since c.args.journal.now.device g.D.Device.seen g.D.Device.may_leave (λ o. IsLeftFrom origin o) (g.met.D.Device.only_now c.args.journal.now.device)
+    c.requires.settled.durable (journal_left origin Open _ _ _ has)
+
+pub returns-then-is_empty-clause-any_moment : goal.returns-then-is_empty-clause-any_moment
+returns-then-is_empty-clause-any_moment g c origin has =
+    unchanged g.D.Device.moment g.D.Device.left_since c.args.journal.now.device g.D.Device.seen g.D.Device.may_leave (λ o. IsLeftFrom origin o) (g.met.D.Device.only_now c.args.journal.now.device)
+    c.requires.settled.durable (journal_left origin Open _ _ _ has)
+
+pub returns-in_err-answer_lines-clause-any_moment : goal.returns-in_err-answer_lines-clause-any_moment
+returns-in_err-answer_lines-clause-any_moment g c origin has =
+    let old = c.args.journal.now.device in
+    let content = journal_content (g.D.Device.seen old) in
+    let read = c.in_ok-lines.field-0 in
+    let lines = texts c.as_slice.result.now in
+    let a = g.B.Read.remaining c.args.reader.now in
+    let b = g.B.Read.remaining c.read_batch.new.reader in
+    let old_part = c.args.part.now.items in
+    let new_part = c.read_batch.new.part.items in
+    let same : texts read.lines.items ≡ lines = sym (ap (λ (ls : List (Vec ℕ Global)). texts ls) c.as_slice.ensures.value) in
+    put_moments g.D.Device.moment g.D.Device.left_since old c.answer_lines.new.journal.device (λ o. IsLeftFrom origin o) content (with_lines lines content) (journal_left origin Open content a old_part has)
+    (journal_left origin read.end (with_lines lines content) b new_part
+    (batch_more origin read.end content (with_lines lines content) lines old_part new_part a b
+    (λ k before taken. subst (λ (ls : List (List ℕ)). WhereKnown k b (λ input rest. IsAfterBatch read.end input rest (before ++ ls) new_part)) same (c.in_ok-lines.ensures.taken k before taken)) refl has))
+    c.answer_lines.ensures.any_moment
+
+pub returns-clause-any_moment : goal.returns-clause-any_moment
+returns-clause-any_moment g c origin has =
+    let old = c.args.journal.now.device in
+    let content = journal_content (g.D.Device.seen old) in
+    let read = c.in_ok-lines.field-0 in
+    let lines = texts c.as_slice.result.now in
+    let a = g.B.Read.remaining c.args.reader.now in
+    let b = g.B.Read.remaining c.read_batch.new.reader in
+    let old_part = c.args.part.now.items in
+    let new_part = c.read_batch.new.part.items in
+    let same : texts read.lines.items ≡ lines = sym (ap (λ (ls : List (Vec ℕ Global)). texts ls) c.as_slice.ensures.value) in
+    put_moments g.D.Device.moment g.D.Device.left_since old c.answer_lines.new.journal.device (λ o. IsLeftFrom origin o) content (with_lines lines content) (journal_left origin Open content a old_part has)
+    (journal_left origin read.end (with_lines lines content) b new_part
+    (batch_more origin read.end content (with_lines lines content) lines old_part new_part a b
+    (λ k before taken. subst (λ (ls : List (List ℕ)). WhereKnown k b (λ input rest. IsAfterBatch read.end input rest (before ++ ls) new_part)) same (c.in_ok-lines.ensures.taken k before taken)) refl has))
+    c.answer_lines.ensures.any_moment

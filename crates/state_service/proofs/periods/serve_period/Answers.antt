@@ -1,39 +1,48 @@
-use Rattle.std.proofs.Common.{Option, subst, ◌∙◌, arith}
+use Rattle.std.proofs.Common.{Option, refl, subst, ◌∙◌, arith}
 use Rattle.live_core.specs.LiveView.{live_view}
 use Rattle.line_service.specs.Bytes.{WhereKnown}
 use Rattle.line_journal.specs.Journal.{journal_content}
 use Rattle.state_service.specs.declared.period_end.PeriodEnd.{PeriodEnd}
 use Rattle.state_service.specs.Periods.{IsInPeriod, LeadsUnlessDue}
-use Rattle.state_service.specs.Serving.{HasNoFewer}
-use Rattle.state_service.proofs.KeepLemmas.{joined}
+use Rattle.state_service.specs.declared.reading.BatchEnd.TheVariants.{Open}
+use Rattle.state_service.specs.Crashes.{IsJournalInPeriod, IsLeftFrom}
+use Rattle.state_service.proofs.KeepLemmas.{unchanged, joined}
 use Rattle.state_service.proofs.ServeLemmas.{none_if}
+use Rattle.state_service.proofs.CrashLemmas.{journal_left}
 use Rattle.state_service.proofs.periods.serve_period.Goals as goal
 
 pub returns-in_err-end-clause-any_moment : goal.returns-in_err-end-clause-any_moment
-returns-in_err-end-clause-any_moment g c least has =
+returns-in_err-end-clause-any_moment g c origin has =
     joined g.D.Device.moment g.D.Device.left_since c.args.journal.now.device c.loop.journal.device c.serve_lines.new.journal.device
-    (λ d. HasNoFewer least (journal_content d)) (c.loop.invariant.any_moment least has) (c.serve_lines.ensures.any_moment least (c.loop.invariant.no_fewer least has))
+    (λ d. IsLeftFrom origin (journal_content d)) (c.loop.invariant.any_moment origin has) (c.serve_lines.ensures.any_moment origin (c.loop.invariant.holds origin has))
 
 pub returns-in-Some-clause-any_moment : goal.returns-in-Some-clause-any_moment
-returns-in-Some-clause-any_moment g c least has =
+returns-in-Some-clause-any_moment g c origin has =
     joined g.D.Device.moment g.D.Device.left_since c.args.journal.now.device c.loop.journal.device c.serve_lines.new.journal.device
-    (λ d. HasNoFewer least (journal_content d)) (c.loop.invariant.any_moment least has) (c.serve_lines.ensures.any_moment least (c.loop.invariant.no_fewer least has))
-
-pub returns-in-Some-clause-no_fewer : goal.returns-in-Some-clause-no_fewer
-returns-in-Some-clause-no_fewer g c least has = c.in_ok-end.ensures.no_fewer least (c.loop.invariant.no_fewer least has)
+    (λ d. IsLeftFrom origin (journal_content d)) (c.loop.invariant.any_moment origin has) (c.serve_lines.ensures.any_moment origin (c.loop.invariant.holds origin has))
 
 pub returns-in_err-end-2-clause-any_moment : goal.returns-in_err-end-2-clause-any_moment
-returns-in_err-end-2-clause-any_moment g c least has =
+returns-in_err-end-2-clause-any_moment g c origin has =
     joined g.D.Device.moment g.D.Device.left_since c.args.journal.now.device c.loop.journal.device c.serve_lines.new.journal.device
-    (λ d. HasNoFewer least (journal_content d)) (c.loop.invariant.any_moment least has) (c.serve_lines.ensures.any_moment least (c.loop.invariant.no_fewer least has))
+    (λ d. IsLeftFrom origin (journal_content d)) (c.loop.invariant.any_moment origin has) (c.serve_lines.ensures.any_moment origin (c.loop.invariant.holds origin has))
 
 pub returns-in-Some-2-clause-any_moment : goal.returns-in-Some-2-clause-any_moment
-returns-in-Some-2-clause-any_moment g c least has =
+returns-in-Some-2-clause-any_moment g c origin has =
     joined g.D.Device.moment g.D.Device.left_since c.args.journal.now.device c.loop.journal.device c.serve_lines.new.journal.device
-    (λ d. HasNoFewer least (journal_content d)) (c.loop.invariant.any_moment least has) (c.serve_lines.ensures.any_moment least (c.loop.invariant.no_fewer least has))
+    (λ d. IsLeftFrom origin (journal_content d)) (c.loop.invariant.any_moment origin has) (c.serve_lines.ensures.any_moment origin (c.loop.invariant.holds origin has))
 
-pub returns-in-Some-2-clause-no_fewer : goal.returns-in-Some-2-clause-no_fewer
-returns-in-Some-2-clause-no_fewer g c least has = c.in_ok-end.ensures.no_fewer least (c.loop.invariant.no_fewer least has)
+pub returns-in-Some-clause-left : goal.returns-in-Some-clause-left
+returns-in-Some-clause-left g c origin has =
+    subst (λ (o : Option PeriodEnd). IsJournalInPeriod o origin (journal_content (g.D.Device.seen c.serve_lines.new.journal.device)) (g.B.Read.remaining c.serve_lines.new.reader) c.serve_lines.new.part.items) c.in-Some.is
+    (c.in_ok-end.ensures.holds origin (c.loop.invariant.holds origin has))
+
+pub returns-in-Some-2-clause-left : goal.returns-in-Some-2-clause-left
+returns-in-Some-2-clause-left g c origin has =
+    let content = journal_content (g.D.Device.seen c.serve_lines.new.journal.device) in
+    let left = g.B.Read.remaining c.serve_lines.new.reader in
+    let part = c.serve_lines.new.part.items in
+    journal_left origin Open content left part
+    (subst (λ (o : Option PeriodEnd). IsJournalInPeriod o origin content left part) (none_if c.in_ok-end.field-0 c.in_default.not-Some) (c.in_ok-end.ensures.holds origin (c.loop.invariant.holds origin has)))
 
 pub returns-in-Some-clause-on : goal.returns-in-Some-clause-on
 returns-in-Some-clause-on g c file first count known written same so_far =
@@ -69,10 +78,12 @@ loop-preserved-then-saturating_sub-period g c =
           subst (λ (o : Option PeriodEnd). WhereKnown known (g.B.Read.remaining c.serve_lines.new.reader)
           (λ input rest. IsInPeriod o file first count input rest c.serve_lines.new.part.items (live_view new.core) new.count written (g.W.Write.contents c.serve_lines.new.writer))) none
           (c.in_ok-end.ensures.on file first count known written (c.loop.invariant.same_file ∙ same) (c.loop.invariant.on file first count known written same so_far));
-      any_moment = λ least has.
+      holds = λ origin has.
+          subst (λ (o : Option PeriodEnd). IsJournalInPeriod o origin content (g.B.Read.remaining c.serve_lines.new.reader) c.serve_lines.new.part.items) none
+          (c.in_ok-end.ensures.holds origin (c.loop.invariant.holds origin has));
+      any_moment = λ origin has.
           joined g.D.Device.moment g.D.Device.left_since c.args.journal.now.device c.loop.journal.device c.serve_lines.new.journal.device
-          (λ d. HasNoFewer least (journal_content d)) (c.loop.invariant.any_moment least has) (c.serve_lines.ensures.any_moment least (c.loop.invariant.no_fewer least has));
-      no_fewer = λ least has. c.in_ok-end.ensures.no_fewer least (c.loop.invariant.no_fewer least has);
+          (λ d. IsLeftFrom origin (journal_content d)) (c.loop.invariant.any_moment origin has) (c.serve_lines.ensures.any_moment origin (c.loop.invariant.holds origin has));
     }
 
 pub loop-preserved : goal.loop-preserved
@@ -90,8 +101,24 @@ loop-preserved g c =
           subst (λ (o : Option PeriodEnd). WhereKnown known (g.B.Read.remaining c.serve_lines.new.reader)
           (λ input rest. IsInPeriod o file first count input rest c.serve_lines.new.part.items (live_view new.core) new.count written (g.W.Write.contents c.serve_lines.new.writer))) none
           (c.in_ok-end.ensures.on file first count known written (c.loop.invariant.same_file ∙ same) (c.loop.invariant.on file first count known written same so_far));
-      any_moment = λ least has.
+      holds = λ origin has.
+          subst (λ (o : Option PeriodEnd). IsJournalInPeriod o origin content (g.B.Read.remaining c.serve_lines.new.reader) c.serve_lines.new.part.items) none
+          (c.in_ok-end.ensures.holds origin (c.loop.invariant.holds origin has));
+      any_moment = λ origin has.
           joined g.D.Device.moment g.D.Device.left_since c.args.journal.now.device c.loop.journal.device c.serve_lines.new.journal.device
-          (λ d. HasNoFewer least (journal_content d)) (c.loop.invariant.any_moment least has) (c.serve_lines.ensures.any_moment least (c.loop.invariant.no_fewer least has));
-      no_fewer = λ least has. c.in_ok-end.ensures.no_fewer least (c.loop.invariant.no_fewer least has);
+          (λ d. IsLeftFrom origin (journal_content d)) (c.loop.invariant.any_moment origin has) (c.serve_lines.ensures.any_moment origin (c.loop.invariant.holds origin has));
     }
+
+pub loop-init : goal.loop-init
+loop-init g c = record {
+  settled = c.requires.settled;
+  reached = c.requires.reached;
+  count = omega arith;
+  same_file = refl;
+  leads = λ led. led;
+  on = λ file first count known written same so_far. so_far;
+  holds = λ origin has. has;
+  any_moment = λ origin has.
+      unchanged g.D.Device.moment g.D.Device.left_since c.args.journal.now.device g.D.Device.seen g.D.Device.may_leave (λ o. IsLeftFrom origin o) (g.met.D.Device.only_now c.args.journal.now.device)
+      c.requires.settled.durable (journal_left origin Open _ _ _ has);
+}

@@ -5,7 +5,9 @@ use Rattle.run_model.specs.IsStateAfter.{CoreView}
 use Rattle.line_service.specs.Bytes.{WhereKnown}
 use Rattle.line_journal.specs.Device.{LeavesOnly}
 use Rattle.line_journal.specs.Journal.{journal_content, IsJournalSettled}
-use Rattle.state_service.specs.Serving.{IsServing, LeadsHere, HasNoFewer}
+use Rattle.state_service.specs.declared.reading.BatchEnd.TheVariants.{Open}
+use Rattle.state_service.specs.Serving.{IsServing, LeadsHere}
+use Rattle.state_service.specs.Crashes.{ServiceOrigin, IsJournalOf, IsLeftFrom}
 use Rattle.state_service.proofs.periods.serve_period.Given as goal
 
 abbrev pub invariant-loop : goal.invariant-loop
@@ -19,7 +21,8 @@ invariant-loop g l = record {
   on : (file : List ℕ) (first : CoreView) (count : ℕ) (known written : Option (List ℕ))
       → l.fn.service.file ≡ file → WhereKnown known (g.B.Read.remaining l.fn.reader) (λ input rest. IsServing file first count input rest l.fn.part.items (live_view l.fn.service.core) l.fn.service.count written (g.W.Write.contents l.fn.writer))
       → WhereKnown known (g.B.Read.remaining l.reader) (λ input rest. IsServing file first count input rest l.part.items (live_view l.service.core) l.service.count written (g.W.Write.contents l.writer));
-  any_moment : (least : ℕ) → HasNoFewer least (journal_content (g.D.Device.seen l.fn.journal.device))
-      → LeavesOnly g.D.Device.moment g.D.Device.left_since l.fn.journal.device l.journal.device (λ c. HasNoFewer least (journal_content c));
-  no_fewer : (least : ℕ) → HasNoFewer least (journal_content (g.D.Device.seen l.fn.journal.device)) → HasNoFewer least (journal_content (g.D.Device.seen l.journal.device));
+  holds : (origin : ServiceOrigin) → IsJournalOf origin Open (journal_content (g.D.Device.seen l.fn.journal.device)) (g.B.Read.remaining l.fn.reader) l.fn.part.items
+      → IsJournalOf origin Open (journal_content (g.D.Device.seen l.journal.device)) (g.B.Read.remaining l.reader) l.part.items;
+  any_moment : (origin : ServiceOrigin) → IsJournalOf origin Open (journal_content (g.D.Device.seen l.fn.journal.device)) (g.B.Read.remaining l.fn.reader) l.fn.part.items
+      → LeavesOnly g.D.Device.moment g.D.Device.left_since l.fn.journal.device l.journal.device (λ c. IsLeftFrom origin (journal_content c));
 }

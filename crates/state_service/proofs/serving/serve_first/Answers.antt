@@ -1,33 +1,95 @@
-use Rattle.std.proofs.Common.{ℕ, List, Vec, length, ap, arith}
+use Rattle.std.proofs.Common.{inl, ℕ, ◌+◌, ◌≤◌, List, Vec, length, subst}
 use Rattle.std.specs.declared.alloc.Global.{Global}
 use Rattle.live_core.specs.LiveView.{live_view}
-use Rattle.state_service.proofs.KeepLemmas.{nothing_lost}
+use Rattle.line_journal.specs.Journal.{journal_content}
+use Rattle.state_service.specs.Serving.{HasNoFewer}
+use Rattle.state_service.specs.Beginning.{IsLeftUnder}
+use Rattle.state_service.proofs.KeepLemmas.{unchanged, stands_has}
+use Rattle.state_service.proofs.CrashLemmas.{found_left}
 use Rattle.state_service.proofs.serving.serve_first.Goals as goal
 
 pub returns-in_default-clause-any_moment : goal.returns-in_default-clause-any_moment
-returns-in_default-clause-any_moment g c least has =
-    nothing_lost g.D.Device.moment g.D.Device.left_since c.args.journal.now.device g.D.Device.seen g.D.Device.may_leave least (g.met.D.Device.only_now c.args.journal.now.device) c.requires.settled.durable has
+returns-in_default-clause-any_moment g c =
+    let old = c.args.journal.now.device in
+    let content = journal_content (g.D.Device.seen old) in
+    let state = c.args.state in
+    let least = state.start.count + length state.lines.items in
+    let has = stands_has content state.start.count state.start.plant state.start.saved state.lines.items c.requires.found in
+    let given = c.args.given.file.items in
+    let known = g.B.Read.remaining c.args.reader.now in
+    unchanged g.D.Device.moment g.D.Device.left_since old g.D.Device.seen g.D.Device.may_leave (λ o. IsLeftUnder content given known o) (g.met.D.Device.only_now old) c.requires.settled.durable
+    (found_left content given known least has)
 
 pub returns-then-is_err-clause-any_moment : goal.returns-then-is_err-clause-any_moment
-returns-then-is_err-clause-any_moment g c least has =
-    nothing_lost g.D.Device.moment g.D.Device.left_since c.args.journal.now.device g.D.Device.seen g.D.Device.may_leave least (g.met.D.Device.only_now c.args.journal.now.device) c.requires.settled.durable has
+returns-then-is_err-clause-any_moment g c =
+    let old = c.args.journal.now.device in
+    let content = journal_content (g.D.Device.seen old) in
+    let state = c.args.state in
+    let least = state.start.count + length state.lines.items in
+    let has = stands_has content state.start.count state.start.plant state.start.saved state.lines.items c.requires.found in
+    let given = c.args.given.file.items in
+    let known = g.B.Read.remaining c.args.reader.now in
+    unchanged g.D.Device.moment g.D.Device.left_since old g.D.Device.seen g.D.Device.may_leave (λ o. IsLeftUnder content given known o) (g.met.D.Device.only_now old) c.requires.settled.durable
+    (found_left content given known least has)
 
 pub returns-in_default-new-clause-any_moment : goal.returns-in_default-new-clause-any_moment
-returns-in_default-new-clause-any_moment g c least has =
-    nothing_lost g.D.Device.moment g.D.Device.left_since c.args.journal.now.device g.D.Device.seen g.D.Device.may_leave least (g.met.D.Device.only_now c.args.journal.now.device) c.requires.settled.durable has
+returns-in_default-new-clause-any_moment g c =
+    let old = c.args.journal.now.device in
+    let content = journal_content (g.D.Device.seen old) in
+    let state = c.args.state in
+    let least = state.start.count + length state.lines.items in
+    let has = stands_has content state.start.count state.start.plant state.start.saved state.lines.items c.requires.found in
+    let given = c.args.given.file.items in
+    let known = g.B.Read.remaining c.args.reader.now in
+    unchanged g.D.Device.moment g.D.Device.left_since old g.D.Device.seen g.D.Device.may_leave (λ o. IsLeftUnder content given known o) (g.met.D.Device.only_now old) c.requires.settled.durable
+    (found_left content given known least has)
 
 pub returns-then-is_err-2-clause-any_moment : goal.returns-then-is_err-2-clause-any_moment
-returns-then-is_err-2-clause-any_moment g c least has =
-    nothing_lost g.D.Device.moment g.D.Device.left_since c.args.journal.now.device g.D.Device.seen g.D.Device.may_leave least (g.met.D.Device.only_now c.args.journal.now.device) c.requires.settled.durable has
+returns-then-is_err-2-clause-any_moment g c =
+    let old = c.args.journal.now.device in
+    let content = journal_content (g.D.Device.seen old) in
+    let state = c.args.state in
+    let least = state.start.count + length state.lines.items in
+    let has = stands_has content state.start.count state.start.plant state.start.saved state.lines.items c.requires.found in
+    let given = c.args.given.file.items in
+    let known = g.B.Read.remaining c.args.reader.now in
+    unchanged g.D.Device.moment g.D.Device.left_since old g.D.Device.seen g.D.Device.may_leave (λ o. IsLeftUnder content given known o) (g.met.D.Device.only_now old) c.requires.settled.durable
+    (found_left content given known least has)
 
 pub returns-in-Err-clause-any_moment : goal.returns-in-Err-clause-any_moment
-returns-in-Err-clause-any_moment g c least has =
-    nothing_lost g.D.Device.moment g.D.Device.left_since c.args.journal.now.device g.D.Device.seen g.D.Device.may_leave least (g.met.D.Device.only_now c.args.journal.now.device) c.requires.settled.durable has
-
-pub returns-clause-count : goal.returns-clause-count
-returns-clause-count g c = omega (arith, c.in_ok-service.ensures.count, ap (λ (ls : List (Vec ℕ Global)). length ls) c.as_slice.ensures.value)
+returns-in-Err-clause-any_moment g c =
+    let old = c.args.journal.now.device in
+    let content = journal_content (g.D.Device.seen old) in
+    let state = c.args.state in
+    let least = state.start.count + length state.lines.items in
+    let has = stands_has content state.start.count state.start.plant state.start.saved state.lines.items c.requires.found in
+    let given = c.args.given.file.items in
+    let known = g.B.Read.remaining c.args.reader.now in
+    unchanged g.D.Device.moment g.D.Device.left_since old g.D.Device.seen g.D.Device.may_leave (λ o. IsLeftUnder content given known o) (g.met.D.Device.only_now old) c.requires.settled.durable
+    (found_left content given known least has)
 
 pub returns-clause-on : goal.returns-clause-on
 returns-clause-on g c =
+    let old = c.args.journal.now.device in
+    let content = journal_content (g.D.Device.seen old) in
+    let state = c.args.state in
+    let least = state.start.count + length state.lines.items in
+    let has = stands_has content state.start.count state.start.plant state.start.saved state.lines.items c.requires.found in
+    let given = c.args.given.file.items in
+    let known = g.B.Read.remaining c.args.reader.now in
     let started = c.in_ok-service.ensures in
-    record { live = live_view c.in_ok-service.field-0.service.core; same_file = started.same_file; due = started.says; leads = started.leads; serves = started.on }
+    let service = c.in_ok-service.field-0.service in
+    let same = c.as_slice.ensures.value in
+    record {
+      live = live_view service.core;
+      same_file = started.same_file;
+      due = started.says;
+      leads = started.leads;
+      serves = started.on;
+      loses_none = record {
+        least = least;
+        had = inl has;
+        has = subst (λ (ls : List (Vec ℕ Global)). HasNoFewer (state.start.count + length ls) (journal_content (g.D.Device.seen c.start_service.new.journal.device))) same started.no_fewer;
+      };
+      enough = subst (λ (ls : List (Vec ℕ Global)). state.start.count + length ls ≤ service.count) same started.count;
+    }

@@ -1,16 +1,13 @@
-use Rattle.std.proofs.Common.{◌+◌, ◌≤◌, length}
 use Rattle.line_journal.specs.Device.{LeavesOnly}
 use Rattle.line_journal.specs.Journal.{journal_content, IsJournalSettled}
-use Rattle.state_service.specs.Beginning.{IsServedTo}
-use Rattle.state_service.specs.Serving.{HasNoFewer}
+use Rattle.state_service.specs.Beginning.{IsServedUpTo, IsLeftUnder}
 use Rattle.state_service.proofs.serving.serve_restored.Given as goal
 
 abbrev pub invariant-loop : goal.invariant-loop
 invariant-loop g l = record {
   settled : IsJournalSettled g.D.Device.seen g.D.Device.may_leave l.journal.device l.journal.gate;
-  count : l.fn.state.start.count + length l.fn.state.lines.items ≤ l.served.count;
-  no_fewer : HasNoFewer (l.fn.state.start.count + length l.fn.state.lines.items) (journal_content (g.D.Device.seen l.journal.device));
-  on : IsServedTo (journal_content (g.D.Device.seen l.fn.journal.device)) (journal_content (g.D.Device.seen l.journal.device)) l.fn.given.file.items l.served.file l.served.count l.served.end l.part.items
+  on : IsServedUpTo (journal_content (g.D.Device.seen l.fn.journal.device)) (journal_content (g.D.Device.seen l.journal.device)) l.fn.given.file.items l.served.file l.served.count l.served.end l.part.items
       (g.B.Read.remaining l.fn.reader) (g.B.Read.remaining l.reader) (g.W.Write.contents l.fn.writer) (g.W.Write.contents l.writer);
-  any_moment : LeavesOnly g.D.Device.moment g.D.Device.left_since l.fn.journal.device l.journal.device (λ c. HasNoFewer (l.fn.state.start.count + length l.fn.state.lines.items) (journal_content c));
+  any_moment : LeavesOnly g.D.Device.moment g.D.Device.left_since l.fn.journal.device l.journal.device
+      (λ c. IsLeftUnder (journal_content (g.D.Device.seen l.fn.journal.device)) l.fn.given.file.items (g.B.Read.remaining l.fn.reader) (journal_content c));
 }

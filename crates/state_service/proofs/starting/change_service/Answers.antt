@@ -1,4 +1,4 @@
-use Rattle.std.proofs.Common.{List, ℕ, refl, [], subst}
+use Rattle.std.proofs.Common.{inl, List, ℕ, refl, [], subst}
 use Rattle.live_core.specs.LiveView.{live_view}
 use Rattle.durable_service.specs.Durable.{IsKeptState}
 use Rattle.state_service.proofs.BeginLemmas.{none_read, plant_changes}
@@ -13,13 +13,15 @@ returns-clause-on g c found input led is_saved =
     let mid = g.W.Write.contents c.write_greeting.new.writer in
     let kept = c.in_ok-state_to_keep.field-0 in
     record {
-      led = live_view service.core;
-      count = service.count;
-      leads = led;
-      saved = service.file;
-      is_saved_with = is_saved;
       first = first;
-      is_under = plant_changes service.file given (live_view service.core) first c.requires.other (c.args.given.plant, c.requires.given, c.in-Ok.ensures.ok);
+      count = service.count;
+      is_first = record {
+        led = live_view service.core;
+        leads = led;
+        saved = service.file;
+        is_saved_with = is_saved;
+        is_under = plant_changes service.file given (live_view service.core) first c.requires.other (c.args.given.plant, c.requires.given, c.in-Ok.ensures.ok);
+      };
       frame = c.resting_frame.result;
       is_frame = c.resting_frame.ensures;
       mid = mid;
@@ -27,4 +29,5 @@ returns-clause-on g c found input led is_saved =
       so_far = state_due given first service.count input input [] first service.count mid mid (record { kept = kept; answer = c.new.result }) c.new.ensures.items
           (subst (λ (f : List ℕ). IsKeptState first f service.count kept.snapshot kept.start.plant kept.start.saved) c.from_vec.ensures c.in_ok-state_to_keep.ensures)
           (none_read given first service.count input [] mid refl);
+      left = inl refl;
     }
