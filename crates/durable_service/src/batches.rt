@@ -1,6 +1,6 @@
 //! Lines that are put in the journal before they are answered.
 
-ghost use Rattle.std.specs.Prelude.{◌≡◌, ◌<◌, ◌+◌, length, Err, IfOk, OnOk};
+ghost use Rattle.std.specs.Prelude.{◌≡◌, ◌<◌, ◌≤◌, ◌+◌, length, Err, IfOk, OnOk};
 ghost use Rattle.plant.specs.declared.plant.PlantFields.{PlantFields};
 ghost use Rattle.live_core.specs.After.{BehindEachRun, IsReachableFromStart};
 ghost use Rattle.live_core.specs.LiveView.{live_view};
@@ -61,6 +61,7 @@ pub fn do_batch<D: Device>(
     // It does not give up by itself.
     ensures disk { result ≡ Err faults.Disk → D.faults journal.old.device < D.faults journal.new.device }
     ensures no_journal { result ≡ Err faults.NoJournal → ⊥ }
+    ensures counted { D.faults journal.old.device ≤ D.faults journal.new.device }
 {
     let batch = batch_of(alloc, lines)?;
     journal.append(alloc, &batch)?;

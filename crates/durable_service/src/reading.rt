@@ -1,6 +1,6 @@
 //! The state that a journal has.
 
-ghost use Rattle.std.specs.Prelude.{◌≡◌, ◌<◌, ◌∷◌, ℕ, List, Ok, Err, None, Some, IfOk, OnOk};
+ghost use Rattle.std.specs.Prelude.{◌≡◌, ◌<◌, ◌≤◌, ◌∷◌, ℕ, List, Ok, Err, None, Some, IfOk, OnOk};
 ghost use Rattle.toml.specs.Parse.{parse_document};
 ghost use Rattle.slice_table.specs.ReadPlant.{text_plant};
 ghost use Rattle.snapshot_format.specs.Snapshot.{snapshot_of};
@@ -107,6 +107,7 @@ pub fn read_state<D: Device>(alloc: Global, device: &mut D) -> Result<SavedState
     ensures no_journal { result ≡ Err faults.NoJournal → journal_content (D.seen device.old) ≡ None }
     // It does not give up by itself.
     ensures disk { result ≡ Err faults.Disk → D.faults device.old < D.faults device.new }
+    ensures counted { D.faults device.old ≤ D.faults device.new }
 {
     let Some(found) = recover(alloc, device)? else {
         return Err(DurableFault::NoJournal);

@@ -1,6 +1,6 @@
 //! A saved state in the journal, in place of the lines before it.
 
-ghost use Rattle.std.specs.Prelude.{◌≡◌, ◌<◌, ◌⊎◌, [], Err, IsTrue, IfOk, OnOk};
+ghost use Rattle.std.specs.Prelude.{◌≡◌, ◌<◌, ◌≤◌, ◌⊎◌, [], Err, IsTrue, IfOk, OnOk};
 ghost use Rattle.plant.specs.declared.plant.PlantFields.{PlantFields};
 ghost use Rattle.live_core.specs.After.{IsAfterFrom};
 ghost use Rattle.live_core.specs.LiveView.{live_view};
@@ -96,6 +96,7 @@ pub fn begin_state<D: Device>(
     // It does not give up by itself.
     ensures disk { result ≡ Err faults.Disk → D.faults device.old < D.faults device.new }
     ensures no_journal { result ≡ Err faults.NoJournal → ⊥ }
+    ensures counted { D.faults device.old ≤ D.faults device.new }
 {
     let plant = plant_of_file(alloc, file.as_slice())?;
     let saved = Snapshot {
@@ -170,6 +171,7 @@ pub fn put_snapshot<D: Device>(
     // It does not give up by itself.
     ensures disk { result ≡ Err faults.Disk → D.faults journal.old.device < D.faults journal.new.device }
     ensures no_journal { result ≡ Err faults.NoJournal → ⊥ }
+    ensures counted { D.faults journal.old.device ≤ D.faults journal.new.device }
 {
     journal.replace_snapshot(alloc, snapshot)?;
     Ok(())

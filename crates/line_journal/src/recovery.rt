@@ -112,6 +112,7 @@ pub fn recover<D: Device>(alloc: Global, device: &mut D) -> Result<Option<Recove
     // It does not give up by itself.
     ensures failed { IsErrOf result DeviceError.Failed → D.faults device.old < D.faults device.new }
     ensures full { IsErrOf result DeviceError.Full → ⊥ }
+    ensures counted { D.faults device.old ≤ D.faults device.new }
 {
     let file = device.read(alloc)?;
     let Some(found) = read_file(alloc, &file)? else {
