@@ -4,3 +4,4 @@ pub mod ServeLemmas
 pub mod KeepLemmas
 pub mod CrashLemmas
 pub mod BeginLemmas
+pub mod ServiceFaultLemmas

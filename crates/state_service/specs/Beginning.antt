@@ -1,23 +1,17 @@
 -- What a service with a journal begins with (implementation-specific).
-use Rattle.std.specs.Prelude.{◌≡◌, ◌≢◌, ◌⊎◌, ◌≤◌, ⊤, ℕ, ◌+◌, List, [], Option, Ok, IfSome}
+use Rattle.std.specs.Prelude.{◌≡◌, ◌≢◌, ◌⊎◌, ◌≤◌, ℕ, ◌+◌, List, [], Option, Ok, IfSome}
 use Rattle.std.specs.Io.KnownBytes.{Appends}
 use Rattle.toml.specs.Parse.{parse_document}
 use Rattle.slice_table.specs.ReadPlant.{text_plant}
 use Rattle.plant.specs.declared.plant.PlantFields.{PlantFields}
 use Rattle.run_model.specs.IsStateAfter.{CoreView}
-use Rattle.live_core.specs.Resting.{Rests}
 use Rattle.snapshot_format.specs.declared.saved.Snapshot.{Snapshot}
 use Rattle.snapshot_format.specs.States.{states_of}
 use Rattle.plant_restart.specs.Restarted.{IsRestarted}
 use Rattle.plant_restart.specs.Changing.{IsChangeOf}
-use Rattle.plant_restart.specs.declared.refusing.RefusedState.{RefusedState}
-use Rattle.plant_restart.specs.Refused.{refused_states}
-use Rattle.plant_restart.specs.Saving.{states_by_name}
 use Rattle.line_service.specs.Bytes.{WhereKnown}
 use Rattle.line_journal.specs.Journal.{JournalContent, journal_content}
 use Rattle.durable_service.specs.Durable.{IsBegunWith, StandsForState}
-use Rattle.state_service.specs.declared.fault.StateServiceFault.{StateServiceFault}
-use Rattle.state_service.specs.declared.fault.StateServiceFault.TheVariants.{NotText, InvalidPlant, Journal, NotRestored, NotChanged, Stream, NoMemory}
 use Rattle.state_service.specs.declared.period_end.PeriodEnd.{PeriodEnd}
 use Rattle.state_service.specs.declared.period_end.PeriodEnd.TheVariants.{Ended}
 use Rattle.state_service.specs.Serving.{LeadsHere, LosesNoLine, IsRestFrame, greeting}
@@ -126,20 +120,3 @@ IsLeftAt bytes file input content = (content ≡ journal_content bytes) ⊎ ((fo
 -- of its opening: the file is as it was, or the journal is begun
 abbrev pub IsLeftByOpening : List ℕ → List ℕ → Option JournalContent → Type 0
 IsLeftByOpening bytes file content = (content ≡ journal_content bytes) ⊎ ((bytes ≡ []) × IsBegunWith file content)
-
--- ---- a start that is refused
-
--- the refusals of the states of a core's operators under a plant, if the core rests, and none otherwise
-pub record AreRefusals (live : CoreView) (plant : PlantFields) (refused : List RefusedState) : Type 0 where
-  pub rests : (frame : ℕ) → Rests live frame → refused ≡ refused_states plant (states_by_name live)
-  pub restless : ((frame : ℕ) → ¬ Rests live frame) → refused ≡ []
-
--- a fault of a change of the plant has them
-abbrev pub HasRefusals : CoreView → PlantFields → StateServiceFault → Type 0
-HasRefusals live plant NotText = ⊤
-HasRefusals live plant (InvalidPlant fault) = ⊤
-HasRefusals live plant (Journal fault) = ⊤
-HasRefusals live plant (NotRestored why) = ⊤
-HasRefusals live plant (NotChanged why refused) = AreRefusals live plant refused.items
-HasRefusals live plant (Stream error) = ⊤
-HasRefusals live plant NoMemory = ⊤

@@ -4,3 +4,4 @@ pub mod Serving
 pub mod Periods
 pub mod Crashes
 pub mod Beginning
+pub mod Faults

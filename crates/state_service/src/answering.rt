@@ -1,6 +1,6 @@
 //! Lines that are put in the journal and answered, and commands among them.
 
-ghost use Rattle.std.specs.Prelude.{◌≡◌, ◌+◌, ◌∷◌, [], true, ℕ, List, Option, length, IfOk, OnOk};
+ghost use Rattle.std.specs.Prelude.{◌≡◌, ◌≤◌, ◌+◌, true, ℕ, List, Option, length, IfOk, IfErr, OnOk};
 ghost use Rattle.std.specs.Io.KnownBytes.{Appends};
 ghost use Rattle.live_core.specs.After.{IsReachableFromStart};
 ghost use Rattle.live_core.specs.LiveView.{live_view};
@@ -14,6 +14,7 @@ ghost use Rattle.state_service.specs.Commands.{is_command};
 ghost use Rattle.state_service.specs.Serving.{AreDoneNext, IsAtLine, LeadsHere};
 ghost use Rattle.state_service.specs.Periods.{IsInPeriod, SaysAtEndIfAny, LeadsUnlessDue};
 ghost use Rattle.state_service.specs.Crashes.{ServiceOrigin, IsJournalOf, IsJournalInPeriod, IsLeftFrom};
+ghost use Rattle.state_service.specs.Faults.{IsServingFault};
 
 use crate::fault::StateServiceFault;
 use crate::performing::{CommandOutcome, CommandRefusal, command_outcome};
@@ -46,6 +47,8 @@ pub(crate) fn answer_lines<D: Device, W: Write>(
     ensures added { OnOk result (journal_content (D.seen journal.new.device) ≡ with_lines (texts lines.now) (journal_content (D.seen journal.old.device))) }
     ensures any_moment { LeavesOnly D.moment D.left_since journal.old.device journal.new.device
         (IsBeforeOrAfter (journal_content (D.seen journal.old.device)) (with_lines (texts lines.now) (journal_content (D.seen journal.old.device)))) }
+    ensures fault { IfErr result (IsServingFault (D.faults journal.old.device) (D.faults journal.new.device)) }
+    ensures counted { D.faults journal.old.device ≤ D.faults journal.new.device }
 {
     let text = do_batch(alloc, journal, service, lines)?;
     writer.write_all(text.as_slice())?;
@@ -113,6 +116,8 @@ pub(crate) fn serve_command<D: Device, W: Write, N: RefusalNotes>(
     ensures any_moment { (origin : ServiceOrigin) (rest : Option (List ℕ)) (part : List ℕ)
         → IsJournalOf origin (Command line) (journal_content (D.seen journal.old.device)) rest part
         → LeavesOnly D.moment D.left_since journal.old.device journal.new.device (λ c. IsLeftFrom origin (journal_content c)) }
+    ensures fault { IfErr result (IsServingFault (D.faults journal.old.device) (D.faults journal.new.device)) }
+    ensures counted { D.faults journal.old.device ≤ D.faults journal.new.device }
 {
     let number = number_after(service.count)?;
     let refusal = match command_outcome(alloc, service, number, line.as_slice())? {

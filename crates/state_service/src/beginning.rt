@@ -1,6 +1,6 @@
 //! A service with a journal, from its beginning on.
 
-ghost use Rattle.std.specs.Prelude.{◌≡◌, ◌≢◌, [], Ok, Some, IfOk, OnOk, IfSome};
+ghost use Rattle.std.specs.Prelude.{◌≡◌, ◌≤◌, Ok, Some, IfOk, IfErr, OnOk, IfSome};
 ghost use Rattle.toml.specs.Parse.{parse_document};
 ghost use Rattle.script_format.specs.Input.{plant_text, script_text};
 ghost use Rattle.slice_table.specs.ReadPlant.{text_plant};
@@ -8,6 +8,7 @@ ghost use Rattle.line_journal.specs.Device.{Only, LeavesOnly};
 ghost use Rattle.line_journal.specs.Found.{texts};
 ghost use Rattle.line_journal.specs.Journal.{journal_content, IsJournalSettled};
 ghost use Rattle.durable_service.specs.Durable.{StandsForState};
+ghost use Rattle.state_service.specs.Faults.{IsGivenFault, IsJournalFault, IsServiceFault};
 ghost use Rattle.state_service.specs.Beginning.{IsFoundIn, IsStateService, IsUnharmed, IsLeftByOpening, IsLeftAt};
 
 use crate::fault::StateServiceFault;
@@ -30,6 +31,7 @@ fn read_given<R: Read>(alloc: Global, reader: &mut R) -> Result<GivenPlant, Stat
     ensures file { IfOk result (λ given. IfSome (R.remaining reader.old) (λ input. given.file.items ≡ plant_text input)) }
     ensures lines { OnOk result (IfSome (R.remaining reader.old) (λ input. R.remaining reader.new ≡ Some (script_text input))) }
     ensures plant { IfOk result (λ given. text_plant (parse_document given.file.items) ≡ Ok given.plant) }
+    ensures fault { IfErr result (IsGivenFault (R.remaining reader.old)) }
 {
     let file = read_plant_text(alloc, reader)?;
     let Ok(text) = str::from_utf8(file.as_slice()) else {
@@ -54,6 +56,8 @@ fn open_state<D: Device>(
     ensures settled { IfOk result (λ state. IsJournalSettled D.seen D.may_leave device.new state.gate) }
     ensures is_found { OnOk result (IsFoundIn (D.seen device.old) file.now (journal_content (D.seen device.new))) }
     ensures any_moment { LeavesOnly D.moment D.left_since device.old device.new (λ c. IsLeftByOpening (D.seen device.old) file.now (journal_content c)) }
+    ensures fault { IfErr result (IsJournalFault (D.seen device.old) (D.faults device.old) (D.faults device.new)) }
+    ensures counted { D.faults device.old ≤ D.faults device.new }
 {
     if !device.read(alloc)?.is_empty() {
         return read_state(alloc, device);
@@ -100,6 +104,10 @@ pub fn serve_state<D: Device, R: Read, W: Write, N: RefusalNotes>(
     // It leaves a journal of the first lines of the input: a state to which they led, and those that follow.
     ensures named { IfSome (R.remaining reader.old) (λ input. LeavesOnly D.moment D.left_since journal.old.device journal.new.device
         (λ c. IsLeftAt (D.seen journal.old.device) (plant_text input) (script_text input) (journal_content c))) }
+
+    // What a fault says.
+    ensures fault { IfErr result (IsServiceFault (R.remaining reader.old) (D.seen journal.old.device) (D.faults journal.old.device)
+        (D.faults journal.new.device)) }
 {
     let given = read_given(alloc, reader)?;
     let mut lines = BufReader::with_capacity(alloc, READ_BYTES, reader)?;

@@ -1,11 +1,12 @@
 //! What a command results in: a state that is to be saved with an answer, or a refusal.
 
-ghost use Rattle.std.specs.Prelude.{◌≡◌, true, IfOk};
+ghost use Rattle.std.specs.Prelude.{◌≡◌, true, IfOk, IfErr};
 ghost use Rattle.live_core.specs.LiveView.{live_view};
 ghost use Rattle.snapshot_format.specs.Text.{text_of_snapshot};
 ghost use Rattle.resumed_service.specs.Items.{asks_snapshot};
 ghost use Rattle.resumed_service.specs.NewFrames.{asks_frame, frame_text};
 ghost use Rattle.state_service.specs.Commands.{is_command, IsOutcomeOf};
+ghost use Rattle.state_service.specs.Faults.{IsServingFault};
 
 use crate::commands::asks_snapshot;
 use crate::fault::StateServiceFault;
@@ -36,7 +37,8 @@ pub(crate) enum CommandOutcome {
 
 /// Returns the text of a snapshot.
 fn text_of(alloc: Global, saved: &Snapshot) -> Result<Vec<u8>, StateServiceFault>
-    ensures { IfOk result (λ text. text.items ≡ text_of_snapshot saved.now) }
+    ensures text { IfOk result (λ text. text.items ≡ text_of_snapshot saved.now) }
+    ensures fault { IfErr result (IsServingFault 0 0) }
 {
     let mut text = Vec::new(alloc);
     match write_snapshot(alloc, &mut text, saved) {
@@ -60,7 +62,8 @@ fn snapshot_outcome(
     line: &[u8],
 ) -> Result<CommandOutcome, StateServiceFault>
     requires { asks_snapshot line.now ≡ true }
-    ensures { IfOk result (IsOutcomeOf service.now.file (live_view service.now.core) line.now number) }
+    ensures outcome { IfOk result (IsOutcomeOf service.now.file (live_view service.now.core) line.now number) }
+    ensures fault { IfErr result (IsServingFault 0 0) }
 {
     let saved = match saved_core(alloc, &service.core, &service.file) {
         Ok(saved) => saved,
@@ -86,7 +89,8 @@ fn frame_outcome(
     line: &[u8],
 ) -> Result<CommandOutcome, StateServiceFault>
     requires { asks_frame line.now ≡ true }
-    ensures { IfOk result (IsOutcomeOf service.now.file (live_view service.now.core) line.now number) }
+    ensures outcome { IfOk result (IsOutcomeOf service.now.file (live_view service.now.core) line.now number) }
+    ensures fault { IfErr result (IsServingFault 0 0) }
 {
     let other = match renumbered_core(alloc, &service.core, &service.file, line) {
         Ok(other) => other.saved,
@@ -112,7 +116,8 @@ pub(crate) fn command_outcome(
     line: &[u8],
 ) -> Result<CommandOutcome, StateServiceFault>
     requires { is_command line.now ≡ true }
-    ensures { IfOk result (IsOutcomeOf service.now.file (live_view service.now.core) line.now number) }
+    ensures outcome { IfOk result (IsOutcomeOf service.now.file (live_view service.now.core) line.now number) }
+    ensures fault { IfErr result (IsServingFault 0 0) }
 {
     if asks_snapshot(line) {
         snapshot_outcome(alloc, service, number, line)

@@ -1,6 +1,6 @@
 //! Lines that are done up to a moment when the state is saved.
 
-ghost use Rattle.std.specs.Prelude.{◌≡◌, ◌≤◌, ℕ, List, Option, IfOk, OnOk};
+ghost use Rattle.std.specs.Prelude.{◌≡◌, ◌≤◌, ℕ, List, Option, IfOk, IfErr, OnOk};
 ghost use Rattle.live_core.specs.After.{IsReachableFromStart};
 ghost use Rattle.live_core.specs.LiveView.{live_view};
 ghost use Rattle.run_model.specs.IsStateAfter.{CoreView};
@@ -12,6 +12,7 @@ ghost use Rattle.state_service.specs.Taking.{HasCommand};
 ghost use Rattle.state_service.specs.Serving.{IsServing, LeadsHere};
 ghost use Rattle.state_service.specs.Periods.{IsAfterLines, IsInPeriod, IsAfterPeriod, IsKeptOf, SaysAtEndIfAny, SaysAtEnd, LeadsUnlessDue, LeadsAtEnd};
 ghost use Rattle.state_service.specs.Crashes.{ServiceOrigin, IsJournalOf, IsJournalInPeriod, IsLeftFrom};
+ghost use Rattle.state_service.specs.Faults.{IsServingFault};
 
 use crate::answering::{answer_lines, serve_command};
 use crate::fault::StateServiceFault;
@@ -51,6 +52,8 @@ fn serve_batch<D: Device, B: BufRead, W: Write>(
         → IsJournalOf origin end (journal_content (D.seen journal.new.device)) (B.remaining reader.new) part.new.items) }
     ensures any_moment { (origin : ServiceOrigin) → IsJournalOf origin Open (journal_content (D.seen journal.old.device)) (B.remaining reader.old) part.old.items
         → LeavesOnly D.moment D.left_since journal.old.device journal.new.device (λ c. IsLeftFrom origin (journal_content c)) }
+    ensures fault { IfErr result (IsServingFault (D.faults journal.old.device) (D.faults journal.new.device)) }
+    ensures counted { D.faults journal.old.device ≤ D.faults journal.new.device }
 {
     let LineBatch { lines, end } = read_batch(alloc, reader, part)?;
     if lines.is_empty() {
@@ -65,7 +68,8 @@ fn state_if_resting(
     alloc: Global,
     service: &DurableState,
 ) -> Result<Option<KeptState>, StateServiceFault>
-    ensures { IfOk result (IsKeptOf (live_view service.now.core) service.now.file service.now.count) }
+    ensures kept { IfOk result (IsKeptOf (live_view service.now.core) service.now.file service.now.count) }
+    ensures fault { IfErr result (IsServingFault 0 0) }
 {
     match state_to_keep(alloc, service) {
         Ok(kept) => Ok(Some(kept)),
@@ -102,6 +106,8 @@ fn serve_lines<D: Device, B: BufRead, W: Write, N: RefusalNotes>(
         → IsJournalInPeriod end origin (journal_content (D.seen journal.new.device)) (B.remaining reader.new) part.new.items) }
     ensures any_moment { (origin : ServiceOrigin) → IsJournalOf origin Open (journal_content (D.seen journal.old.device)) (B.remaining reader.old) part.old.items
         → LeavesOnly D.moment D.left_since journal.old.device journal.new.device (λ c. IsLeftFrom origin (journal_content c)) }
+    ensures fault { IfErr result (IsServingFault (D.faults journal.old.device) (D.faults journal.new.device)) }
+    ensures counted { D.faults journal.old.device ≤ D.faults journal.new.device }
 {
     match serve_batch(alloc, journal, service, part, reader, writer)? {
         BatchEnd::Open => Ok(None),
@@ -123,6 +129,7 @@ fn end_if_resting(
         → WhereKnown known rest (λ input left. IsInPeriod end file first count input left part
         (live_view service.now.core) service.now.count written now)) }
     ensures says { IfOk result (SaysAtEndIfAny service.now.count) }
+    ensures fault { IfErr result (IsServingFault 0 0) }
 {
     let Some(kept) = state_if_resting(alloc, service)? else {
         return Ok(None);
@@ -165,6 +172,8 @@ pub(crate) fn serve_period<D: Device, B: BufRead, W: Write, N: RefusalNotes>(
         → IsLeftFrom origin (journal_content (D.seen journal.new.device))) }
     ensures any_moment { (origin : ServiceOrigin) → IsJournalOf origin Open (journal_content (D.seen journal.old.device)) (B.remaining reader.old) part.old.items
         → LeavesOnly D.moment D.left_since journal.old.device journal.new.device (λ c. IsLeftFrom origin (journal_content c)) }
+    ensures fault { IfErr result (IsServingFault (D.faults journal.old.device) (D.faults journal.new.device)) }
+    ensures counted { D.faults journal.old.device ≤ D.faults journal.new.device }
 {
     let saved_at = service.count;
     for _ in 0..u64::MAX {

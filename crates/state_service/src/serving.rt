@@ -1,6 +1,6 @@
 //! A service that begins anew from its saved state now and then.
 
-ghost use Rattle.std.specs.Prelude.{◌≡◌, [], Ok, ℕ, List, Option, IfOk, OnOk, IfSome};
+ghost use Rattle.std.specs.Prelude.{◌≡◌, ◌≤◌, [], Ok, ℕ, List, Option, IfOk, IfErr, OnOk, IfSome};
 ghost use Rattle.toml.specs.Parse.{parse_document};
 ghost use Rattle.slice_table.specs.ReadPlant.{text_plant};
 ghost use Rattle.line_journal.specs.Device.{LeavesOnly};
@@ -9,6 +9,7 @@ ghost use Rattle.line_journal.specs.Journal.{JournalContent, journal_content, Is
 ghost use Rattle.durable_service.specs.Durable.{StandsForState};
 ghost use Rattle.state_service.specs.declared.period_end.PeriodEnd.TheVariants.{Due};
 ghost use Rattle.state_service.specs.Beginning.{IsServedUpTo, IsServiceOn, IsLeftUnder};
+ghost use Rattle.state_service.specs.Faults.{IsServingFault, IsStartFault};
 ghost use Rattle.state_service.specs.Periods.{SaysDue};
 
 use crate::fault::StateServiceFault;
@@ -61,6 +62,8 @@ fn serve_kept<D: Device, B: BufRead, W: Write, N: RefusalNotes>(
         → IsServedUpTo found (journal_content (D.seen journal.old.device)) given file count (Due due) part.old.items
         known (B.remaining reader.old) written (W.contents writer.old)
         → LeavesOnly D.moment D.left_since journal.old.device journal.new.device (λ c. IsLeftUnder found given known (journal_content c)) }
+    ensures fault { IfErr result (IsServingFault (D.faults journal.old.device) (D.faults journal.new.device)) }
+    ensures counted { D.faults journal.old.device ≤ D.faults journal.new.device }
 {
     let DueState { kept, answer } = due;
     let KeptState { start, snapshot } = kept;
@@ -133,6 +136,9 @@ fn serve_first<D: Device, B: BufRead, W: Write, N: RefusalNotes>(
         (B.remaining reader.old) (B.remaining reader.new) (W.contents writer.old) (W.contents writer.new)) }
     ensures any_moment { LeavesOnly D.moment D.left_since journal.old.device journal.new.device
         (λ c. IsLeftUnder (journal_content (D.seen journal.old.device)) given.file.items (B.remaining reader.old) (journal_content c)) }
+    ensures fault { IfErr result (IsStartFault (journal_content (D.seen journal.old.device)) given.file.items (D.faults journal.old.device)
+        (D.faults journal.new.device)) }
+    ensures counted { D.faults journal.old.device ≤ D.faults journal.new.device }
 {
     let SavedState { start, lines, gate } = state;
     journal.gate = gate;
@@ -217,6 +223,9 @@ pub(crate) fn serve_restored<D: Device, B: BufRead, W: Write, N: RefusalNotes>(
     ensures settled { OnOk result (IsJournalSettled D.seen D.may_leave journal.new.device journal.new.gate) }
     ensures any_moment { LeavesOnly D.moment D.left_since journal.old.device journal.new.device
         (λ c. IsLeftUnder (journal_content (D.seen journal.old.device)) given.file.items (B.remaining reader.old) (journal_content c)) }
+    ensures fault { IfErr result (IsStartFault (journal_content (D.seen journal.old.device)) given.file.items (D.faults journal.old.device)
+        (D.faults journal.new.device)) }
+    ensures counted { D.faults journal.old.device ≤ D.faults journal.new.device }
 {
     let mut part = Vec::new(alloc);
     let mut served = serve_first(

@@ -9,7 +9,8 @@ ghost use Rattle.line_service.specs.Bytes.{WhereKnown};
 ghost use Rattle.line_journal.specs.Device.{LeavesOnly};
 ghost use Rattle.line_journal.specs.Found.{texts};
 ghost use Rattle.line_journal.specs.Journal.{JournalContent, journal_content, IsJournalSettled};
-ghost use Rattle.state_service.specs.Beginning.{IsServiceSoFar, IsRestoredFrom, IsSavedWith, IsLeftUnder, HasRefusals};
+ghost use Rattle.state_service.specs.Beginning.{IsServiceSoFar, IsRestoredFrom, IsSavedWith, IsLeftUnder};
+ghost use Rattle.state_service.specs.Faults.{IsFaultOfChange, IsStartFault};
 ghost use Rattle.state_service.specs.Periods.{SaysAtEnd, LeadsAtEnd};
 ghost use Rattle.state_service.specs.Serving.{LeadsHere, HasNoFewer};
 
@@ -61,7 +62,7 @@ fn change_service<W: Write>(
     ensures on { IfOk result (λ started. (found : Option JournalContent) (input : List ℕ) → LeadsHere found (live_view service.core) service.count
         → IsSavedWith found service.file → IsServiceSoFar found given.file.items started.end found input input []
         (live_view started.service.core) started.service.count (W.contents writer.old) (W.contents writer.new)) }
-    ensures refused { IfErr result (HasRefusals (live_view service.core) given.plant) }
+    ensures fault { IfErr result (IsFaultOfChange (live_view service.core) given.plant) }
 {
     let refused = refused_states(alloc, &service.core, &given.plant)?;
     let GivenPlant { file, plant } = given;
@@ -118,6 +119,9 @@ pub(crate) fn start_service<D: Device, B: BufRead, W: Write, N: RefusalNotes>(
     ensures no_fewer { OnOk result (HasNoFewer (service.count + length lines.now) (journal_content (D.seen journal.new.device))) }
     ensures any_moment { LeavesOnly D.moment D.left_since journal.old.device journal.new.device
         (λ c. IsLeftUnder (journal_content (D.seen journal.old.device)) given.file.items (B.remaining reader.old) (journal_content c)) }
+    ensures fault { IfErr result (IsStartFault (journal_content (D.seen journal.old.device)) given.file.items (D.faults journal.old.device)
+        (D.faults journal.new.device)) }
+    ensures counted { D.faults journal.old.device ≤ D.faults journal.new.device }
 {
     redo_lines(alloc, &mut service, lines)?;
     if service.file.as_slice() != given.file.as_slice() {

@@ -18,7 +18,7 @@ returns-in-Due-clause-on g c file first count known rest written part same so_fa
     let live = live_view service.core in
     let number = c.in_ok-number.number in
     let line = c.args.line.items in
-    let is : IsCommandDue service.file live c.as_slice.result.now number c.in-Due.due = subst (λ (o : CommandOutcome). IsOutcomeOf service.file live c.as_slice.result.now number o) c.in-Due.is c.in_ok-due.ensures in
+    let is : IsCommandDue service.file live c.as_slice.result.now number c.in-Due.due = subst (λ (o : CommandOutcome). IsOutcomeOf service.file live c.as_slice.result.now number o) c.in-Due.is c.in_ok-due.ensures.outcome in
     command_due_where file first count part known rest written live service.count (g.W.Write.contents c.args.writer.now) c.in-Due.due service.file line number same c.in_ok-number.ensures
     (subst (λ (l : List ℕ). IsCommandDue service.file live l number c.in-Due.due) c.as_slice.ensures.value is) so_far
 
@@ -40,7 +40,7 @@ returns-clause-on g c file first count known rest written part same so_far =
     let new = c.answer_lines.new.service in
     let done = c.in_ok-answer_lines.ensures.answered in
     let alone : texts c.as_slice-2.result.now ≡ line ∷ [] = ap (λ (ls : List (Vec ℕ Global)). texts ls) (c.as_slice-2.ensures.value ∙ c.in_ok-lines.ensures.items) in
-    let is : IsCommandRefusedFor service.file live c.as_slice.result.now refusal = subst (λ (o : CommandOutcome). IsOutcomeOf service.file live c.as_slice.result.now number o) c.in-Refused.is c.in_ok-due.ensures in
+    let is : IsCommandRefusedFor service.file live c.as_slice.result.now refusal = subst (λ (o : CommandOutcome). IsOutcomeOf service.file live c.as_slice.result.now number o) c.in-Refused.is c.in_ok-due.ensures.outcome in
     command_refused_where file first count part known rest written live service.count (g.W.Write.contents c.args.writer.now) service.file line done.0 (texts c.as_slice-2.result.now) refusal (live_view new.core) new.count
     (g.W.Write.contents c.answer_lines.new.writer) same alone c.in_ok-answer_lines.ensures.count
     (subst (λ (l : List ℕ). IsCommandRefusedFor service.file live l refusal) c.as_slice.ensures.value is) done.1 done.2 so_far

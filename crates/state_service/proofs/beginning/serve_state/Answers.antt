@@ -1,4 +1,4 @@
-use Rattle.std.proofs.Common.{◌≡◌, ℕ, List, Option, IfSome, refl, ap, subst, ◌∙◌}
+use Rattle.std.proofs.Common.{◌≡◌, ℕ, List, Option, IfSome, refl, ap, subst, ◌∙◌, le_refl}
 use Rattle.std.specs.Io.Buffered.{reader_remaining}
 use Rattle.script_format.proofs.Outcomes.{if_ok}
 use Rattle.line_journal.specs.Device.{LeavesOnly}
@@ -6,6 +6,7 @@ use Rattle.line_journal.specs.Journal.{journal_content}
 use Rattle.state_service.specs.Beginning.{IsFoundIn, IsServiceOn, IsUnharmed, IsLeftUnder, IsLeftByOpening}
 use Rattle.state_service.proofs.BeginLemmas.{given_serves, unharmed_from, unread_same, opening_unharmed, still_named, opening_named, service_named}
 use Rattle.state_service.proofs.KeepLemmas.{weaker, joined, unchanged}
+use Rattle.state_service.proofs.ServiceFaultLemmas.{if_err, start_fault}
 use Rattle.state_service.proofs.beginning.serve_state.Goals as goal
 
 pub returns-clause-served : goal.returns-clause-served
@@ -102,3 +103,16 @@ returns-clause-named g c =
     let is_found = subst (λ (f : List ℕ). IsFoundIn seen f found) c.as_slice.ensures.value c.in_ok-state.ensures.is_found in
     service_named moment left seen (g.R.Read.remaining c.args.reader.now) rest old mid new file found c.in_ok-given.ensures.file c.in_ok-given.ensures.lines is_found opening
     (subst (λ (o : Option (List ℕ)). LeavesOnly moment left mid new (λ d. IsLeftUnder found file o (journal_content d))) same c.serve_restored.ensures.any_moment)
+
+pub returns-clause-fault : goal.returns-clause-fault
+returns-clause-fault g c =
+    let seen = g.D.Device.seen c.args.journal.now.device in
+    let found = journal_content (g.D.Device.seen c.open_state.new.device) in
+    let file = c.in_ok-given.given.file.items in
+    let old = g.D.Device.faults c.args.journal.now.device in
+    let mid = g.D.Device.faults c.open_state.new.device in
+    let new = g.D.Device.faults c.serve_restored.new.journal.device in
+    let is_found = subst (λ (f : List ℕ). IsFoundIn seen f found) c.as_slice.ensures.value c.in_ok-state.ensures.is_found in
+    if_err c.serve_restored.result _ _
+    (λ e is. start_fault (g.R.Read.remaining c.args.reader.now) seen file found mid new old new e c.in_ok-given.ensures.file is_found c.open_state.ensures.counted (le_refl new) is)
+    c.serve_restored.ensures.fault

@@ -3,14 +3,14 @@ use Rattle.live_core.specs.LiveView.{live_view}
 use Rattle.state_service.proofs.CommandLemmas.{core_snapshot_is, snapshot_given}
 use Rattle.state_service.proofs.performing.snapshot_outcome.Goals as goal
 
-pub returns : goal.returns
-returns g c =
+pub returns-clause-outcome : goal.returns-clause-outcome
+returns-clause-outcome g c =
     let file = c.args.service.now.file in
     let live = live_view c.args.service.now.core in
     let saved = c.in-Ok.saved in
     let is = c.in-Ok.ensures.ok in
     inl (record {
       requests = c.requires;
-      given = snapshot_given file live saved is _ c.in_ok-answer.ensures;
+      given = snapshot_given file live saved is _ c.in_ok-answer.ensures.text;
       kept = record { saved = saved; of_core = core_snapshot_is file live saved is; kept = c.in_ok-kept.ensures };
     })

@@ -13,4 +13,4 @@ returns-clause-on g c file first count known rest written now part same so_far =
     let kept = c.in-Some.kept in
     state_due_where file first count part known rest written live service.count now (record { kept = kept; answer = c.new.result }) c.new.ensures.items
     (subst (λ (f : List ℕ). IsKeptState live f service.count kept.snapshot kept.start.plant kept.start.saved) same
-    (subst (λ (o : Option KeptState). IsKeptOf live service.file service.count o) c.in-Some.is c.in_ok-kept.ensures)) so_far
+    (subst (λ (o : Option KeptState). IsKeptOf live service.file service.count o) c.in-Some.is c.in_ok-kept.ensures.kept)) so_far

@@ -1,4 +1,4 @@
-use Rattle.std.proofs.Common.{Option, refl, subst, ◌∙◌, arith}
+use Rattle.std.proofs.Common.{rules, Option, IfErr, refl, subst, ◌∙◌, arith, le_trans, le_refl}
 use Rattle.live_core.specs.LiveView.{live_view}
 use Rattle.line_service.specs.Bytes.{WhereKnown}
 use Rattle.line_journal.specs.Journal.{journal_content}
@@ -9,6 +9,8 @@ use Rattle.state_service.specs.Crashes.{IsJournalInPeriod, IsLeftFrom}
 use Rattle.state_service.proofs.KeepLemmas.{unchanged, joined}
 use Rattle.state_service.proofs.ServeLemmas.{none_if}
 use Rattle.state_service.proofs.CrashLemmas.{journal_left}
+use Rattle.state_service.specs.Faults.{IsServingFault}
+use Rattle.state_service.proofs.ServiceFaultLemmas.{if_err, later_fault}
 use Rattle.state_service.proofs.periods.serve_period.Goals as goal
 
 pub returns-in_err-end-clause-any_moment : goal.returns-in_err-end-clause-any_moment
@@ -84,6 +86,7 @@ loop-preserved-then-saturating_sub-period g c =
       any_moment = λ origin has.
           joined g.D.Device.moment g.D.Device.left_since c.args.journal.now.device c.loop.journal.device c.serve_lines.new.journal.device
           (λ d. IsLeftFrom origin (journal_content d)) (c.loop.invariant.any_moment origin has) (c.serve_lines.ensures.any_moment origin (c.loop.invariant.holds origin has));
+      counted = le_trans c.loop.invariant.counted c.serve_lines.ensures.counted;
     }
 
 pub loop-preserved : goal.loop-preserved
@@ -107,6 +110,7 @@ loop-preserved g c =
       any_moment = λ origin has.
           joined g.D.Device.moment g.D.Device.left_since c.args.journal.now.device c.loop.journal.device c.serve_lines.new.journal.device
           (λ d. IsLeftFrom origin (journal_content d)) (c.loop.invariant.any_moment origin has) (c.serve_lines.ensures.any_moment origin (c.loop.invariant.holds origin has));
+      counted = le_trans c.loop.invariant.counted c.serve_lines.ensures.counted;
     }
 
 pub loop-init : goal.loop-init
@@ -121,4 +125,24 @@ loop-init g c = record {
   any_moment = λ origin has.
       unchanged g.D.Device.moment g.D.Device.left_since c.args.journal.now.device g.D.Device.seen g.D.Device.may_leave (λ o. IsLeftFrom origin o) (g.met.D.Device.only_now c.args.journal.now.device)
       c.requires.settled.durable (journal_left origin Open _ _ _ has);
+  counted = le_refl (g.D.Device.faults c.args.journal.now.device);
 }
+
+pub returns-in_err-end-clause-counted : goal.returns-in_err-end-clause-counted
+returns-in_err-end-clause-counted g c = le_trans c.loop.invariant.counted c.serve_lines.ensures.counted
+
+pub returns-in-Some-clause-counted : goal.returns-in-Some-clause-counted
+returns-in-Some-clause-counted g c = le_trans c.loop.invariant.counted c.serve_lines.ensures.counted
+
+pub returns-in_err-end-2-clause-counted : goal.returns-in_err-end-2-clause-counted
+returns-in_err-end-2-clause-counted g c = le_trans c.loop.invariant.counted c.serve_lines.ensures.counted
+
+pub returns-in-Some-2-clause-counted : goal.returns-in-Some-2-clause-counted
+returns-in-Some-2-clause-counted g c = le_trans c.loop.invariant.counted c.serve_lines.ensures.counted
+
+pub returns-in_err-end-clause-fault : goal.returns-in_err-end-clause-fault
+returns-in_err-end-clause-fault g c =
+    let mid = g.D.Device.faults c.loop.journal.device in
+    let new = g.D.Device.faults c.serve_lines.new.journal.device in
+    let inner : IfErr c.from_residual.result (IsServingFault mid new) = search rules in
+    if_err c.from_residual.result _ _ (λ e is. later_fault mid new (g.D.Device.faults c.args.journal.now.device) new e c.loop.invariant.counted (le_refl new) is) inner

@@ -25,4 +25,5 @@ invariant-loop g l = record {
       → IsJournalOf origin Open (journal_content (g.D.Device.seen l.journal.device)) (g.B.Read.remaining l.reader) l.part.items;
   any_moment : (origin : ServiceOrigin) → IsJournalOf origin Open (journal_content (g.D.Device.seen l.fn.journal.device)) (g.B.Read.remaining l.fn.reader) l.fn.part.items
       → LeavesOnly g.D.Device.moment g.D.Device.left_since l.fn.journal.device l.journal.device (λ c. IsLeftFrom origin (journal_content c));
+  counted : g.D.Device.faults l.fn.journal.device ≤ g.D.Device.faults l.journal.device;
 }

@@ -1,9 +1,11 @@
-use Rattle.std.proofs.Common.{subst}
+use Rattle.std.proofs.Common.{rules, IfErr, subst, le_trans, le_refl}
 use Rattle.line_journal.specs.Journal.{journal_content}
 use Rattle.state_service.specs.declared.period_end.PeriodEnd.{PeriodEnd}
 use Rattle.state_service.specs.Beginning.{IsServedUpTo, IsLeftUnder}
 use Rattle.state_service.proofs.BeginLemmas.{all_served, ended_leads}
+use Rattle.state_service.specs.Faults.{IsServingFault}
 use Rattle.state_service.proofs.KeepLemmas.{joined}
+use Rattle.state_service.proofs.ServiceFaultLemmas.{if_err, later_fault, serving_start}
 use Rattle.state_service.proofs.serving.serve_restored.Goals as goal
 
 pub returns-in-Ended-clause-served : goal.returns-in-Ended-clause-served
@@ -48,4 +50,18 @@ loop-preserved g c =
       settled = kept.settled;
       on = kept.on found given known w0 on;
       any_moment = joined g.D.Device.moment g.D.Device.left_since old mid new (λ d. IsLeftUnder found given known (journal_content d)) c.loop.invariant.any_moment (c.serve_kept.ensures.any_moment found given known w0 on);
+      counted = le_trans c.loop.invariant.counted c.serve_kept.ensures.counted;
     }
+
+pub returns-in_err-served-2-clause-counted : goal.returns-in_err-served-2-clause-counted
+returns-in_err-served-2-clause-counted g c = le_trans c.loop.invariant.counted c.serve_kept.ensures.counted
+
+pub returns-in_err-served-2-clause-fault : goal.returns-in_err-served-2-clause-fault
+returns-in_err-served-2-clause-fault g c =
+    let old = g.D.Device.faults c.args.journal.now.device in
+    let mid = g.D.Device.faults c.loop.journal.device in
+    let new = g.D.Device.faults c.serve_kept.new.journal.device in
+    let result = c.from_residual-in_err-served-2.result in
+    let inner : IfErr result (IsServingFault mid new) = search rules in
+    if_err result _ _
+    (λ e is. serving_start (journal_content (g.D.Device.seen c.args.journal.now.device)) c.args.given.file.items old new e (later_fault mid new old new e c.loop.invariant.counted (le_refl new) is)) inner

@@ -1,3 +1,4 @@
+use Rattle.std.proofs.Common.{◌≤◌}
 use Rattle.line_journal.specs.Device.{LeavesOnly}
 use Rattle.line_journal.specs.Journal.{journal_content, IsJournalSettled}
 use Rattle.state_service.specs.Beginning.{IsServedUpTo, IsLeftUnder}
@@ -10,4 +11,5 @@ invariant-loop g l = record {
       (g.B.Read.remaining l.fn.reader) (g.B.Read.remaining l.reader) (g.W.Write.contents l.fn.writer) (g.W.Write.contents l.writer);
   any_moment : LeavesOnly g.D.Device.moment g.D.Device.left_since l.fn.journal.device l.journal.device
       (λ c. IsLeftUnder (journal_content (g.D.Device.seen l.fn.journal.device)) l.fn.given.file.items (g.B.Read.remaining l.fn.reader) (journal_content c));
+  counted : g.D.Device.faults l.fn.journal.device ≤ g.D.Device.faults l.journal.device;
 }

@@ -1,4 +1,4 @@
-use Rattle.std.proofs.Common.{rules, ◌≡◌, ◌∙◌, ℕ, ◌+◌, List, length, sym, subst, arith}
+use Rattle.std.proofs.Common.{rules, ◌≡◌, ◌≢◌, ◌∙◌, ℕ, ◌+◌, List, length, sym, subst, arith}
 use Rattle.live_core.specs.LiveView.{live_view}
 use Rattle.script_format.proofs.Outcomes.{if_ok}
 use Rattle.line_service.proofs.ServiceLemmas.{known_same}
@@ -9,6 +9,7 @@ use Rattle.state_service.specs.Beginning.{IsServiceSoFar, IsLeftUnder}
 use Rattle.state_service.proofs.BeginLemmas.{none_read_where, first_served, restored_leads, restored_saved, saved_first, begun_left, begun_leaves, on_ok}
 use Rattle.state_service.proofs.KeepLemmas.{unchanged, stands_has}
 use Rattle.state_service.proofs.CrashLemmas.{found_left}
+use Rattle.state_service.proofs.ServiceFaultLemmas.{if_err, change_start}
 use Rattle.state_service.proofs.starting.start_service.Goals as goal
 
 pub returns-in_err-redo_lines-clause-any_moment : goal.returns-in_err-redo_lines-clause-any_moment
@@ -29,6 +30,18 @@ returns-then-ne-clause-count g c = if_ok c.change_service.result _ _ (λ started
 
 pub returns-then-ne-clause-leads : goal.returns-then-ne-clause-leads
 returns-then-ne-clause-leads g c = if_ok c.change_service.result _ _ (λ started all. all (journal_content (g.D.Device.seen c.args.journal.now.device))) c.change_service.ensures.leads
+
+pub returns-then-ne-clause-fault : goal.returns-then-ne-clause-fault
+returns-then-ne-clause-fault g c =
+    let content = journal_content (g.D.Device.seen c.args.journal.now.device) in
+    let service = c.redo_lines.new.service in
+    let given = c.args.given.file.items in
+    let leads = restored_leads content c.args.service.file c.args.service.count (texts c.args.lines.now) (live_view c.args.service.core) (live_view service.core) service.count c.requires.restored c.in_ok-redo_lines.ensures.leads in
+    let is_saved = restored_saved content c.args.service.file service.file c.args.service.count (texts c.args.lines.now) (live_view c.args.service.core) c.requires.restored c.redo_lines.ensures.same in
+    let other : given ≢ service.file = search rules in
+    if_err c.change_service.result _ _
+    (λ e is. change_start content given (g.D.Device.faults c.args.journal.now.device) (live_view service.core) service.count service.file c.args.given.plant e leads is_saved other c.requires.given is)
+    c.change_service.ensures.fault
 
 pub returns-then-ne-clause-on : goal.returns-then-ne-clause-on
 returns-then-ne-clause-on g c =
