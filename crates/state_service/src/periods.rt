@@ -48,9 +48,11 @@ fn serve_batch<D: Device, B: BufRead, W: Write>(
         → WhereKnown known (B.remaining reader.new) (λ input rest. IsAfterLines end file first count input rest part.new.items
         (live_view service.new.core) service.new.count written (W.contents writer.new))) }
     ensures command { IfOk result HasCommand }
-    ensures holds { IfOk result (λ end. (origin : ServiceOrigin) → IsJournalOf origin Open (journal_content (D.seen journal.old.device)) (B.remaining reader.old) part.old.items
+    ensures holds { IfOk result (λ end. (origin : ServiceOrigin)
+        → IsJournalOf origin Open (journal_content (D.seen journal.old.device)) (B.remaining reader.old) part.old.items
         → IsJournalOf origin end (journal_content (D.seen journal.new.device)) (B.remaining reader.new) part.new.items) }
-    ensures any_moment { (origin : ServiceOrigin) → IsJournalOf origin Open (journal_content (D.seen journal.old.device)) (B.remaining reader.old) part.old.items
+    ensures any_moment { (origin : ServiceOrigin)
+        → IsJournalOf origin Open (journal_content (D.seen journal.old.device)) (B.remaining reader.old) part.old.items
         → LeavesOnly D.moment D.left_since journal.old.device journal.new.device (λ c. IsLeftFrom origin (journal_content c)) }
     ensures fault { IfErr result (IsServingFault (D.faults journal.old.device) (D.faults journal.new.device)) }
     ensures counted { D.faults journal.old.device ≤ D.faults journal.new.device }
@@ -102,9 +104,11 @@ fn serve_lines<D: Device, B: BufRead, W: Write, N: RefusalNotes>(
         → WhereKnown known (B.remaining reader.new) (λ input rest. IsInPeriod end file first count input rest part.new.items
         (live_view service.new.core) service.new.count written (W.contents writer.new))) }
     ensures says { IfOk result (SaysAtEndIfAny service.new.count) }
-    ensures holds { IfOk result (λ end. (origin : ServiceOrigin) → IsJournalOf origin Open (journal_content (D.seen journal.old.device)) (B.remaining reader.old) part.old.items
+    ensures holds { IfOk result (λ end. (origin : ServiceOrigin)
+        → IsJournalOf origin Open (journal_content (D.seen journal.old.device)) (B.remaining reader.old) part.old.items
         → IsJournalInPeriod end origin (journal_content (D.seen journal.new.device)) (B.remaining reader.new) part.new.items) }
-    ensures any_moment { (origin : ServiceOrigin) → IsJournalOf origin Open (journal_content (D.seen journal.old.device)) (B.remaining reader.old) part.old.items
+    ensures any_moment { (origin : ServiceOrigin)
+        → IsJournalOf origin Open (journal_content (D.seen journal.old.device)) (B.remaining reader.old) part.old.items
         → LeavesOnly D.moment D.left_since journal.old.device journal.new.device (λ c. IsLeftFrom origin (journal_content c)) }
     ensures fault { IfErr result (IsServingFault (D.faults journal.old.device) (D.faults journal.new.device)) }
     ensures counted { D.faults journal.old.device ≤ D.faults journal.new.device }
@@ -168,9 +172,11 @@ pub(crate) fn serve_period<D: Device, B: BufRead, W: Write, N: RefusalNotes>(
         → WhereKnown known (B.remaining reader.new) (λ input rest. IsAfterPeriod end file first count input rest part.new.items
         (live_view service.new.core) service.new.count written (W.contents writer.new))) }
     ensures says { IfOk result (SaysAtEnd service.new.count) }
-    ensures left { OnOk result ((origin : ServiceOrigin) → IsJournalOf origin Open (journal_content (D.seen journal.old.device)) (B.remaining reader.old) part.old.items
+    ensures left { OnOk result ((origin : ServiceOrigin)
+        → IsJournalOf origin Open (journal_content (D.seen journal.old.device)) (B.remaining reader.old) part.old.items
         → IsLeftFrom origin (journal_content (D.seen journal.new.device))) }
-    ensures any_moment { (origin : ServiceOrigin) → IsJournalOf origin Open (journal_content (D.seen journal.old.device)) (B.remaining reader.old) part.old.items
+    ensures any_moment { (origin : ServiceOrigin)
+        → IsJournalOf origin Open (journal_content (D.seen journal.old.device)) (B.remaining reader.old) part.old.items
         → LeavesOnly D.moment D.left_since journal.old.device journal.new.device (λ c. IsLeftFrom origin (journal_content c)) }
     ensures fault { IfErr result (IsServingFault (D.faults journal.old.device) (D.faults journal.new.device)) }
     ensures counted { D.faults journal.old.device ≤ D.faults journal.new.device }
