@@ -172,6 +172,13 @@ class Help(unittest.TestCase):
             for block in (command.summary, *command.blocks):
                 self.assertIn(" ".join((" ".join(block) if isinstance(block, list) else block).split()), printed)
 
+    @unittest.skipUnless(pathlib.Path(PROGRAM).exists(), "the program is not built: its help was not compared")
+    def test_help_is_a_command_before_the_name_of_another(self):
+        for name in ("resume", "restore", "snapshot"):
+            after, before = (subprocess.run([PROGRAM, *words], capture_output=True, text=True, check=True).stdout for words in ((name, "--help"), ("help", name)))
+            self.assertEqual(before, after)
+            self.assertIn(f"\nUsage: plant_script {name}\n", before)
+
 
 class Markdown(unittest.TestCase):
     def page(self, *lines):

@@ -9,18 +9,20 @@ word_named word = cond (bytes_eq word (codes "resume")) (Some Resume)
     (cond (bytes_eq word (codes "restore")) (Some Restore)
     (cond (bytes_eq word (codes "snapshot")) (Some Snapshot) None))
 
--- the words without the options are the name of one alone
+-- the words without the options are the name of one, alone or with two hyphens after it
 abbrev pub service_word : List (List ℕ) → Option ServiceWord
 service_word [] = None
 service_word (word ∷ []) = word_named word
-service_word (word ∷ other ∷ words) = None
+service_word (word ∷ hyphens ∷ []) = cond (bytes_eq hyphens (codes "--")) (word_named word) None
+service_word (word ∷ hyphens ∷ other ∷ words) = None
 
--- the words ask for the help of one
+-- the words ask for the help of one: an option for help is after its name, or `help` before it
 abbrev pub help_word : List (List ℕ) → Option ServiceWord
 help_word [] = None
 help_word (word ∷ []) = None
-help_word (word ∷ help ∷ []) = cond (bytes_eq help (codes "--help") || bytes_eq help (codes "-h")) (word_named word) None
-help_word (word ∷ help ∷ other ∷ words) = None
+help_word (word ∷ second ∷ []) = cond (bytes_eq second (codes "--help") || bytes_eq second (codes "-h")) (word_named word)
+    (cond (bytes_eq word (codes "help")) (word_named second) None)
+help_word (word ∷ second ∷ other ∷ words) = None
 
 -- the words without the options are `run`, alone or with two hyphens after it
 abbrev pub is_run : List (List ℕ) → Bool

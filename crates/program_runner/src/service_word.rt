@@ -30,22 +30,24 @@ fn word_named(word: &str) -> Option<ServiceWord>
     }
 }
 
-/// Returns the command if the words without the options are its name alone.
+/// Returns the command if the words without the options are its name, alone or with two hyphens after it.
 pub(crate) fn service_word(words: &[&str]) -> Option<ServiceWord>
     ensures { result ≡ service_word (texts words.now) }
 {
     match words {
         [word] => word_named(word),
+        [word, hyphens] if *hyphens == "--" => word_named(word),
         _ => None,
     }
 }
 
-/// Returns the command if the words ask for its help.
+/// Returns the command if the words ask for its help: an option for help after its name, or `help` before it.
 pub(crate) fn help_word(words: &[&str]) -> Option<ServiceWord>
     ensures { result ≡ help_word (texts words.now) }
 {
     match words {
         [word, help] if *help == "--help" || *help == "-h" => word_named(word),
+        [help, word] if *help == "help" => word_named(word),
         _ => None,
     }
 }
