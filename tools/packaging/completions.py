@@ -4,7 +4,8 @@
     tools/completions --check [PROGRAM]      tests whether they are what the help lists, and exits with 1 if one is not
 
 PROGRAM is the built program, or the one that is given. The commands, options and operands are those that `PROGRAM --help` and
-`PROGRAM COMMAND --help` list, and the options of a command that its help leaves to docs/FORMATS.md (UNLISTED).
+`PROGRAM COMMAND --help` list, and the options of a command that its help leaves to docs/FORMATS.md (UNLISTED). The commands whose help
+clap does not write have no row in `PROGRAM --help` (SERVICE_COMMANDS).
 """
 
 import argparse
@@ -22,6 +23,9 @@ FOLDER = "packaging/completions"
 HEADING = re.compile(r"(\w+):\s*$")
 # The heading of the options that clap does not read. An empty line follows it.
 FURTHER = "Further options, before the command or after it:"
+# The commands whose help clap does not write, and the heading of their options.
+SERVICE_COMMANDS = ("resume", "restore", "snapshot")
+SERVICE_OPTIONS = "Options, before the command or after it:"
 ROW = re.compile(r"  +(\S.*?)(?:  +(\S.*))?$")
 OPTION = re.compile(r"(?:(-\w)(?:, )?)?(--[\w-]+)?(?: <?(\w+)>?)?$")
 # The values of options and the operands that are names of files or of folders.
@@ -67,8 +71,8 @@ def sections_of(text):
     rows, sections = [], {}
     for line in text.splitlines():
         heading, row = HEADING.match(line), ROW.match(line)
-        if line == FURTHER:
-            rows = sections[FURTHER] = []
+        if line in (FURTHER, SERVICE_OPTIONS):
+            rows = sections[line] = []
         elif heading:
             rows = sections[heading[1]] = []
         elif row:
@@ -95,6 +99,15 @@ def read_command(name, text, help_text):
     return Command(name, text, options + [option for option in UNLISTED.get(name, ()) if option.spellings[0] not in listed], operands)
 
 
+def read_service_command(name, help_text):
+    """Returns a command whose help clap does not write. The first line of the help says what the command does."""
+    rows = sections_of(help_text).get(SERVICE_OPTIONS)
+    if rows is None:
+        raise NoHelp(f"the help of {name} lists no options")
+    options = [option_of(term, text) for term, text in rows]
+    return Command(name, help_text.splitlines()[0], [Option(("-h", "--help"), None, "Print help"), *options])
+
+
 def help_of(program, *words):
     """Returns what the program prints for a request for help."""
     try:
@@ -112,7 +125,9 @@ def read_program(program):
     rows = sections_of(top_help).get("Commands")
     if not rows:
         raise NoHelp(f"the help of {program} lists no commands")
-    commands = [Command(name, text) if name == "help" else read_command(name, text, help_of(program, name)) for name, text in rows]
+    commands = [read_command(name, text, help_of(program, name)) for name, text in rows if name != "help"]
+    commands += [read_service_command(name, help_of(program, name)) for name in SERVICE_COMMANDS]
+    commands += [Command(name, text) for name, text in rows if name == "help"]
     return read_command("", "", top_help), commands
 
 

@@ -203,6 +203,20 @@ def second_channel(box):
     return "a second channel runs next to the first"
 
 
+def realtime(box):
+    """Starts a channel with the drop-in for a realtime class. Its program has the class, and answers as before."""
+    folder = "/etc/systemd/system/plant@west.service.d"
+    begin_anew(box, "west")
+    box.run(f"mkdir {folder} && cp /usr/share/doc/plant-script/examples/realtime.conf {folder}/ && systemctl daemon-reload && systemctl start plant@west")
+    send(box, "west", LINES)
+    wait_for_answers(box, "west", "S line 1 frame 0\n" + run_answers(box, LINES))
+    policy = box.run(f"chrt --pid $({PROGRAM_OF.format('west')})")
+    want("SCHED_RR" in policy and "priority: 10" in policy, f"the program has another scheduling class: {policy}")
+    want(shown(box, "plant@west", "MemorySwapMax") == ["0"], "the channel may be swapped")
+    box.run(f"systemctl stop plant@west.socket plant@west; rm -r {folder}; systemctl daemon-reload")
+    return "a channel runs in a realtime class"
+
+
 def killed(box):
     """Kills processes of the channel: each time it goes on with its flows, its frame and the number of the next line."""
     kinds = (f"kill -KILL $({PROGRAM_OF.format('east')})", "systemctl kill --signal=KILL plant@east", "kill -KILL $(systemctl show -P MainPID plant@east)",
@@ -475,7 +489,7 @@ def trials(box, package, work):
     """Yields a line for each trial."""
     yield lintian(package)
     yield install(box, package)
-    for trial in (complete, verify_units, as_the_page_says, first_start, invalid_line, rights, second_channel, killed, goes_on, reloaded, reasons, changed_while_down, without_folder, watched,
+    for trial in (complete, verify_units, as_the_page_says, first_start, invalid_line, rights, second_channel, realtime, killed, goes_on, reloaded, reasons, changed_while_down, without_folder, watched,
                   ticked, stopped_at_work, invalid_plant, full_disk, recorded, rebooted):
         forget_failures(box)
         yield trial(box)

@@ -25,7 +25,7 @@ usr/share/doc/plant-script/OPERATING.md.gz usr/share/doc/plant-script/README.md.
 usr/share/doc/plant-script/SCOPE.md.gz usr/share/doc/plant-script/build.txt usr/share/doc/plant-script/changelog.Debian.gz
 usr/share/doc/plant-script/changelog.gz usr/share/doc/plant-script/copyright usr/share/doc/plant-script/examples/every_key/README.md
 usr/share/doc/plant-script/examples/every_key/check.out usr/share/doc/plant-script/examples/every_key/check.txt
-usr/share/doc/plant-script/examples/plant_p2.toml usr/share/fish/vendor_completions.d/plant_script.fish
+usr/share/doc/plant-script/examples/realtime.conf usr/share/doc/plant-script/examples/plant_p2.toml usr/share/fish/vendor_completions.d/plant_script.fish
 usr/share/lintian/overrides/plant-script usr/share/man/man1/plant_script-serve.1.gz usr/share/man/man1/plant_script.1.gz
 usr/share/man/man5/plant.toml.5.gz usr/share/zsh/vendor-completions/_plant_script
 usr/lib/systemd/system/plant-metrics@.service usr/libexec/plant_script/pass_reasons usr/libexec/plant_script/watch_channel

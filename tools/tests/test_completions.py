@@ -60,6 +60,16 @@ Further options, before the command or after it:
 
     plant_script history A < script.txt
 """
+SERVICE = """Serve it
+
+Usage: plant_script COMMAND
+
+Options, before the command or after it:
+
+    --input FILE    read FILE of the service
+
+Standard input: lines.
+"""
 PROGRAM = f"""#!/bin/sh
 case "$*" in
 --help) cat <<'END'
@@ -70,6 +80,9 @@ case "$*" in
 ;;
 "history --help") cat <<'END'
 {HISTORY}END
+;;
+"resume --help" | "restore --help" | "snapshot --help") cat <<'END'
+{SERVICE}END
 ;;
 *) exit 2 ;;
 esac
@@ -107,20 +120,24 @@ class Completions(unittest.TestCase):
 
     def test_what_the_help_lists_is_read(self):
         top, commands = self.read
-        self.assertEqual([command.name for command in commands], ["run", "history", "help"])
+        self.assertEqual([command.name for command in commands], ["run", "history", "resume", "restore", "snapshot", "help"])
         self.assertEqual(top.options, [TOOL.Option(("-h", "--help"), None, "Print help")])
         self.assertEqual(commands[0].options, [TOOL.Option(("--input",), "FILE", "Read FILE"), TOOL.Option(("--json",), None, "Write JSON: a line each"),
                                                TOOL.Option(("--level",), "N", "Set the level"), TOOL.Option(("-h", "--help"), None, "Print help")])
         self.assertEqual(commands[1].options, [TOOL.Option(("-h", "--help"), None, "Print help"), TOOL.Option(("--input",), "FILE", "read FILE")])
-        self.assertEqual([command.operands for command in commands], [[], ["OPERATOR"], []])
+        self.assertEqual([command.operands for command in commands], [[], ["OPERATOR"], [], [], [], []])
+        self.assertEqual(commands[2].text, "Serve it")
+        self.assertEqual(commands[2].options, [TOOL.Option(("-h", "--help"), None, "Print help"), TOOL.Option(("--input",), "FILE", "read FILE of the service")])
 
     def test_bash(self):
-        self.assertEqual(self.bash(""), ["run", "history", "help", "-h", "--help"])
+        self.assertEqual(self.bash(""), ["run", "history", "resume", "restore", "snapshot", "help", "-h", "--help"])
         self.assertEqual(self.bash("h"), ["history", "help"])
         self.assertEqual(self.bash("run", "--"), ["--input", "--json", "--level", "--help"])
+        self.assertEqual(self.bash("re"), ["resume", "restore"])
         self.assertEqual(self.bash("run", "--input", "plant"), ["plant_script"])
+        self.assertEqual(self.bash("snapshot", "--"), ["--help", "--input"])
         self.assertEqual(self.bash("history", "--"), ["--help", "--input"])
-        self.assertEqual(self.bash("help", "r"), ["run"])
+        self.assertEqual(self.bash("help", "r"), ["run", "resume", "restore"])
 
     @is_here("fish")
     def test_fish(self):
@@ -129,7 +146,7 @@ class Completions(unittest.TestCase):
 
         self.assertEqual(sorted(offered("plant_script h")), ["help\tPrint this message or the help of the given subcommand(s)", "history\tPrint [all] of it"])
         self.assertEqual(sorted(offered("plant_script run --")), ["--help\tPrint help", "--input\tRead FILE", "--json\tWrite JSON: a line each", "--level\tSet the level"])
-        self.assertEqual(offered("plant_script help r"), ["run"])
+        self.assertEqual(sorted(offered("plant_script help r")), ["restore", "resume", "run"])
 
     @is_here("zsh")
     def test_zsh(self):
