@@ -17,14 +17,14 @@ _plant_script() {
     esac
     for ((at = 1; at < COMP_CWORD; at++)); do
         case ${COMP_WORDS[at]} in
-        one | check | run | threads | capture | serve | trace | history | help)
+        one | check | run | threads | capture | serve | trace | history | resume | restore | snapshot | help)
             command=${COMP_WORDS[at]}
             break
             ;;
         esac
     done
     case $command in
-    '') words='one check run threads capture serve trace history help -h --help' ;;
+    '') words='one check run threads capture serve trace history resume restore snapshot help -h --help' ;;
     one) words='-h --help --input' ;;
     check) words='-h --help --input --json --strict' ;;
     run) words='-h --help --input --json' ;;
@@ -33,7 +33,10 @@ _plant_script() {
     serve) words='-h --help --input --json --state --snapshot-every' ;;
     trace) words='-h --help --input --json' ;;
     history) words='-h --help --input' ;;
-    help) words='one check run threads capture serve trace history help' ;;
+    resume) words='-h --help --input' ;;
+    restore) words='-h --help --input' ;;
+    snapshot) words='-h --help --input' ;;
+    help) words='one check run threads capture serve trace history resume restore snapshot help' ;;
     esac
     mapfile -t COMPREPLY < <(compgen -W "$words" -- "$word")
 }
