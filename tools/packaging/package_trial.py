@@ -132,7 +132,7 @@ def install(box, package):
 def complete(box):
     script = ". /usr/share/bash-completion/bash_completion; _completion_loader plant_script; COMP_WORDS=(plant_script s); COMP_CWORD=1;"
     found = box.run(f"bash -c '{script} _plant_script; echo ${{COMPREPLY[*]}}'")
-    want(found == "serve\n", f"bash completes s to {found}")
+    want(found == "serve snapshot\n", f"bash completes s to {found}")
     return "bash completes commands"
 
 

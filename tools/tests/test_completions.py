@@ -182,6 +182,8 @@ class Stored(unittest.TestCase):
         text = (ROOT / TOOL.FOLDER / "plant_script.fish").read_text()
         stored = dict(re.findall(r"^complete -c plant_script -n __fish_use_subcommand -a (\w+) -d '(.*)'$", text, re.MULTILINE))
         stored.pop("help")
+        source = (ROOT / "crates/program_runner/src/service_help.rt").read_text()
+        summary |= {name: re.search(f'{name.upper()}_HELP: &\\[u8\\] = b"(.*)', source)[1] for name in TOOL.SERVICE_COMMANDS}
         self.assertEqual(stored, summary)
 
     def test_options_that_the_help_does_not_list(self):
