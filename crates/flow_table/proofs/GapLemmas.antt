@@ -1,5 +1,5 @@
 -- The first number that an ascending list of numbers leaves out.
-use Rattle.std.proofs.Common.{◌≡◌, ◌≢◌, ◌||◌, ℕ, zero, suc, ◌+◌, ◌-◌, ◌<◌, ◌≤◌, nat_lt, nat_le, nat_eq, true, false, cond, List, [], ◌∷◌, length, Option, Some, None, refl, sym, ap, ◌∙◌, subst, arith, inl, inr}
+use Rattle.std.proofs.Common.{◌≡◌, ◌≢◌, ◌||◌, ℕ, zero, suc, ◌+◌, ◌-◌, ◌<◌, ◌≤◌, nat_le, nat_eq, true, false, cond, List, [], ◌∷◌, length, Option, Some, None, refl, sym, ap, ◌∙◌, subst, arith, inl, inr}
 use Rattle.std.specs.List.{All, AllByRecursion}
 use Rattle.std.specs.Map.{keys_of}
 use Rattle.std.specs.declared.cmp.Ordering.{Ordering}
@@ -11,10 +11,9 @@ use Rattle.std.specs.Ordering.{nat_cmp, is_lt, is_gt}
 use Rattle.std.proofs.lemmas.Bool.{cases_order, cases_lt, cases_eq, eq-eqb, ne_eqb, lt-ltb, le-ltb, le-leb, lt-leb}
 use Rattle.std.proofs.lemmas.Cmp.{ranked}
 use Rattle.std.proofs.lemmas.Map.Keys.{sorted_head, sorted_tail}
-use Rattle.flow_table.specs.declared.flow.Flow.{Flow}
 use Rattle.flow_table.specs.Gap.{gap_from}
 use Rattle.admission.specs.Free.{Numbers, is_used, first_free, least_free_of}
-use Rattle.admission.proofs.FreeLemmas.{AreUsed, first_free_past, first_free_unused, first_free_zero}
+use Rattle.admission.proofs.FreeLemmas.{first_free_past, first_free_unused, first_free_zero}
 
 -- a number that is above the next is left out
 pub gap_here : (n k : ℕ) (ks : List ℕ) → n < k → gap_from n (k ∷ ks) ≡ n
@@ -170,7 +169,3 @@ packed_keys {X} es f lo hi s low high from to len =
     let count_is : length (keys_of es) ≡ length es = length-map es (λ (e : ℕ × X). e.0) in
     let end : hi + 1 ≡ f + length (keys_of es) = omega arith in
     end ∙ sym (packed_gap f (keys_of es) s (all_from f lo (keys_of es) from (recursion_from_All _ (keys_of es) low)) (all_below hi (f + length (keys_of es)) (keys_of es) (omega arith) (recursion_from_All _ (keys_of es) high)))
-
-pub packed_end : (es : List (ℕ × Flow)) (f lo hi : ℕ) → IsStrictlySortedBy nat_cmp (keys_of es) → All (λ q. is_gt (nat_cmp lo q) ≡ false) (keys_of es) → All (λ q. is_lt (nat_cmp hi q) ≡ false) (keys_of es)
-    → f ≤ lo → f ≤ hi → hi - f + 1 ≡ length es → hi + 1 ≡ gap_from f (keys_of es)
-packed_end es f lo hi s low high from to len = packed_keys es f lo hi s low high from to len

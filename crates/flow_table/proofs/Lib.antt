@@ -5,3 +5,4 @@ pub mod StandLemmas
 pub mod MovedLemmas
 pub mod GapLemmas
 pub mod UsedLemmas
+pub mod BoxedLemmas

@@ -1,9 +1,8 @@
 -- That a table stays one where a flow's backlog changes.
-use Rattle.std.proofs.Common.{◌≡◌, ◌≤◌, ℕ, true, false, cond, List, [], ◌∷◌, length, Option, Some, None, IsSome, IfSome, refl, sym, ap, ◌∙◌, subst, arith, inl, inr}
+use Rattle.std.proofs.Common.{◌≡◌, ◌≤◌, ℕ, cond, List, length, Option, Some, None, IsSome, IfSome, refl, sym, ap, ◌∙◌, subst, arith}
 use Rattle.std.specs.List.Sorted.{IsStrictlySortedBy}
-use Rattle.std.specs.declared.cmp.Ordering.TheVariants.{Less, Equal, Greater}
 use Rattle.std.specs.Ordering.{nat_cmp}
-use Rattle.std.specs.Map.{remove_entry, keys_of, lookup, set_value}
+use Rattle.std.specs.Map.{remove_entry, keys_of, set_value}
 use Rattle.std.specs.BTreeMap.{insert_entry, is_at}
 use Rattle.std.proofs.lemmas.Option.{none-some, same_Some}
 use Rattle.admission.specs.Ledger.{LedgerView}
@@ -11,7 +10,7 @@ use Rattle.param_sets.specs.Units.{UnitSizes}
 use Rattle.flow_table.specs.declared.flow.Flow.{Flow}
 use Rattle.flow_table.specs.declared.flows.Moved.{Moved}
 use Rattle.flow_table.specs.Flow.{committed_of}
-use Rattle.flow_table.specs.Table.{flow_at, sid_if, is_sid, with_flow}
+use Rattle.flow_table.specs.Table.{flow_at, sid_if, with_flow}
 use Rattle.flow_table.specs.Index.{IsIndex, IsFlowTable, without_sid_of, budgets_of}
 use Rattle.flow_table.specs.Moved.{change_if, change_at, told_of}
 use Rattle.flow_table.proofs.EntryLemmas.{written, put_same, length_put_there}

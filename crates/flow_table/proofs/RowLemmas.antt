@@ -17,7 +17,8 @@ use Rattle.flow_table.specs.Index.{budgets_of}
 -- ---- each value by a function
 
 module _ {X Y : Type 0} (f : X → Y) where
-  put_by : (es : List (ℕ × X)) (k : ℕ) (v : X) → insert_entry nat_cmp (map (λ e. (e.0, f e.1)) es) k (f v) ≡ map (λ e. (e.0, f e.1)) (insert_entry nat_cmp es k v)
+  pub put_by : (es : List (ℕ × X)) (k : ℕ) (v : X)
+      → insert_entry nat_cmp (map (λ e. (e.0, f e.1)) es) k (f v) ≡ map (λ e. (e.0, f e.1)) (insert_entry nat_cmp es k v)
   put_by [] k v = refl
   put_by (e ∷ es) k v =
       elim (nat_cmp k e.0) as (λ (o : Ordering).
@@ -28,7 +29,8 @@ module _ {X Y : Type 0} (f : X → Y) where
         | Greater ↦ ap (λ (l : List (ℕ × Y)). (e.0, f e.1) ∷ l) (put_by es k v)
       ]
 
-  taken_by : (es : List (ℕ × X)) (k : ℕ) → remove_entry (is_at (nat_cmp k)) (map (λ e. (e.0, f e.1)) es) ≡ map (λ e. (e.0, f e.1)) (remove_entry (is_at (nat_cmp k)) es)
+  pub taken_by : (es : List (ℕ × X)) (k : ℕ)
+      → remove_entry (is_at (nat_cmp k)) (map (λ e. (e.0, f e.1)) es) ≡ map (λ e. (e.0, f e.1)) (remove_entry (is_at (nat_cmp k)) es)
   taken_by [] k = refl
   taken_by (e ∷ es) k =
       elim (nat_cmp k e.0) as (λ (o : Ordering).

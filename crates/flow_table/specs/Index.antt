@@ -1,5 +1,6 @@
 -- What the flows of one operator keep inside: the index by SID, and the rows of the ledger (implementation-specific).
 use Rattle.std.specs.Prelude.{◌≡◌, ℕ, ◌≤◌, ◌↔◌, cond, List, length, map, Option, Some, None}
+use Rattle.std.specs.Global.{Box}
 use Rattle.std.specs.List.Sorted.{IsStrictlySortedBy}
 use Rattle.std.specs.Ordering.{nat_cmp}
 use Rattle.std.specs.Map.{keys_of, lookup, remove_entry}
@@ -10,6 +11,10 @@ use Rattle.param_sets.specs.Units.{UnitSizes}
 use Rattle.flow_table.specs.declared.flow.Flow.{Flow}
 use Rattle.flow_table.specs.Flow.{committed_of}
 use Rattle.flow_table.specs.Table.{flow_at, sid_if, is_sid}
+
+-- the flows in the boxes, each under its SFID
+abbrev pub flows_of : List (ℕ × Box Flow) → List (ℕ × Flow)
+flows_of boxed = map (λ entry. (entry.0, entry.1.value)) boxed
 
 -- the row of each flow: its SFID, and what it has committed
 abbrev pub budgets_of : UnitSizes → List (ℕ × Flow) → List (ℕ × Budget)

@@ -10,7 +10,7 @@ ghost use Rattle.admission.specs.Free.{IsLeastFree, least_free_of};
 ghost use Rattle.flow_table.specs.Table.{flow_at, flow_with, sid_if, sfids_of, sids_of, with_flow, committed_minislots, committed_elements, HasRoomFor, HaveOwnSids, flowing_in, flowing_of_set};
 ghost use Rattle.flow_table.specs.Flow.{flow_after_ack, taken_back, flow_after_request, flow_after_grant};
 ghost use Rattle.flow_table.specs.Gap.{gap_from};
-ghost use Rattle.flow_table.specs.Index.{with_sid_of, without_sid_of};
+ghost use Rattle.flow_table.specs.Index.{flows_of, with_sid_of, without_sid_of};
 ghost use Rattle.flow_table.specs.Moved.{change_at, told_of, asker_of};
 
 use crate::flow::{Asker, Flow};
@@ -28,20 +28,21 @@ use std::marker::Model;
 pub struct Flows {
     capacity: u32,
     units: Units,
-    by_sfid: BTreeMap<u32, Flow>,
+    /// In boxes, so that the tree moves pointers and not flows of 320 bytes.
+    by_sfid: BTreeMap<u32, Box<Flow>>,
     by_sid: BTreeMap<u16, u32>,
     ledger: Ledger,
 }
 
 impl Model for Flows {
     ghost use Rattle.flow_table.specs.Table.{FlowTable};
-    ghost use Rattle.flow_table.specs.Index.{IsFlowTable};
+    ghost use Rattle.flow_table.specs.Index.{IsFlowTable, flows_of};
 
     ghost Value = { FlowTable };
 
-    ghost view = { λ f. record { capacity = f.capacity; units = f.units; flows = f.by_sfid.entries } };
+    ghost view = { λ f. record { capacity = f.capacity; units = f.units; flows = flows_of f.by_sfid.entries } };
 
-    ghost invariant = { λ f. IsFlowTable f.capacity f.units f.by_sfid.entries f.by_sid.entries f.ledger };
+    ghost invariant = { λ f. IsFlowTable f.capacity f.units (flows_of f.by_sfid.entries) f.by_sid.entries f.ledger };
 }
 
 impl Flows {
@@ -70,7 +71,8 @@ impl Flows {
     pub fn get(&self, sfid: u32) -> Option<&Flow>
         ensures { option_copied result ≡ flow_at sfid self.now.flows }
     {
-        self.by_sfid.get(&sfid)
+        let flow = self.by_sfid.get(&sfid)?;
+        Some(flow.as_ref())
     }
 
     /// Returns the flow that has this SID, with its SFID. Takes no memory.
@@ -79,7 +81,7 @@ impl Flows {
         ensures there { IfSome result (λ entry. flow_at entry.0 self.now.flows ≡ Some entry.1) }
     {
         let sfid = self.by_sid.get(&sid).copied()?;
-        let flow = self.by_sfid.get(&sfid).copied()?;
+        let flow = self.get(sfid).copied()?;
         Some((sfid, flow))
     }
 
@@ -90,7 +92,7 @@ impl Flows {
         ensures there { IfSome (flow_with sid self.now.flows) (λ entry. flow_at entry.0 self.now.flows ≡ Some entry.1) }
     {
         let sfid = self.by_sid.get(&sid).copied()?;
-        let flow = self.by_sfid.get(&sfid)?;
+        let flow = self.get(sfid)?;
         Some(Asker {
             sfid,
             modem: flow.modem,
@@ -138,14 +140,15 @@ impl Flows {
 
     /// Puts a flow under an SFID, in place of the one that is there. At `AllocError` nothing has changed.
     #[inline(always)]
-    pub fn put_flow(&mut self, sfid: u32, flow: &Flow) -> Result<(), AllocError>
-        requires { HasRoomFor self.old sfid flow.now }
-        ensures ok { OnOk result (self.new ≡ record self.old { flows = with_flow sfid flow.now self.old.flows }) }
+    pub fn put_flow(&mut self, sfid: u32, flow: Box<Flow>) -> Result<(), AllocError>
+        requires { HasRoomFor self.old sfid flow.value }
+        ensures ok { OnOk result (self.new ≡ record self.old { flows = with_flow sfid flow.value self.old.flows }) }
         ensures err { OnErr result (self.new ≡ self.old) }
     {
         let committed = flow.committed(self.units);
+        let has = flow.sid;
         let had = grow(&mut self.by_sfid, &mut self.by_sid, sfid, flow)?;
-        free(&mut self.by_sid, had, flow.sid);
+        free(&mut self.by_sid, had, has);
         commit(&mut self.ledger, sfid, committed);
         Ok(())
     }
@@ -216,6 +219,9 @@ impl Flows {
     {
         let mut flows = Vec::with_capacity(alloc, self.by_sfid.len())?;
         for (sfid, flow) in &self.by_sfid {
+            let flow = flow.as_ref();
+            // Read before the copy, so that the check knows the type of this part of the flow.
+            let _pending = flow.pending;
             flows.push((*sfid, *flow))?;
         }
         Ok(flows)
@@ -234,9 +240,10 @@ impl Flows {
 
 /// Removes the flow of an SFID, if there is one, and answers the SID that it had.
 #[inline(always)]
-fn remove_in(by_sfid: &mut BTreeMap<u32, Flow>, sfid: u32) -> Option<u16>
-    ensures flows { by_sfid.new.entries ≡ remove_entry (is_at (nat_cmp sfid)) by_sfid.old.entries }
-    ensures had { result ≡ sid_if (flow_at sfid by_sfid.old.entries) }
+#[tactic(auto, using(crate::proofs::BoxedLemmas::boxed_taken, crate::proofs::BoxedLemmas::boxed_some, crate::proofs::BoxedLemmas::boxed_none))]
+fn remove_in(by_sfid: &mut BTreeMap<u32, Box<Flow>>, sfid: u32) -> Option<u16>
+    ensures flows { flows_of by_sfid.new.entries ≡ remove_entry (is_at (nat_cmp sfid)) (flows_of by_sfid.old.entries) }
+    ensures had { result ≡ sid_if (flow_at sfid (flows_of by_sfid.old.entries)) }
 {
     match by_sfid.remove(&sfid) {
         None => None,
@@ -247,9 +254,9 @@ fn remove_in(by_sfid: &mut BTreeMap<u32, Flow>, sfid: u32) -> Option<u16>
 /// Returns the least number of a range that is not a SFID, by one walk over the SFIDs in their
 /// order.
 #[tactic(auto, using(crate::proofs::GapLemmas::gap_answer_here, crate::proofs::GapLemmas::gap_answer_end, crate::proofs::GapLemmas::gap_answer))]
-fn least_free_sfid(flows: &BTreeMap<u32, Flow>, range: &IdRange) -> Option<u32>
+fn least_free_sfid(flows: &BTreeMap<u32, Box<Flow>>, range: &IdRange) -> Option<u32>
     requires { IsStrictlySortedBy nat_cmp (keys_of flows.now.entries) }
-    ensures { result ≡ least_free_of range.now (sfids_of flows.now.entries) }
+    ensures { result ≡ least_free_of range.now (keys_of flows.now.entries) }
 {
     if let Some(end) = end_of_packed(flows, range.get_first()) {
         return within(end, range);
@@ -269,10 +276,10 @@ fn least_free_sfid(flows: &BTreeMap<u32, Flow>, range: &IdRange) -> Option<u32>
 
 /// Returns the number after all SFIDs, where they are the numbers from `first` on with none left
 /// out. Looks at the ends alone.
-#[tactic(auto, using(crate::proofs::GapLemmas::packed_end))]
-fn end_of_packed(flows: &BTreeMap<u32, Flow>, first: u32) -> Option<u64>
+#[tactic(auto, using(crate::proofs::GapLemmas::packed_keys))]
+fn end_of_packed(flows: &BTreeMap<u32, Box<Flow>>, first: u32) -> Option<u64>
     requires { IsStrictlySortedBy nat_cmp (keys_of flows.now.entries) }
-    ensures gap { IfSome result (λ end. end ≡ gap_from first (sfids_of flows.now.entries)) }
+    ensures gap { IfSome result (λ end. end ≡ gap_from first (keys_of flows.now.entries)) }
     ensures from { IfSome result (λ end. first ≤ end) }
 {
     let (least, _flow) = flows.first_key_value()?;
@@ -361,30 +368,29 @@ fn flowing_of(sfid: u32, flow: &Flow) -> Option<Flowing>
 /// Puts a flow under its SFID and, where it has a SID, its SFID under that: both or neither.
 /// Returns the SID that the flow had that was there.
 #[inline(always)]
+#[tactic(auto, using(crate::proofs::BoxedLemmas::boxed_put, crate::proofs::BoxedLemmas::boxed_some, crate::proofs::BoxedLemmas::boxed_none))]
 fn grow(
-    by_sfid: &mut BTreeMap<u32, Flow>,
+    by_sfid: &mut BTreeMap<u32, Box<Flow>>,
     by_sid: &mut BTreeMap<u16, u32>,
     sfid: u32,
-    flow: &Flow,
+    flow: Box<Flow>,
 ) -> Result<Option<u16>, AllocError>
-    ensures had { IfOk result (λ had. had ≡ sid_if (flow_at sfid by_sfid.old.entries)) }
-    ensures flows { OnOk result (by_sfid.new.entries ≡ with_flow sfid flow.now by_sfid.old.entries) }
-    ensures index { OnOk result (by_sid.new.entries ≡ with_sid_of flow.now.sid sfid by_sid.old.entries) }
+    ensures had { IfOk result (λ had. had ≡ sid_if (flow_at sfid (flows_of by_sfid.old.entries))) }
+    ensures flows { OnOk result (flows_of by_sfid.new.entries ≡ with_flow sfid flow.value (flows_of by_sfid.old.entries)) }
+    ensures index { OnOk result (by_sid.new.entries ≡ with_sid_of flow.value.sid sfid by_sid.old.entries) }
     ensures err { OnErr result ((by_sfid.new.entries ≡ by_sfid.old.entries)
         × (by_sid.new.entries ≡ by_sid.old.entries)) }
 {
-    // Read before the match, so that the check knows the type of this part of the flow.
-    let _pending = flow.pending;
     match by_sfid.entry(sfid)? {
         Entry::Vacant(place) => {
             list(by_sid, flow.sid, sfid)?;
-            let _flow = place.insert(*flow);
+            let _flow = place.insert(flow);
             Ok(None)
         }
         Entry::Occupied(place) => {
             let had = place.get().sid;
             list(by_sid, flow.sid, sfid)?;
-            *place.into_mut() = *flow;
+            *place.into_mut() = flow;
             Ok(had)
         }
     }
@@ -426,16 +432,17 @@ struct Moved {
 }
 
 /// Acknowledges what waits of the flow of an SFID, where there is one.
+#[tactic(auto, using(crate::proofs::BoxedLemmas::boxed_changed, crate::proofs::BoxedLemmas::boxed_absent, crate::proofs::BoxedLemmas::told_none))]
 fn acknowledge_in(
-    by_sfid: &mut BTreeMap<u32, Flow>,
+    by_sfid: &mut BTreeMap<u32, Box<Flow>>,
     units: Units,
     sfid: u32,
     frame: u32,
 ) -> Option<Moved>
-    ensures flows { by_sfid.new.entries ≡ change_at sfid (flow_after_ack frame) by_sfid.old.entries }
-    ensures told { result ≡ told_of units (flow_after_ack frame) (flow_at sfid by_sfid.old.entries) }
+    ensures flows { flows_of by_sfid.new.entries ≡ change_at sfid (flow_after_ack frame) (flows_of by_sfid.old.entries) }
+    ensures told { result ≡ told_of units (flow_after_ack frame) (flow_at sfid (flows_of by_sfid.old.entries)) }
 {
-    let flow = by_sfid.get_mut(&sfid)?;
+    let flow = by_sfid.get_mut(&sfid)?.as_mut();
     let had = flow.sid;
     flow.acknowledge(frame);
     let (has, committed) = (flow.sid, flow.committed(units));
@@ -447,11 +454,12 @@ fn acknowledge_in(
 }
 
 /// Takes back what waits of the flow of an SFID, where there is one.
-fn take_back_in(by_sfid: &mut BTreeMap<u32, Flow>, units: Units, sfid: u32) -> Option<Moved>
-    ensures flows { by_sfid.new.entries ≡ change_at sfid taken_back by_sfid.old.entries }
-    ensures told { result ≡ told_of units taken_back (flow_at sfid by_sfid.old.entries) }
+#[tactic(auto, using(crate::proofs::BoxedLemmas::boxed_changed, crate::proofs::BoxedLemmas::boxed_absent, crate::proofs::BoxedLemmas::told_none))]
+fn take_back_in(by_sfid: &mut BTreeMap<u32, Box<Flow>>, units: Units, sfid: u32) -> Option<Moved>
+    ensures flows { flows_of by_sfid.new.entries ≡ change_at sfid taken_back (flows_of by_sfid.old.entries) }
+    ensures told { result ≡ told_of units taken_back (flow_at sfid (flows_of by_sfid.old.entries)) }
 {
-    let flow = by_sfid.get_mut(&sfid)?;
+    let flow = by_sfid.get_mut(&sfid)?.as_mut();
     let had = flow.sid;
     flow.take_back();
     let (has, committed) = (flow.sid, flow.committed(units));
@@ -463,8 +471,9 @@ fn take_back_in(by_sfid: &mut BTreeMap<u32, Flow>, units: Units, sfid: u32) -> O
 }
 
 /// Makes so many minislots the backlog of the flow of an SFID, where there is one.
-fn request_in(by_sfid: &mut BTreeMap<u32, Flow>, sfid: u32, minislots: u16, frame: u32)
-    ensures { by_sfid.new.entries ≡ change_at sfid (flow_after_request minislots frame) by_sfid.old.entries }
+#[tactic(auto, using(crate::proofs::BoxedLemmas::boxed_changed, crate::proofs::BoxedLemmas::boxed_absent))]
+fn request_in(by_sfid: &mut BTreeMap<u32, Box<Flow>>, sfid: u32, minislots: u16, frame: u32)
+    ensures { flows_of by_sfid.new.entries ≡ change_at sfid (flow_after_request minislots frame) (flows_of by_sfid.old.entries) }
 {
     if let Some(flow) = by_sfid.get_mut(&sfid) {
         flow.request(minislots, frame);
@@ -472,9 +481,10 @@ fn request_in(by_sfid: &mut BTreeMap<u32, Flow>, sfid: u32, minislots: u16, fram
 }
 
 /// Takes so many granted minislots off the backlog of the flow of an SFID, if there is one.
-fn grant_in(by_sfid: &mut BTreeMap<u32, Flow>, sfid: u32, minislots: u16, frame: u32)
+#[tactic(auto, using(crate::proofs::BoxedLemmas::boxed_changed, crate::proofs::BoxedLemmas::boxed_absent))]
+fn grant_in(by_sfid: &mut BTreeMap<u32, Box<Flow>>, sfid: u32, minislots: u16, frame: u32)
     requires { frame < 4294967295 }
-    ensures { by_sfid.new.entries ≡ change_at sfid (flow_after_grant minislots frame) by_sfid.old.entries }
+    ensures { flows_of by_sfid.new.entries ≡ change_at sfid (flow_after_grant minislots frame) (flows_of by_sfid.old.entries) }
 {
     if let Some(flow) = by_sfid.get_mut(&sfid) {
         flow.grant(minislots, frame);

@@ -1,9 +1,11 @@
-use Rattle.std.proofs.Common.{sym, ◌∙◌}
+use Rattle.std.proofs.Common.{refl, sym}
 use Rattle.flow_table.specs.Flow.{flow_after_ack}
-use Rattle.flow_table.proofs.MovedLemmas.{moved_some}
+use Rattle.flow_table.proofs.BoxedLemmas.{told_some}
 use Rattle.flow_table.proofs.flows.acknowledge_in.Goals as goal
 
-pub returns-clause-flows : goal.returns-clause-flows
-returns-clause-flows c =
-    (c.get_mut.follows.holds _).0
-    ∙ rw (c.acknowledge.ensures.value) (moved_some c.args.by_sfid.now.entries c.args.sfid (flow_after_ack c.args.frame) c.in_ok-flow.flow.now c.get_mut.ensures.ordered (sym c.in_ok-flow.ensures.value))
+pub returns-clause-told : goal.returns-clause-told
+returns-clause-told c =
+    let flow = c.as_mut-flow.result.now in
+    let at = sym c.in_ok-get_mut.ensures.value in
+    rw (c.committed-committed.ensures, c.acknowledge.ensures.value)
+    (told_some c.args.by_sfid.now.entries c.args.units c.args.sfid (flow_after_ack c.args.frame) _ flow _ at c.as_mut-flow.ensures.value refl)

@@ -1,5 +1,5 @@
 use Rattle.std.proofs.Common.{◌≡◌, ◌+◌, ◌-◌, ◌≤◌, length, arith}
-use Rattle.flow_table.proofs.GapLemmas.{packed_end}
+use Rattle.flow_table.proofs.GapLemmas.{packed_keys}
 use Rattle.flow_table.proofs.flows.end_of_packed.Goals as goal
 
 pub returns-then-greatest-first-clause-gap : goal.returns-then-greatest-first-clause-gap
@@ -11,4 +11,4 @@ returns-then-greatest-first-clause-gap c =
     let from : first ≤ least = omega (arith, c.if-first-least.false) in
     let to : first ≤ greatest = omega (arith, c.if-first-greatest.false) in
     let count : greatest - first + 1 ≡ length es = omega (arith, c.if-greatest-first.true, c.len.ensures.len) in
-    rw c.from.ensures (packed_end es first least greatest c.requires c.in_ok-least.ensures.all_from c.in_ok-greatest.ensures.all_up_to from to count)
+    rw c.from.ensures (packed_keys es first least greatest c.requires c.in_ok-least.ensures.all_from c.in_ok-greatest.ensures.all_up_to from to count)

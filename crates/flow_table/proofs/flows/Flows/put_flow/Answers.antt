@@ -1,13 +1,20 @@
-use Rattle.flow_table.specs.Table.{HasRoomFor}
+use Rattle.flow_table.specs.Table.{FlowTable, HasRoomFor}
+use Rattle.flow_table.specs.Index.{flows_of}
 use Rattle.flow_table.proofs.IndexLemmas.{row_room, table_put, index_put}
 use Rattle.flow_table.proofs.flows.Flows.put_flow.Goals as goal
 
 pub commit-requires : goal.commit-requires
-commit-requires c = rw c.committed-committed.ensures (row_room c.self.invariant c.args.sfid c.args.flow.now (rw (← c.self.view_is) at c.requires.room))
+commit-requires c =
+    let room = rw (← c.self.view_is) at c.requires.room in
+    rw (c.committed-committed.ensures, c.deref.ensures) (row_room c.self.invariant c.args.sfid c.args.flow.value room)
 
 pub invariant_of-self-2 : goal.invariant_of-self-2
 invariant_of-self-2 c =
-    let may : HasRoomFor (record { capacity = c.self.inside.capacity; units = c.self.inside.units; flows = c.self.inside.by_sfid.entries }) c.args.sfid c.args.flow.now = rw (← c.self.view_is) at c.requires in
-    let indexed = index_put c.self.invariant.indexed c.args.sfid c.args.flow.now may.sid in
-    rw (c.commit.ensures, c.free.ensures, c.in_ok-had.ensures.flows, c.in_ok-had.ensures.index, c.in_ok-had.ensures.had, c.committed-committed.ensures)
-    (table_put c.self.invariant c.args.sfid c.args.flow.now _ may.room indexed)
+    let inside = c.self.inside in
+    let flow = c.args.flow.value in
+    let table : FlowTable = record { capacity = inside.capacity; units = inside.units; flows = flows_of inside.by_sfid.entries } in
+    let may : HasRoomFor table c.args.sfid flow = rw (← c.self.view_is) at c.requires in
+    let indexed = index_put c.self.invariant.indexed c.args.sfid flow may.sid in
+    rw (c.commit.ensures, c.free.ensures, c.in_ok-had.ensures.flows, c.in_ok-had.ensures.index, c.in_ok-had.ensures.had)
+    (rw (c.committed-committed.ensures, c.deref.ensures, c.deref-2.ensures)
+    (table_put c.self.invariant c.args.sfid flow _ may.room indexed))
