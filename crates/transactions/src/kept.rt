@@ -8,7 +8,7 @@ ghost use Rattle.transactions.specs.Timers.{is_resent, resent_in, given_up_in, k
 ghost use Rattle.transactions.specs.Keeping.{begun_entry, entry_after_ack, OneEach, HasTicks, IsHeldUnsent};
 
 use crate::entry::KeptEntry;
-use crate::tick::{Resends, Ticked, count_down, given_ups_in, resends_in};
+use crate::tick::{GivenUps, Resends, Ticked, count_down, given_ups_in, resends_in};
 use crate::timers::Timers;
 use dsx_messages::{Kind, Modem};
 use std::alloc::{AllocError, Global};
@@ -166,19 +166,34 @@ impl Kept {
         ensures quiet { resent_in self.old.entries ≡ [] → given_up_in self.old.entries ≡ [] → IsOk result }
         ensures err { OnErr result (self.new ≡ self.old) }
     {
-        let resend = resends_in(alloc, self.entries.as_slice())?;
-        let given_up = given_ups_in(alloc, self.entries.as_slice())?;
-        count_down(&mut self.entries, self.timers);
+        let resend = self.resends(alloc)?;
+        let given_up = self.given_ups(alloc)?;
+        self.count_down();
         Ok(Ticked { resend, given_up })
     }
 
     /// Returns what the next tick retransmits: copies, for a caller that wants them before the tick
-    /// changes anything. Takes no memory where there is nothing.
+    /// changes anything. Takes no memory if there is nothing.
     pub fn resends(&self, alloc: Global) -> Result<Resends, AllocError>
         ensures ok { IfOk result (λ resend. resend ≡ resent_in self.now.entries) }
         ensures err { OnErr result (resent_in self.now.entries ≢ []) }
     {
         resends_in(alloc, self.entries.as_slice())
+    }
+
+    /// Returns what the next tick abandons. Takes no memory if there is nothing.
+    pub fn given_ups(&self, alloc: Global) -> Result<GivenUps, AllocError>
+        ensures ok { IfOk result (λ given_up. given_up ≡ given_up_in self.now.entries) }
+        ensures err { OnErr result (given_up_in self.now.entries ≢ []) }
+    {
+        given_ups_in(alloc, self.entries.as_slice())
+    }
+
+    /// Counts one tick, for a caller that has `resends` and `given_ups` already. Takes no memory.
+    pub fn count_down(&mut self)
+        ensures { self.new ≡ record self.old { entries = kept_after self.old.waits self.old.entries } }
+    {
+        count_down(&mut self.entries, self.timers);
     }
 
     /// Returns how many responses the next tick retransmits.

@@ -1,5 +1,5 @@
 use Rattle.transactions.proofs.TickLemmas.{IsKept-tick}
-use Rattle.transactions.proofs.kept.Kept.tick.Goals as goal
+use Rattle.transactions.proofs.kept.Kept.count_down.Goals as goal
 
 pub invariant_of-self : goal.invariant_of-self
 invariant_of-self c =
