@@ -53,7 +53,7 @@ impl LiveSlot {
         self.waiting.reserve(1)?;
         let plan = self.live.plan(alloc, action)?;
         let frame = frame_copy(alloc, plan.outputs())?;
-        let told = self.live.commit(alloc, plan)?;
+        let told = self.live.commit(plan)?;
         if let Some(frame) = frame {
             self.waiting.push_back_reserved(frame);
         }

@@ -12,6 +12,8 @@ use Rattle.transactions.specs.Keeping.{Keeping}
 use Rattle.operator_model.specs.declared.verdict.Verdict.{Verdict}
 use Rattle.operator_model.specs.declared.verdict.Verdict.TheVariants.{Refused, Put, Deleted}
 use Rattle.operator_model.specs.State.{Operator}
+use Rattle.operator_book.specs.declared.boxed_verdict.BoxedVerdict.{BoxedVerdict}
+use Rattle.operator_book.specs.declared.boxed_verdict.BoxedVerdict.TheVariants as boxed
 use Rattle.operator_model.specs.Handle.{StepResult}
 
 -- the flows and the cached responses have the row's room, the plant's measures and its timers
@@ -28,6 +30,12 @@ flow_table_of m = record { capacity = m.row.flows; units = m.consts.units; flows
 -- the SIDs of the flows are of the row's range
 abbrev pub HasOwnSids : Operator → Type 0
 HasOwnSids m = All (IsIn m.row.sids) (sids_of m.state.flows)
+
+-- the verdict, without the box of its flow
+abbrev pub verdict_of : BoxedVerdict → Verdict
+verdict_of (boxed.Refused reply) = Refused reply
+verdict_of (boxed.Put sfid flow reply) = Put sfid flow.value reply
+verdict_of (boxed.Deleted sfid reply) = Deleted sfid reply
 
 -- a flow that is to be put may be
 abbrev pub MayPut : FlowTable → Verdict → Type 0

@@ -4,7 +4,7 @@ use Rattle.dsx_messages.specs.declared.kind.Kind.{Kind}
 use Rattle.dsx_messages.specs.declared.modem.Modem.{Modem}
 use Rattle.transactions.specs.Entry.{is_of}
 use Rattle.transactions.specs.Keeping.{begun_entry}
-use Rattle.transactions.specs.Timers.{kept_after}
+use Rattle.transactions.specs.Timers.{kept_after, given_up_in}
 use Rattle.flow_table.specs.Flow.{flow_after_request}
 use Rattle.operator_model.specs.declared.action.Action.{Action}
 use Rattle.operator_model.specs.declared.verdict.Verdict.{Verdict}
@@ -14,7 +14,7 @@ use Rattle.operator_model.specs.Handle.{StepResult, flows_after, sfid_of, does_w
 use Rattle.operator_model.specs.Frame.{all_granted, flows_left, share_at, next_at}
 use Rattle.operator_model.specs.Machine.{unfit_from, reslice_result, own_step}
 use Rattle.operator_model.specs.Sound.{IsSound}
-use Rattle.operator_book.specs.Held.{flow_table_of, MayPut}
+use Rattle.operator_book.specs.Held.{flow_table_of, verdict_of, MayPut}
 use Rattle.operator_book.specs.declared.plan.HandledEffect.{HandledEffect}
 use Rattle.operator_book.specs.declared.plan.HandledEffect.TheVariants as handled
 use Rattle.operator_book.specs.declared.plan.Effect.{Effect}
@@ -40,7 +40,7 @@ state_after_request op sfid minislots = (with_change op sfid (flow_after_request
 
 abbrev pub state_after_handling : HandledEffect → Operator → OperatorState
 state_after_handling handled.Nothing op = op.state
-state_after_handling (handled.Response modem tid kind reply verdict) op = state_after_response op modem tid kind reply verdict.value
+state_after_handling (handled.Response modem tid kind reply verdict) op = state_after_response op modem tid kind reply (verdict_of verdict)
 state_after_handling (handled.Acknowledged modem tid kind code) op = (ack_result op modem tid kind code).state
 state_after_handling (handled.Requested sfid minislots) op = state_after_request op sfid minislots
 
@@ -59,7 +59,7 @@ abbrev pub state_after : Effect → Operator → OperatorState
 state_after effects.Nothing op = op.state
 state_after (effects.Received arrival) op = (with_inbox op (op.state.inbox ++ arrival ∷ [])).state
 state_after (effects.Handled effect) op = without_first (state_after_handling effect op)
-state_after (effects.Ticked granted) op = state_after_tick op granted
+state_after (effects.Ticked granted given_up) op = state_after_tick op granted
 state_after (effects.Resliced from row) op = (reslice_result op.state from row).state
 
 abbrev pub after_effect : Operator → Effect → Operator
@@ -75,7 +75,7 @@ pub record MayRespond (op : Operator) (modem : Modem) (tid : ℕ) (verdict : Ver
 
 abbrev pub MayHandle : Operator → HandledEffect → Type 0
 MayHandle op handled.Nothing = Unit {0}
-MayHandle op (handled.Response modem tid kind reply verdict) = MayRespond op modem tid verdict.value
+MayHandle op (handled.Response modem tid kind reply verdict) = MayRespond op modem tid (verdict_of verdict)
 MayHandle op (handled.Acknowledged modem tid kind code) = Unit {0}
 MayHandle op (handled.Requested sfid minislots) = Unit {0}
 
@@ -83,7 +83,7 @@ abbrev pub MayCommit : Operator → Effect → Type 0
 MayCommit op effects.Nothing = Unit {0}
 MayCommit op (effects.Received arrival) = Unit {0}
 MayCommit op (effects.Handled effect) = MayHandle op effect
-MayCommit op (effects.Ticked granted) = op.state.frame < 4294967295
+MayCommit op (effects.Ticked granted given_up) = (op.state.frame < 4294967295) × (given_up ≡ given_up_in op.state.kept)
 MayCommit op (effects.Resliced from row) = unfit_from op from row ≡ None
 
 -- the plan may be committed to a machine whose state stays sound

@@ -6,15 +6,16 @@ ghost use Rattle.dsx_messages.specs.declared.message.Message.TheVariants as mess
 ghost use Rattle.transactions.specs.Entry.{is_of};
 ghost use Rattle.operator_model.specs.declared.output.Output.TheVariants as outputs;
 ghost use Rattle.operator_model.specs.Asked.{refusal};
-ghost use Rattle.operator_model.specs.Handle.{reply_output, reply_of, carried_out, IsAnswered, IsCarriedOut, message_handled, tid_of, kind_of};
-ghost use Rattle.operator_book.specs.Held.{flow_table_of, HasOwnSids, MayPut};
+ghost use Rattle.operator_model.specs.Handle.{reply_output, carried_out, IsAnswered, IsCarriedOut, message_handled, tid_of, kind_of};
+ghost use Rattle.operator_book.specs.Held.{flow_table_of, verdict_of, HasOwnSids, MayPut};
 ghost use Rattle.operator_book.specs.Planned.{IsPlanOfFirst};
 
+use crate::boxed_verdict::BoxedVerdict;
 use crate::machine::MachineState;
 use crate::plan::{Effect, HandledEffect, Plan, single};
 use crate::refusal::refusal;
-use dsx_messages::{Code, Kind, Modem, Reply, Request, write_reply};
-use operator_model::{Cause, Output, Verdict};
+use dsx_messages::{Code, Kind, Modem, Request, write_reply};
+use operator_model::{Cause, Output};
 use std::alloc::{AllocError, Global};
 use tlv24::Bytes;
 
@@ -35,21 +36,6 @@ fn tid_of(request: &Request) -> u16
         Request::Dsa { tid, flows: _ }
         | Request::Dsc { tid, flows: _ }
         | Request::Dsd { tid, sfid: _ } => *tid,
-    }
-}
-
-/// Returns the reply of a verdict.
-fn reply_of(verdict: &Verdict) -> &Reply
-    ensures { result.now ≡ reply_of verdict.now }
-{
-    match verdict {
-        Verdict::Refused { reply }
-        | Verdict::Put {
-            sfid: _,
-            flow: _,
-            reply,
-        }
-        | Verdict::Deleted { sfid: _, reply } => reply,
     }
 }
 
@@ -86,17 +72,16 @@ impl MachineState {
         modem: Modem,
         kind: Kind,
         tid: u16,
-        verdict: Verdict,
+        verdict: BoxedVerdict,
     ) -> Result<Plan, AllocError>
-        requires puts { MayPut (flow_table_of self.now) verdict }
+        requires puts { MayPut (flow_table_of self.now) (verdict_of verdict) }
         requires free { IsNone (find (is_of modem tid) self.now.state.kept) }
         requires room { length self.now.state.kept < self.now.row.transactions }
-        ensures { IfOk result (IsPlanOfFirst self.now (carried_out self.now modem kind tid verdict)) }
+        ensures { IfOk result (IsPlanOfFirst self.now (carried_out self.now modem kind tid (verdict_of verdict))) }
     {
-        let reply = Bytes::from_vec(write_reply(alloc, reply_of(&verdict))?);
+        let reply = Bytes::from_vec(write_reply(alloc, verdict.reply())?);
         let bytes = reply.copy(alloc)?;
         let outputs = single(alloc, Output::Reply { modem, bytes })?;
-        let verdict = Box::new(alloc, verdict)?;
         Ok(Plan {
             outputs,
             effect: Effect::Handled(HandledEffect::Response {
@@ -168,7 +153,7 @@ impl MachineState {
                 effect: Effect::Handled(HandledEffect::Nothing),
             });
         }
-        let verdict = self.verdict(modem, request);
+        let verdict = self.verdict(alloc, modem, request)?;
         self.response_plan(alloc, modem, kind, tid, verdict)
     }
 }

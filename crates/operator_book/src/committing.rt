@@ -4,63 +4,35 @@ ghost use Rattle.std.specs.Prelude.{◌≡◌, ◌<◌, drop, length, find, IsNo
 ghost use Rattle.transactions.specs.Entry.{is_of};
 ghost use Rattle.flow_table.specs.Flow.{flow_after_ack, flow_after_request};
 ghost use Rattle.operator_model.specs.Changed.{with_flows, with_change, with_inbox};
-ghost use Rattle.operator_model.specs.Handle.{undone, flows_after, sfid_of, does_wait, ack_result};
-ghost use Rattle.operator_book.specs.Held.{flow_table_of, MayPut};
+ghost use Rattle.operator_model.specs.Handle.{undone, flows_after, ack_result};
+ghost use Rattle.operator_book.specs.Held.{flow_table_of, verdict_of, MayPut};
 ghost use Rattle.operator_book.specs.Planned.{MayCommit, MayHandle, MayRespond, after_effect, state_after_handling, state_after_response};
 
+use crate::boxed_verdict::BoxedVerdict;
 use crate::machine::MachineState;
 use crate::plan::{Effect, HandledEffect, Plan};
 use dsx_messages::{Kind, Modem};
-use operator_model::{Output, Verdict};
-use std::alloc::{AllocError, Global};
+use operator_model::Output;
+use std::alloc::AllocError;
 use tlv24::Bytes;
-
-/// Returns the SFID that is cached with the reply of a verdict: 0 if no flow belongs to it.
-fn sfid_of(verdict: &Verdict) -> u32
-    ensures { result ≡ sfid_of verdict.now }
-{
-    match verdict {
-        Verdict::Refused { reply: _ } => 0,
-        Verdict::Put {
-            sfid,
-            flow: _,
-            reply: _,
-        }
-        | Verdict::Deleted { sfid, reply: _ } => *sfid,
-    }
-}
-
-/// Returns whether the reply of a verdict waits for an acknowledgement: a flow was added or changed.
-fn does_wait(verdict: &Verdict) -> bool
-    ensures { result ≡ does_wait verdict.now }
-{
-    match verdict {
-        Verdict::Put {
-            sfid: _,
-            flow: _,
-            reply: _,
-        } => true,
-        Verdict::Refused { reply: _ } | Verdict::Deleted { sfid: _, reply: _ } => false,
-    }
-}
 
 impl MachineState {
     /// Commits a plan, and returns its outputs. If memory runs out nothing changes.
     #[inline(always)]
-    pub(crate) fn commit(&mut self, alloc: Global, plan: Plan) -> Result<Vec<Output>, AllocError>
+    pub(crate) fn commit(&mut self, plan: Plan) -> Result<Vec<Output>, AllocError>
         requires { MayCommit self.old plan.effect }
         ensures state { OnOk result (self.new ≡ after_effect self.old plan.effect) }
         ensures outputs { IfOk result (λ outputs. outputs.items ≡ plan.outputs.items) }
         ensures err { OnErr result (self.new ≡ self.old) }
     {
         let Plan { outputs, effect } = plan;
-        self.commit_effect(alloc, effect)?;
+        self.commit_effect(effect)?;
         Ok(outputs)
     }
 
     /// Makes the effect of a plan.
     #[inline(always)]
-    fn commit_effect(&mut self, alloc: Global, effect: Effect) -> Result<(), AllocError>
+    fn commit_effect(&mut self, effect: Effect) -> Result<(), AllocError>
         requires { MayCommit self.old effect }
         ensures ok { OnOk result (self.new ≡ after_effect self.old effect) }
         ensures err { OnErr result (self.new ≡ self.old) }
@@ -73,7 +45,10 @@ impl MachineState {
                 self.take_first();
                 Ok(())
             }
-            Effect::Ticked { granted } => self.pass_frame(alloc, granted.as_slice()),
+            Effect::Ticked { granted, given_up } => {
+                self.pass_frame(granted.as_slice(), given_up.as_slice());
+                Ok(())
+            }
             Effect::Resliced { from, row } => {
                 self.reslice(from, row);
                 Ok(())
@@ -96,7 +71,7 @@ impl MachineState {
                 kind,
                 reply,
                 verdict,
-            } => self.respond(modem, tid, kind, reply, &verdict),
+            } => self.respond(modem, tid, kind, reply, verdict),
             HandledEffect::Acknowledged {
                 modem,
                 tid,
@@ -128,35 +103,34 @@ impl MachineState {
         tid: u16,
         kind: Kind,
         reply: Bytes,
-        verdict: &Verdict,
+        verdict: BoxedVerdict,
     ) -> Result<(), AllocError>
-        requires { MayRespond self.old modem tid verdict.now }
-        ensures ok { OnOk result (self.new ≡ record self.old { state = state_after_response self.old modem tid kind reply verdict.now }) }
+        requires { MayRespond self.old modem tid (verdict_of verdict) }
+        ensures ok { OnOk result (self.new ≡ record self.old { state = state_after_response self.old modem tid kind reply (verdict_of verdict) }) }
         ensures err { OnErr result (self.new ≡ self.old) }
     {
+        let (sfid, waits) = (verdict.sfid(), verdict.does_wait());
         self.change_flows(verdict)?;
-        let waits = does_wait(verdict);
-        self.kept
-            .begin_new(modem, tid, kind, reply, sfid_of(verdict), waits);
+        self.kept.begin_new(modem, tid, kind, reply, sfid, waits);
         Ok(())
     }
 
     /// Makes a verdict's change to the flows.
     #[inline(always)]
-    fn change_flows(&mut self, verdict: &Verdict) -> Result<(), AllocError>
-        requires { MayPut (flow_table_of self.old) verdict.now }
-        ensures ok { OnOk result (self.new ≡ with_flows self.old (flows_after verdict.now self.old.state.flows)) }
+    fn change_flows(&mut self, verdict: BoxedVerdict) -> Result<(), AllocError>
+        requires { MayPut (flow_table_of self.old) (verdict_of verdict) }
+        ensures ok { OnOk result (self.new ≡ with_flows self.old (flows_after (verdict_of verdict) self.old.state.flows)) }
         ensures err { OnErr result (self.new ≡ self.old) }
     {
         match verdict {
-            Verdict::Refused { reply: _ } => Ok(()),
-            Verdict::Put {
+            BoxedVerdict::Refused { reply: _ } => Ok(()),
+            BoxedVerdict::Put {
                 sfid,
                 flow,
                 reply: _,
-            } => self.flows.put_flow(*sfid, flow),
-            Verdict::Deleted { sfid, reply: _ } => {
-                self.flows.remove(*sfid);
+            } => self.flows.put_flow(sfid, flow),
+            BoxedVerdict::Deleted { sfid, reply: _ } => {
+                self.flows.remove(sfid);
                 Ok(())
             }
         }

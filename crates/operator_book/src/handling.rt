@@ -13,11 +13,12 @@ ghost use Rattle.operator_model.specs.Machine.{work_result, arrival_result};
 ghost use Rattle.operator_book.specs.Held.{HasOwnSids, HasRightId};
 ghost use Rattle.operator_book.specs.Planned.{IsPlanFor, IsPlanOfFirst};
 
+use crate::boxed_verdict::BoxedVerdict;
 use crate::machine::MachineState;
 use crate::plan::{Effect, HandledEffect, Plan, single};
 use crate::refusal::{encoding_refusal, refusal};
 use dsx_messages::{Code, Kind, Message, MessageFault, Modem, Reply, Request, read};
-use operator_model::{Arrival, Cause, Heard, Output, Verdict};
+use operator_model::{Arrival, Cause, Heard, Output};
 use std::alloc::{AllocError, Global};
 use transactions::{KeptEntry, ResponseState};
 
@@ -62,7 +63,7 @@ impl MachineState {
                 effect: Effect::Handled(HandledEffect::Nothing),
             });
         }
-        self.response_plan(alloc, modem, kind, tid, Verdict::Refused { reply })
+        self.response_plan(alloc, modem, kind, tid, BoxedVerdict::Refused { reply })
     }
 
     /// Returns the response that waits for this acknowledgement.

@@ -5,6 +5,7 @@
 mod answering;
 mod asked;
 mod book;
+mod boxed_verdict;
 mod committing;
 mod flow_fault;
 mod handling;

@@ -120,13 +120,13 @@ impl SoundMachine {
 
     /// Commits a plan, and returns its outputs. If memory runs out nothing changes.
     #[inline(always)]
-    fn commit(&mut self, alloc: Global, plan: Plan) -> Result<Vec<Output>, AllocError>
+    fn commit(&mut self, plan: Plan) -> Result<Vec<Output>, AllocError>
         requires { IsCommittable self.old plan }
         ensures state { OnOk result (self.new ≡ after_effect self.old plan.effect) }
         ensures outputs { IfOk result (λ outputs. outputs.items ≡ plan.outputs.items) }
         ensures err { OnErr result (self.new ≡ self.old) }
     {
-        self.machine.commit(alloc, plan)
+        self.machine.commit(plan)
     }
 
     /// Takes a slice that fits from a later frame on, with no memory.
@@ -221,19 +221,30 @@ impl Machine {
         if let Err(fault) = self.sound.machine.judge(&action) {
             return Err(fault);
         }
-        Ok(self.sound.plan(alloc, &self.ranking, action)?)
+        Ok(self.plan_allowed(alloc, action)?)
+    }
+
+    /// Plans an action as `plan` does, for a caller that knows that it is not refused.
+    #[inline(always)]
+    pub fn plan_allowed(&self, alloc: Global, action: Action) -> Result<Plan, AllocError>
+        requires { IsAllowed self.now.sound action }
+        ensures outputs { IfOk result (λ plan. plan.outputs.items ≡ (own_step self.now.sound action).outputs) }
+        ensures plan { IfOk result (IsPlanOf self.now.sound action) }
+        ensures committable { IfOk result (IsCommittable self.now.sound) }
+    {
+        self.sound.plan(alloc, &self.ranking, action)
     }
 
     /// Commits a plan, and returns its outputs. If memory runs out nothing changes. The caller knows
     /// that the plan was made for the machine as it is.
     #[inline(always)]
-    pub fn commit(&mut self, alloc: Global, plan: Plan) -> Result<Vec<Output>, AllocError>
+    pub fn commit(&mut self, plan: Plan) -> Result<Vec<Output>, AllocError>
         requires { IsCommittable self.old.sound plan }
         ensures state { OnOk result (self.new.sound ≡ after_effect self.old.sound plan.effect) }
         ensures outputs { IfOk result (λ outputs. outputs.items ≡ plan.outputs.items) }
         ensures err { OnErr result (self.new.sound ≡ self.old.sound) }
     {
-        self.sound.commit(alloc, plan)
+        self.sound.commit(plan)
     }
 
     /// Plans an action and commits the plan. A refused action changes nothing.
@@ -252,7 +263,7 @@ impl Machine {
         ensures err { OnErr result (self.new.sound ≡ self.old.sound) }
     {
         match self.plan(alloc, action) {
-            Ok(plan) => Ok(self.commit(alloc, plan)?),
+            Ok(plan) => Ok(self.commit(plan)?),
             Err(fault) => Err(fault),
         }
     }

@@ -88,7 +88,7 @@ impl RecordedMachine {
         let recorded = action.copy(alloc)?;
         let plan = self.machine.plan(alloc, ranking, action)?;
         let copies = output_copies(alloc, plan.outputs())?;
-        let outputs = self.machine.commit(alloc, plan)?;
+        let outputs = self.machine.commit(plan)?;
         self.history.push_reserved(Entry {
             action: recorded,
             outputs: Outputs::from_vec(copies),

@@ -50,6 +50,7 @@ fn opened_flow(frame: u32, modem: Modem, sid: Option<u16>, sets: Sets) -> Flow
 /// Puts one provisioned flow more, opened in this frame, under the least free SFID.
 #[tactic(auto, using(crate::proofs::Room::longer), unfolding(crate::specs::Opening::put_provision))]
 fn put_provision(
+    alloc: Global,
     frame: u32,
     consts: &Consts,
     row: &OperatorRow,
@@ -71,12 +72,13 @@ fn put_provision(
     // For the proof: what always holds of `flows`.
     flows.always();
     let flow = opened_flow(frame, provision.modem, sid, sets);
-    flows.put_flow(sfid, &flow)?;
+    flows.put_flow(sfid, Box::new(alloc, flow)?)?;
     Ok(())
 }
 
 /// Puts the provisioned flows, opened in this frame, in the file's order.
 fn put_provisions(
+    alloc: Global,
     frame: u32,
     consts: &Consts,
     row: &OperatorRow,
@@ -88,7 +90,7 @@ fn put_provisions(
         ≡ record flows.old { flows = put_provisions frame consts.now row.now [] row.now.provisions }) }
 {
     for provision in row.get_fields().provisions.as_slice() {
-        put_provision(frame, consts, row, flows, provision)?;
+        put_provision(alloc, frame, consts, row, flows, provision)?;
     }
     Ok(())
 }
@@ -112,7 +114,7 @@ fn flows_of(
         u32::from(row.get_fields().flows),
         consts.get_fields().units,
     )?;
-    put_provisions(frame, consts, row, &mut flows)?;
+    put_provisions(alloc, frame, consts, row, &mut flows)?;
     Ok(flows)
 }
 

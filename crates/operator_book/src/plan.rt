@@ -2,11 +2,13 @@
 
 ghost use Rattle.std.specs.Prelude.{◌≡◌, ◌∷◌, [], IfOk};
 
+use crate::boxed_verdict::BoxedVerdict;
 use dsx_messages::{Kind, Modem};
-use operator_model::{Arrival, Output, SliceRow, Verdict};
+use operator_model::{Arrival, Output, SliceRow};
 use slice_scheduler::Grants;
 use std::alloc::{AllocError, Global};
 use tlv24::Bytes;
+use transactions::GivenUps;
 
 /// What an action will do: its outputs, and its effect on the state. All memory for the outputs is
 /// taken. The state changes when the plan is committed.
@@ -25,9 +27,9 @@ pub(crate) enum Effect {
     Received(Arrival),
     /// What was received first is taken out of the inbox, and has this effect.
     Handled(HandledEffect),
-    /// The timers count one tick, these grants are taken off the backlogs, and the next frame
-    /// follows.
-    Ticked { granted: Grants },
+    /// The timers count one tick, what is abandoned is undone, these grants are taken off the
+    /// backlogs, and the next frame follows.
+    Ticked { granted: Grants, given_up: GivenUps },
     /// This slice and budget wait for this frame.
     Resliced { from: u32, row: SliceRow },
 }
@@ -37,14 +39,13 @@ pub(crate) enum Effect {
 pub(crate) enum HandledEffect {
     /// Nothing changes.
     Nothing,
-    /// The verdict's change is made to the flows, and these bytes of its reply are cached. The
-    /// verdict is boxed, so that a plan is small: a flow is large.
+    /// The verdict's change is made to the flows, and these bytes of its reply are cached.
     Response {
         modem: Modem,
         tid: u16,
         kind: Kind,
         reply: Bytes,
-        verdict: Box<Verdict>,
+        verdict: BoxedVerdict,
     },
     /// The response that waits for this acknowledgement is held, and what waits of its flow is
     /// committed or undone.

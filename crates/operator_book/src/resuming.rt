@@ -18,7 +18,7 @@ use flow_table::{Flow, Flows};
 use operator_model::NextShare;
 use param_sets::{ParamSet, Sets};
 use plant::{Consts, OperatorRow};
-use std::alloc::Global;
+use std::alloc::{AllocError, Global};
 use std::collections::VecDeque;
 use transactions::{Kept, KeptEntry};
 
@@ -38,9 +38,16 @@ fn sid_twice_fault(flows: &Flows, sfid: u32, sid: Option<u16>) -> Option<StateFa
     }
 }
 
+/// Returns a copy of a flow in a box.
+fn boxed(alloc: Global, flow: &Flow) -> Result<Box<Flow>, AllocError>
+    ensures { IfOk result (λ boxed. boxed.value ≡ flow.now) }
+{
+    Ok(Box::new(alloc, *flow)?)
+}
+
 /// Puts a flow after others, where none of them has its SID.
 #[tactic(auto, using(crate::proofs::Resumes::once_may_stand, crate::proofs::Room::longer))]
-fn put_flow(table: &mut Flows, sfid: u32, flow: &Flow) -> Result<(), StateFault>
+fn put_flow(alloc: Global, table: &mut Flows, sfid: u32, flow: &Flow) -> Result<(), StateFault>
     requires { length table.old.flows < table.old.capacity }
     ensures few { OnOk result (length table.new.flows ≤ length table.old.flows + 1) }
     ensures ok { OnOk result (table.new ≡ record table.old { flows = with_flow sfid flow.now table.old.flows }) }
@@ -52,12 +59,12 @@ fn put_flow(table: &mut Flows, sfid: u32, flow: &Flow) -> Result<(), StateFault>
     if let Some(fault) = sid_twice_fault(table, sfid, flow.sid) {
         return Err(fault);
     }
-    table.put_flow(sfid, flow)?;
+    table.put_flow(sfid, boxed(alloc, flow)?)?;
     Ok(())
 }
 
 /// Puts flows one after the other, where each has a SID of its own.
-fn put_flows(table: &mut Flows, flows: &[(u32, Flow)]) -> Result<(), StateFault>
+fn put_flows(alloc: Global, table: &mut Flows, flows: &[(u32, Flow)]) -> Result<(), StateFault>
     requires none { table.old.flows ≡ [] }
     requires few { length flows.now ≤ table.old.capacity }
     ensures ok { OnOk result (table.new ≡ record table.old { flows = all_put_back [] flows.now }) }
@@ -65,7 +72,7 @@ fn put_flows(table: &mut Flows, flows: &[(u32, Flow)]) -> Result<(), StateFault>
     ensures fault { IfErr result (λ f. (f ≡ NoMemory) ⊎ (sids_fault [] flows.now ≡ Some f)) }
 {
     for (sfid, flow) in flows {
-        put_flow(table, *sfid, flow)?;
+        put_flow(alloc, table, *sfid, flow)?;
     }
     Ok(())
 }
@@ -200,7 +207,7 @@ fn flows_back(
 {
     let capacity = u32::from(row.get_fields().flows);
     let mut table = Flows::new(alloc, capacity, consts.get_fields().units)?;
-    put_flows(&mut table, flows)?;
+    put_flows(alloc, &mut table, flows)?;
     // For the proof: what always holds of `table`.
     table.always();
     Ok(table)

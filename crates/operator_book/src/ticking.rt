@@ -1,11 +1,12 @@
 //! A tick: the timers, the frame, and the next frame's share.
 
-ghost use Rattle.std.specs.Prelude.{◌≡◌, ◌<◌, ◌+◌, [], ◌∷◌, ◌++◌, map, IfOk, OnOk, OnErr};
+ghost use Rattle.std.specs.Prelude.{◌≡◌, ◌<◌, ◌+◌, [], ◌∷◌, ◌++◌, map, IfOk};
 ghost use Rattle.operator_model.specs.declared.output.Output.TheVariants as outputs;
 ghost use Rattle.flow_table.specs.Flow.{flow_after_grant};
 ghost use Rattle.operator_model.specs.Changed.{with_flows, with_change};
 ghost use Rattle.operator_model.specs.Frame.{tick_result, resent, all_undone, all_granted, share_at, next_at, frame_elements, frame_grants};
 ghost use Rattle.operator_model.specs.Sound.{IsSound};
+ghost use Rattle.transactions.specs.Timers.{given_up_in};
 ghost use Rattle.operator_book.specs.Planned.{IsPlanFor, state_after_tick};
 
 use crate::machine::MachineState;
@@ -14,7 +15,7 @@ use grant_policy::Ranking;
 use operator_model::{Output, given_up_have_no_grants, schedule_can_serve};
 use slice_scheduler::{At, AtFields, Elements, Served, schedule};
 use std::alloc::{AllocError, Global};
-use transactions::{GivenUp, Resends, Ticked};
+use transactions::{GivenUp, Resends};
 
 /// Returns the outputs of a tick: what is retransmitted, then the frame.
 fn frame_outputs(
@@ -116,30 +117,23 @@ impl MachineState {
     {
         let Served { elements, granted } = self.frame_schedule(alloc, ranking)?;
         let resends = self.kept.resends(alloc)?;
+        let given_up = self.kept.given_ups(alloc)?;
         Ok(Plan {
             outputs: frame_outputs(alloc, resends, self.frame, elements)?,
-            effect: Effect::Ticked { granted },
+            effect: Effect::Ticked { granted, given_up },
         })
     }
 
     /// Counts the timers one tick on, undoes what is abandoned, takes the grants off the backlogs,
     /// and goes on to the next frame.
-    pub(crate) fn pass_frame(
-        &mut self,
-        alloc: Global,
-        granted: &[(u32, u16)],
-    ) -> Result<(), AllocError>
-        requires { self.old.state.frame < 4294967295 }
-        ensures ok { OnOk result (self.new ≡ record self.old { state = state_after_tick self.old granted.now }) }
-        ensures err { OnErr result (self.new ≡ self.old) }
+    pub(crate) fn pass_frame(&mut self, granted: &[(u32, u16)], given_up: &[GivenUp])
+        requires not_spent { self.old.state.frame < 4294967295 }
+        requires given_up { given_up.now ≡ given_up_in self.old.state.kept }
+        ensures { self.new ≡ record self.old { state = state_after_tick self.old granted.now } }
     {
-        let Ticked {
-            resend: _,
-            given_up,
-        } = self.kept.tick(alloc)?;
-        self.undo_all(given_up.as_slice());
+        self.kept.count_down();
+        self.undo_all(given_up);
         self.grant_all(self.frame, granted);
         self.go_on();
-        Ok(())
     }
 }
