@@ -95,10 +95,10 @@ def lines():
 
 
 class Served:
-    """The program, as it answers line by line."""
+    """The program, as it answers line by line, run by a command if one is given."""
 
-    def __init__(self, program):
-        self.process = subprocess.Popen([program, "serve"], stdin=subprocess.PIPE, stdout=subprocess.PIPE, bufsize=0)
+    def __init__(self, program, command=()):
+        self.process = subprocess.Popen([*command, program, "serve"], stdin=subprocess.PIPE, stdout=subprocess.PIPE, bufsize=0)
         self.to, self.back = self.process.stdin.fileno(), self.process.stdout.fileno()
         self.number, self.wrong = 0, 0
         self.process.stdin.write((plant_text() + "---\n").encode())
@@ -120,6 +120,12 @@ class Served:
         took = time.perf_counter_ns() - began
         self.wrong += not is_right(answer, kind, last)
         return took
+
+    def answer_invalid(self):
+        """Writes an invalid line, and reads its answer."""
+        self.number += 1
+        os.write(self.to, INVALID)
+        self.wrong += os.read(self.back, 65_536) != b"fault: line %d\n" % self.number
 
     def end(self):
         self.process.stdin.close()
