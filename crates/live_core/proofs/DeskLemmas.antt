@@ -1,15 +1,11 @@
--- An action puts out one frame at most, and where it is allowed only memory can be wanting.
-use Rattle.std.proofs.Common.{◌≡◌, ◌↔◌, ℕ, Bool, true, false, List, [], ◌∷◌, ◌++◌, length, Option, Some, None, Result, Err, append-nil, refl, sym, ap, ◌∙◌}
+-- An action outputs one frame at most.
+use Rattle.std.proofs.Common.{◌≡◌, ℕ, Bool, true, false, List, [], ◌∷◌, ◌++◌, length, Some, None, append-nil, refl, sym, ap, ◌∙◌}
 use Rattle.std.specs.Prelude.{slice_get, ◌==◌, IsSome}
 use Rattle.slice_scheduler.specs.declared.elements.ElementsFields.{ElementsFields}
 use Rattle.operator_model.specs.declared.action.Action.{Action}
 use Rattle.operator_model.specs.declared.output.Output.{Output}
 use Rattle.operator_model.specs.State.{Operator}
-use Rattle.dsx_messages.specs.declared.modem.Modem.{Modem}
-use Rattle.operator_model.specs.declared.action.Unfit.{Unfit}
-use Rattle.operator_model.specs.Machine.{own_step, stranger_of, is_spent, unfit_of, IsAllowed}
-use Rattle.operator_book.specs.declared.book.BookFault.{BookFault}
-use Rattle.operator_book.specs.declared.book.BookFault.TheVariants as faults
+use Rattle.operator_model.specs.Machine.{own_step}
 use Rattle.run_model.specs.IsStateAfter.{frames_of}
 use Rattle.plant_core.specs.Faults.{collect_fault}
 use Rattle.plant_core.proofs.WaitingLemmas.{one_frame, first_none, first_alone}
@@ -38,17 +34,3 @@ some_wait (x ∷ xs) n empty long is some = refl
 pub waits_at_all : (op : ℕ) (waiting : List (ℕ × ElementsFields)) → IsSome (slice_get waiting 0) → collect_fault op (Some waiting) ≡ None
 waits_at_all op [] some = cc
 waits_at_all op (frame ∷ waiting) some = refl
-
--- what is allowed is refused for want of memory alone
-pub only_memory : {A : Type 0} (op : Operator) (action : Action) (result : Result A BookFault) (fault : BookFault) → result ≡ Err fault
-    → ((modem : Modem) → (result ≡ Err (faults.NotMine modem)) ↔ (stranger_of op.row action ≡ Some modem))
-    → ((result ≡ Err faults.FramesSpent) ↔ (is_spent op.state action ≡ true))
-    → ((u : Unfit) → (result ≡ Err (faults.Unfit u)) ↔ (unfit_of op action ≡ Some u))
-    → IsAllowed op action → fault ≡ faults.NoMemory
-only_memory op action result faults.NoMemory is not_mine spent unfit allowed = refl
-only_memory op action result (faults.NotMine modem) is not_mine spent unfit allowed =
-    absurd (let wrong : ◌≡◌ {A = Option Modem} None (Some modem) = sym allowed.mine ∙ (not_mine modem).0 is in cc)
-only_memory op action result faults.FramesSpent is not_mine spent unfit allowed =
-    absurd (let wrong : ◌≡◌ {A = Bool} false true = sym allowed.not_spent ∙ spent.0 is in cc)
-only_memory op action result (faults.Unfit u) is not_mine spent unfit allowed =
-    absurd (let wrong : ◌≡◌ {A = Option Unfit} None (Some u) = sym allowed.fit ∙ (unfit u).0 is in cc)

@@ -1,7 +1,7 @@
-//! What is done to an operator's live desk.
+//! Actions of an operator, and the collection of its oldest frame.
 
-ghost use Rattle.std.specs.Prelude.{◌≡◌, ◌≢◌, ◌<◌, true, false, [], ◌++◌, length, slice_get, Some, Err, IfOk, IfErr, OnOk, OnErr};
-ghost use Rattle.operator_model.specs.Machine.{own_step, is_spent, IsAllowed};
+ghost use Rattle.std.specs.Prelude.{◌≡◌, ◌<◌, ◌++◌, length, slice_get, Some, None, IfOk, OnOk, OnErr};
+ghost use Rattle.operator_model.specs.Machine.{own_step, stranger_of, unfit_of, IsAllowed};
 ghost use Rattle.run_model.specs.OwnSteps.{outputs_under};
 ghost use Rattle.run_model.specs.IsStateAfter.{frames_of};
 ghost use Rattle.plant_core.specs.Faults.{act_fault, collect_fault, IsReported};
@@ -32,35 +32,41 @@ fn frame_copy(alloc: Global, outputs: &[Output]) -> Result<Option<(u32, Elements
 }
 
 impl LiveSlot {
-    /// Does an action, and reports what it outputs. Its frame waits. The caller has seen that the
-    /// frame numbers are not spent.
+    /// Performs an allowed action, and appends its outputs. Its frame waits. Allocates all memory
+    /// before any change.
     #[tactic(auto, using(crate::proofs::DeskLemmas::frame_waits, crate::proofs::DeskLemmas::none_waits))]
     #[inline(always)]
-    pub fn act(&mut self, alloc: Global, action: Action) -> Result<Vec<Output>, BookFault>
-        requires fresh { is_spent self.old.live.sound.state action ≡ false }
+    fn act(
+        &mut self,
+        alloc: Global,
+        op: Op,
+        action: Action,
+        outs: &mut Vec<Out>,
+    ) -> Result<(), AllocError>
+        requires { IsAllowed self.old.live.sound action }
         ensures book { OnOk result (slot_book self.new ≡ went (slot_book self.old) action) }
         ensures waiting { OnOk result (slot_waiting self.new ≡ slot_waiting self.old
             ++ frames_of (own_step self.old.live.sound action).outputs) }
-        ensures outputs { IfOk result (λ outputs. outputs.items
-            ≡ (own_step self.old.live.sound action).outputs) }
-        ensures allowed { OnOk result (IsAllowed self.old.live.sound action) }
+        ensures outputs { OnOk result (outs.new.items ≡ outs.old.items
+            ++ outputs_under op (own_step self.old.live.sound action).outputs) }
+        ensures outs { OnErr result (outs.new.items ≡ outs.old.items) }
         ensures same_book { OnErr result (slot_book self.new ≡ slot_book self.old) }
         ensures same_waiting { OnErr result (slot_waiting self.new ≡ slot_waiting self.old) }
-
-        // Where the machine allows it, only memory can be wanting.
-        ensures memory { IsAllowed self.old.live.sound action → IfErr result (λ fault. fault ≡ BookFault.NoMemory) }
     {
         self.waiting.reserve(1)?;
-        let plan = self.live.plan(alloc, action)?;
+        let plan = self.live.plan_allowed(alloc, action)?;
+        outs.reserve(plan.outputs().len())?;
         let frame = frame_copy(alloc, plan.outputs())?;
-        let told = self.live.commit(plan)?;
+        let outputs = self.live.commit(plan)?;
+        append(outs, op, outputs);
         if let Some(frame) = frame {
             self.waiting.push_back_reserved(frame);
         }
-        Ok(told)
+        Ok(())
     }
 
-    /// Does an action that is the operator's own, and adds what it outputs. Its frame waits.
+    /// Performs an action, and appends its outputs. Its frame waits. The caller knows that the
+    /// operator's row lists the modem of the action, and that a slice of the action fits.
     #[inline(always)]
     pub(crate) fn act_into(
         &mut self,
@@ -69,6 +75,8 @@ impl LiveSlot {
         action: Action,
         outs: &mut Vec<Out>,
     ) -> Result<(), CoreFault>
+        requires mine { stranger_of self.old.live.sound.row action ≡ None }
+        requires fit { unfit_of self.old.live.sound action ≡ None }
         ensures book { OnOk result (slot_book self.new ≡ went (slot_book self.old) action) }
         ensures waiting { OnOk result (slot_waiting self.new ≡ slot_waiting self.old
             ++ frames_of (own_step self.old.live.sound action).outputs) }
@@ -83,15 +91,9 @@ impl LiveSlot {
         if self.live.is_spent(&action) {
             return Err(CoreFault::Book(BookFault::FramesSpent));
         }
-        if outs.reserve(self.live.most_outputs(&action)).is_err() {
-            return Err(CoreFault::NoMemory);
-        }
-        match self.act(alloc, action) {
-            Ok(told) => {
-                append(outs, op, told);
-                Ok(())
-            }
-            Err(_) => Err(CoreFault::NoMemory),
+        match self.act(alloc, op, action, outs) {
+            Ok(()) => Ok(()),
+            Err(AllocError) => Err(CoreFault::NoMemory),
         }
     }
 
