@@ -1,52 +1,20 @@
 //! Steps that are noted and done one after the other, and the answer to one line.
 
-ghost use Rattle.std.specs.Prelude.{◌≡◌, ◌≤◌, None, length, IfOk, OnOk, OnErr};
-ghost use Rattle.std.specs.Io.KnownBytes.{Appends};
+ghost use Rattle.std.specs.Prelude.{◌≡◌, None, IfOk, OnOk, OnErr};
 ghost use Rattle.plant_core.specs.Faults.{step_fault};
 ghost use Rattle.live_core.specs.After.{BehindEachRun, IsReachableFromStart};
 ghost use Rattle.live_core.specs.LiveView.{live_view};
-ghost use Rattle.lists.specs.Results.{Gives};
-ghost use Rattle.script_format.specs.Fields.{field_cause};
-ghost use Rattle.script_format.specs.declared.fields.FieldFault.TheVariants.{NoMemory};
-ghost use Rattle.line_service.specs.Service.{steps_said, end_text};
-ghost use Rattle.line_service.specs.Ends.{line_outcome};
 ghost use Rattle.line_service.specs.SoFar.{HasAnswered, LineIsAnswered};
 ghost use Rattle.line_service.specs.Steps.{HasDone};
 
 use crate::step_notes::StepNotes;
-use line_service::{LineOutcome, StepsEnd, end_of};
+use line_service::{LineOutcome, StepsEnd, end_of, outcome_of, steps_said, write_end};
 use live_core::LiveCore;
-use plant::Plant;
 use run_model::Step;
-use script_format::{FieldError, FieldFault, LineStep, put_line, write_outs};
+use script_format::{FieldFault, LineStep, write_outs};
 use std::alloc::{AllocError, Global};
 use std::io;
-use std::io::Write;
 use trace_report::live_decision_of;
-
-/// The most bytes of a line.
-const MOST_BYTES: usize = 4096;
-
-/// Parses a line of at most 4,096 bytes into its steps.
-fn steps_said(
-    alloc: Global,
-    plant: &Plant,
-    number: u64,
-    line: &[u8],
-) -> Result<Vec<LineStep>, FieldFault>
-    ensures said { Gives field_cause (λ steps. steps.items) result (steps_said plant.now number line.now) }
-    ensures memory { result ≡ Err NoMemory → length line.now ≤ 4096 }
-{
-    if line.len() > MOST_BYTES {
-        return Err(FieldFault::Invalid(FieldError::TooLong));
-    }
-    let mut fields = Vec::new(alloc);
-    let mut steps = Vec::new(alloc);
-    match put_line(alloc, plant, number, line, &mut fields, &mut steps) {
-        Ok(()) => Ok(steps),
-        Err(fault) => Err(fault),
-    }
-}
 
 /// Notes what decides a step before it is done. Writes nothing. An error is out of memory, which only a step needs that the core
 /// does not refuse.
@@ -89,17 +57,6 @@ pub(crate) fn run_noted_steps<W: StepNotes>(
     Ok(StepsEnd::Done)
 }
 
-/// Returns how a line ends whose steps ended so.
-fn line_outcome(end: StepsEnd) -> LineOutcome
-    ensures { result ≡ line_outcome end }
-{
-    match end {
-        StepsEnd::Done => LineOutcome::Done,
-        StepsEnd::Refused { number: _ } => LineOutcome::AtFault,
-        StepsEnd::NoMemory => LineOutcome::NoMemory,
-    }
-}
-
 /// Does what a line says, and writes what that outputs. Returns how the line ended.
 #[tactic(auto, using(line_service::proofs::LineLemmas::steps_answered, line_service::proofs::LineLemmas::none_answered, line_service::proofs::LineLemmas::memory_answered))]
 fn do_line<W: StepNotes>(
@@ -116,21 +73,10 @@ fn do_line<W: StepNotes>(
     match steps_said(alloc, core.plant(), number, line) {
         Ok(steps) => {
             let end = run_noted_steps(alloc, core, steps, writer)?;
-            Ok(line_outcome(end))
+            Ok(outcome_of(end))
         }
         Err(FieldFault::Invalid(_error)) => Ok(LineOutcome::AtFault),
         Err(FieldFault::NoMemory) => Ok(LineOutcome::NoMemory),
-    }
-}
-
-/// Writes how a line ended.
-pub(crate) fn write_end<W: Write>(writer: &mut W, number: u64, end: LineOutcome) -> io::Result<()>
-    ensures { OnOk result (Appends (W.contents writer.old) (W.contents writer.new) (end_text number end)) }
-{
-    match end {
-        LineOutcome::Done => Ok(()),
-        LineOutcome::AtFault => write!(writer, "fault: line {number}\n"),
-        LineOutcome::NoMemory => writer.write_all(b"fault: memory\n"),
     }
 }
 

@@ -1,7 +1,7 @@
 //! Serving a plant as long as there are lines.
 
 ghost use Rattle.run_model.specs.Starts.{Start};
-ghost use Rattle.std.specs.Prelude.{◌≡◌, ◌+◌, [], ◌∷◌, List, ℕ, Option, map, Err, IfOk, OnOk, IfSome};
+ghost use Rattle.std.specs.Prelude.{◌≡◌, [], ◌∷◌, List, ℕ, Option, map, Err, IfOk, OnOk, IfSome};
 ghost use Rattle.plant.specs.declared.plant.PlantFields.{PlantFields};
 ghost use Rattle.run_model.specs.declared.step.Out.{Out};
 ghost use Rattle.run_model.specs.declared.step.Step.{Step};
@@ -12,10 +12,10 @@ ghost use Rattle.line_service.specs.SoFar.{IsHeld, LineIsAnswered, IsServedSoFar
 ghost use Rattle.json_service.specs.declared.serving.ServiceFault.TheVariants as faults;
 ghost use Rattle.json_service.specs.Served.{IsServedFromOpening};
 
-use crate::answering::{answer_line, write_end};
+use crate::answering::answer_line;
 use crate::step_notes::StepNotes;
 use grant_policy::Ranking;
-use line_service::{LineBuffer, LineOutcome, next_byte};
+use line_service::{LineBuffer, LineOutcome, next_byte, next_number, write_end};
 use live_core::LiveCore;
 use plant::Plant;
 use plant_core::CoreOpenFault;
@@ -30,16 +30,6 @@ pub enum ServiceFault {
     Memory,
     /// A read or a write failed.
     Io,
-}
-
-/// Returns the number of the next line.
-fn next_number(number: u64) -> io::Result<u64>
-    ensures { IfOk result (λ next. next ≡ number + 1) }
-{
-    match number.checked_add(1) {
-        Some(next) => Ok(next),
-        None => Err(io::Error::from(io::ErrorKind::Other)),
-    }
 }
 
 /// Answers the line that was read, whose number the writer knows.

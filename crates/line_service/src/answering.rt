@@ -22,8 +22,8 @@ use std::alloc::Global;
 use std::io;
 use std::io::Write;
 
-/// Parses a line of at most 4,096 bytes into its steps.
-fn steps_said(
+/// Parses a line of at most 4,096 bytes into its steps. A longer one is invalid.
+pub fn steps_said(
     alloc: Global,
     plant: &Plant,
     number: u64,
@@ -68,7 +68,7 @@ pub fn run_steps<W: Write>(
 }
 
 /// Returns how a line ends whose steps ended so.
-fn line_outcome(end: StepsEnd) -> LineOutcome
+pub fn outcome_of(end: StepsEnd) -> LineOutcome
     ensures { result ≡ line_outcome end }
 {
     match end {
@@ -94,7 +94,7 @@ fn do_line<W: Write>(
     match steps_said(alloc, core.plant(), number, line) {
         Ok(steps) => {
             let end = run_steps(alloc, core, steps, writer)?;
-            Ok(line_outcome(end))
+            Ok(outcome_of(end))
         }
         Err(FieldFault::Invalid(_error)) => Ok(LineOutcome::AtFault),
         Err(FieldFault::NoMemory) => Ok(LineOutcome::NoMemory),

@@ -11,7 +11,7 @@ mod line_outcome;
 mod serving;
 mod steps_end;
 
-pub use answering::{answer_line, run_steps, write_end};
+pub use answering::{answer_line, outcome_of, run_steps, steps_said, write_end};
 pub use bytes::next_byte;
 pub use front::{read_plant_text, read_to_bar};
 pub use laws::service_is_shown;

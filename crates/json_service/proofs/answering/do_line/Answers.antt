@@ -12,6 +12,6 @@ pub returns-in_ok-end-in-Ok : goal.returns-in_ok-end-in-Ok
 returns-in_ok-end-in-Ok g c plant start before shown after =
     let same : c.plant.result.now ≡ plant = c.plant.ensures ∙ after_plant plant start before shown _ after in
     subst (λ (e : LineOutcome). HasAnswered plant start before shown c.args.number c.args.line.now (live_view c.run_noted_steps.new.core) e (g.W.Write.contents c.args.writer.now) (g.W.Write.contents c.run_noted_steps.new.writer))
-    (sym c.line_outcome.ensures)
+    (sym c.outcome_of.ensures)
     (steps_answered plant start before shown c.args.number c.args.line.now c.in-Ok.steps.items _ c.in_ok-end-in-Ok.end _ _
     (subst (λ (p : PlantFields). steps_said p c.args.number c.args.line.now ≡ Ok c.in-Ok.steps.items) same c.in-Ok.ensures.said) (c.in_ok-end-in-Ok.ensures plant start before shown after))

@@ -11,4 +11,4 @@ returns-then-byte-ne10-clause-on g c plant start before shown input rest written
 pub returns-clause-on : goal.returns-clause-on
 returns-clause-on g c plant start before shown input rest written so_far =
     line_ended plant start before shown input (c.args.byte ∷ rest) _ _ _ _ _ written _ _ so_far (c.in_ok-answer_held.ensures.answered plant start _ _ so_far.after so_far.part so_far.is_held)
-    _ _ _ rest (ap (λ (b : ℕ). b ∷ rest) c.if-byte-ne10.false) c.in_ok-number.ensures c.clear.ensures
+    _ _ _ rest (ap (λ (b : ℕ). b ∷ rest) c.if-byte-ne10.false) c.in_ok-number.ensures.next c.clear.ensures
