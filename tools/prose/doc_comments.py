@@ -26,8 +26,8 @@ from tools.prose.markdown import split_document
 KINDS = ("verb", "short", "word", "missing")
 FEWEST_WORDS = 5
 # Crates whose comments are mended with their next change: a change of a comment is a change of the file, and all crates above are proved
-# anew. operator_book has one comment of three words.
-WAITING = frozenset(("operator_book",))
+# anew.
+WAITING = frozenset()
 # Words that end like a verb in the third person and are none.
 NO_VERBS = frozenset("""
 Addresses Always As Budgets Bytes Causes Checks' Classes Codes Columns Constants Digits Encodings Entries Faults Fields Flows Frames Grants Identifiers

@@ -17,3 +17,8 @@ pub record IsBook (consts : ConstsFields) (row : RowFields) (history : List Entr
 pub record HeldBook : Type 0 where
   pub book : BookView
   pub spare : ℕ
+
+-- a history, and how many entries more it takes without memory
+pub record HeldHistory : Type 0 where
+  pub entries : List Entry
+  pub spare : ℕ

@@ -29,7 +29,7 @@ pub(crate) enum BoxedVerdict {
 }
 
 impl BoxedVerdict {
-    /// Returns its reply.
+    /// Returns the reply that this verdict sends to the modem.
     pub(crate) fn reply(&self) -> &Reply
         ensures { result.now ≡ reply_of (verdict_of self.now) }
     {

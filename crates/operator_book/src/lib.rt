@@ -9,6 +9,7 @@ mod boxed_verdict;
 mod committing;
 mod flow_fault;
 mod handling;
+mod history;
 mod judging;
 mod live;
 mod logged;
@@ -28,12 +29,13 @@ mod ticking;
 mod verdict;
 
 pub use book::{Book, BookFault, OpenFault};
+pub use history::History;
 pub use live::{Machine, SoundMachine};
 pub use logged::RecordedMachine;
 pub use operator_model::{
     Action, Arrival, Cause, Entry, Heard, NextShare, Output, Outputs, Share, SliceRow, Unfit,
 };
-pub use plan::Plan;
+pub use plan::{Plan, output_copies};
 pub use row_fault::row_faults;
 pub use state_fault::StateFault;
 pub use state_view::StateView;

@@ -1,6 +1,6 @@
 //! One operator's machine at work, with no history.
 
-ghost use Rattle.std.specs.Prelude.{◌≡◌, ◌≢◌, ◌↔◌, ◌≤◌, ◌⊎◌, true, length, Err, Some, None, IfOk, IfErr, OnOk, OnErr};
+ghost use Rattle.std.specs.Prelude.{◌≡◌, ◌≢◌, ◌↔◌, ◌⊎◌, true, Err, Some, None, IfOk, IfErr, OnOk, OnErr};
 ghost use Rattle.dsx_messages.specs.declared.modem.Modem.{Modem};
 ghost use Rattle.plant.specs.Row.{IsRowOf};
 ghost use Rattle.operator_model.specs.declared.action.Unfit.{Unfit};
@@ -8,7 +8,6 @@ ghost use Rattle.operator_model.specs.declared.action.Action.TheVariants as acti
 ghost use Rattle.operator_model.specs.State.{operator, opened_state, opened_before};
 ghost use Rattle.operator_model.specs.Machine.{stranger_of, is_spent, unfit_of, unfit_from, own_step, after_step, IsAllowed};
 ghost use Rattle.operator_model.specs.Sound.{IsSound};
-ghost use Rattle.operator_book.specs.MostOutputs.{most_outputs_of};
 ghost use Rattle.operator_book.specs.Planned.{IsPlanOf, IsCommittable, after_effect};
 ghost use Rattle.operator_book.specs.Resuming.{state_fault, IsStateFault, IsStateUnder};
 ghost use Rattle.operator_book.specs.declared.state_fault.StateFault.TheVariants.{NoMemory};
@@ -336,15 +335,6 @@ impl Machine {
         ensures { result ≡ self.now.sound.state.next }
     {
         self.sound.machine.next
-    }
-
-    /// Returns how many outputs an action has at most, if it is done next. At most 65,537.
-    pub fn most_outputs(&self, action: &Action) -> usize
-        ensures value { result ≡ most_outputs_of self.now.sound.state action.now }
-        ensures bound { length (own_step self.now.sound action.now).outputs ≤ result }
-        ensures few { result ≤ 65537 }
-    {
-        self.sound.machine.most_outputs(action)
     }
 
     /// Returns whether this is a tick past the last frame.

@@ -1,12 +1,13 @@
 //! A machine next to the history of all that was done.
 
-ghost use Rattle.std.specs.Prelude.{◌≡◌, ◌<◌, None, IfOk, OnOk, OnErr, vec_len, vec_capacity};
+ghost use Rattle.std.specs.Prelude.{◌≡◌, ◌<◌, None, IfOk, OnOk, OnErr};
 ghost use Rattle.plant.specs.Row.{IsRowOf};
 ghost use Rattle.operator_model.specs.declared.action.Action.TheVariants as actions;
 ghost use Rattle.operator_model.specs.Machine.{own_step, unfit_from, IsAllowed};
 ghost use Rattle.operator_model.specs.Replay.{operator_of_book, opened_book, IsReplayed, book_after_action};
 ghost use Rattle.operator_model.specs.Sound.{IsSound};
 
+use crate::history::History;
 use crate::machine::MachineState;
 use crate::plan::output_copies;
 use grant_policy::Ranking;
@@ -21,33 +22,20 @@ use std::marker::Model;
 #[derive(Drop)]
 pub struct RecordedMachine {
     pub(crate) machine: MachineState,
-    pub(crate) history: Vec<Entry>,
+    pub(crate) history: History,
 }
 
 impl Model for RecordedMachine {
-    ghost use Rattle.std.specs.Prelude.{◌-◌, vec_len, vec_capacity};
     ghost use Rattle.operator_book.specs.Kept.{HeldBook, IsBook};
 
     ghost Value = { HeldBook };
 
     ghost view = { λ b. record {
-      book = record { row = b.machine.row; consts = b.machine.consts; state = b.machine.state; history = b.history.items };
-      spare = vec_capacity b.history - vec_len b.history;
+      book = record { row = b.machine.row; consts = b.machine.consts; state = b.machine.state; history = b.history.entries };
+      spare = b.history.spare;
     } };
 
-    ghost invariant = { λ b. IsBook b.machine.consts b.machine.row b.history.items b.machine.state };
-}
-
-/// Makes room for one entry more. A full history takes room for three times as many as it has, so
-/// that a long one is seldom moved.
-fn room_for_one(history: &mut Vec<Entry>) -> Result<(), AllocError>
-    ensures room { OnOk result (vec_len history.new < vec_capacity history.new) }
-    ensures items { history.new.items ≡ history.old.items }
-{
-    if history.len() < history.capacity() {
-        return Ok(());
-    }
-    history.reserve(history.len().saturating_mul(3).max(4))
+    ghost invariant = { λ b. IsBook b.machine.consts b.machine.row b.history.entries b.machine.state };
 }
 
 impl RecordedMachine {
@@ -64,7 +52,7 @@ impl RecordedMachine {
         let _some = row.get_fields().slice.get_length();
         Ok(RecordedMachine {
             machine: MachineState::open(alloc, row, consts)?,
-            history: Vec::new(alloc),
+            history: History::new(alloc),
         })
     }
 
@@ -84,12 +72,12 @@ impl RecordedMachine {
     {
         // For the proof: what always holds of `self`.
         self.always();
-        room_for_one(&mut self.history)?;
+        self.history.make_room()?;
         let recorded = action.copy(alloc)?;
         let plan = self.machine.plan(alloc, ranking, action)?;
         let copies = output_copies(alloc, plan.outputs())?;
         let outputs = self.machine.commit(plan)?;
-        self.history.push_reserved(Entry {
+        self.history.push(Entry {
             action: recorded,
             outputs: Outputs::from_vec(copies),
         });
@@ -101,7 +89,7 @@ impl RecordedMachine {
         ensures ok { OnOk result (0 < self.new.spare) }
         ensures book { self.new.book ≡ self.old.book }
     {
-        room_for_one(&mut self.history)
+        self.history.make_room()
     }
 
     /// Takes a slice that fits from a later frame on, with no memory.
@@ -112,9 +100,9 @@ impl RecordedMachine {
         ensures { self.new.book ≡ book_after_action self.old.book (actions.Reslice from row) }
     {
         self.machine.reslice(from, row);
-        self.history.push_reserved(Entry {
+        self.history.push(Entry {
             action: Action::Reslice { from, row },
-            outputs: Outputs::from_vec(Vec::new(*self.history.allocator())),
+            outputs: Outputs::new(self.history.allocator()),
         });
     }
 

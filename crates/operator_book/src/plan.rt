@@ -82,7 +82,7 @@ pub(crate) fn single(alloc: Global, output: Output) -> Result<Vec<Output>, Alloc
 }
 
 /// Returns a copy of outputs, for a caller that keeps them.
-pub(crate) fn output_copies(alloc: Global, outputs: &[Output]) -> Result<Vec<Output>, AllocError>
+pub fn output_copies(alloc: Global, outputs: &[Output]) -> Result<Vec<Output>, AllocError>
     ensures { IfOk result (λ copies. copies.items ≡ outputs.now) }
 {
     let mut copies = Vec::with_capacity(alloc, outputs.len())?;

@@ -7,7 +7,7 @@ use Rattle.operator_book.proofs.logged.RecordedMachine.act.Goals as goal
 
 pub invariant_of-self-2 : goal.invariant_of-self-2
 invariant_of-self-2 g c =
-    rw (c.in_ok-outputs.ensures.state, c.push_reserved.ensures.items, c.room_for_one.ensures.items, c.in_ok-recorded.ensures)
+    rw (c.in_ok-outputs.ensures.state, c.push.ensures, c.make_room.ensures.entries, c.in_ok-recorded.ensures)
     record {
       valid = c.self.invariant.valid;
       some = c.self.invariant.some;

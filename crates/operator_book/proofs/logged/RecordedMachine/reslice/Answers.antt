@@ -9,7 +9,7 @@ use Rattle.operator_book.proofs.logged.RecordedMachine.reslice.Goals as goal
 
 pub invariant_of-self : goal.invariant_of-self
 invariant_of-self c =
-    rw (c.reslice.ensures, c.push_reserved.ensures.items)
+    rw (c.reslice.ensures, c.push.ensures)
     record {
       valid = c.self.invariant.valid;
       some = c.self.invariant.some;
@@ -17,5 +17,5 @@ invariant_of-self c =
           (subst (λ (b : BookView). IsAllowed (operator_of_book b) (actions.Reslice c.args.from c.args.row)) (sym (ap (λ (held : HeldBook). held.book) c.self.view_is))
           (reslice_allowed (operator_of_book c.args.self.now.book) c.args.from c.args.row c.requires.fit))
           (ap (λ (r : StepResult). r.state) (sym (resliced_is c.self.inside.machine c.args.from c.args.row)))
-          (c.from_vec.ensures ∙ (c.new.ensures.items ∙ ap (λ (r : StepResult). r.outputs) (sym (resliced_is c.self.inside.machine c.args.from c.args.row))));
+          (c.new.ensures ∙ ap (λ (r : StepResult). r.outputs) (sym (resliced_is c.self.inside.machine c.args.from c.args.row)));
     }
