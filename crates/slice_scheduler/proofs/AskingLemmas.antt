@@ -91,7 +91,7 @@ kept-sum {X} {Y} f t g q none (x ∷ xs) = one (kept-sum f t g q none xs) (q x) 
 abbrev pub counts : Award → Bool
 counts a = nat_lt 0 (a.backlog + a.grant)
 
-none_counts : (n : ℕ) → nat_lt 0 n ≡ false → n ≡ 0
+pub none_counts : (n : ℕ) → nat_lt 0 n ≡ false → n ≡ 0
 none_counts n e = grind (arith, lt-ltb)
 
 pub uncounted : (a : Award) → counts a ≡ false → (a.backlog ≡ 0) × (a.grant ≡ 0)

@@ -6,6 +6,7 @@ pub mod WantedLemmas
 pub mod TotalLemmas
 pub mod GrantedLemmas
 pub mod AskingLemmas
+pub mod RoomLemmas
 pub mod ServableLemmas
 pub mod TiledLemmas
 pub mod MoreLemmas

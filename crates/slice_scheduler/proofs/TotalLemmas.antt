@@ -45,7 +45,7 @@ due_when at f RealTimePolling = refl
 due_when at f UnsolicitedGrant = minislots-replicate f.set.grants_per_interval
     (record { sid = f.sid; iuc = iuc_of at (minislots_of f.set.grant_size at.units); len = minislots_of f.set.grant_size at.units })
 
-due_is : (at : AtFields) (f : Flowing) → minislots_in (due_pieces at f) ≡ due_minislots at f
+pub due_is : (at : AtFields) (f : Flowing) → minislots_in (due_pieces at f) ≡ due_minislots at f
 due_is at f = elim (is_due at f) as (λ b. minislots_in (cond b (pieces_when_due f.set.scheduling at f) []) ≡ cond b (minislots_when_due f.set.scheduling f.set at.units) 0) [
   | true ↦ due_when at f f.set.scheduling
   | false ↦ refl

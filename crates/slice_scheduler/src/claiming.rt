@@ -1,13 +1,14 @@
 //! What flows claim for their backlogs, and what is shared among them.
 
-ghost use Rattle.std.specs.Prelude.{◌≡◌, ◌≤◌, All, IfOk, sum_by};
-ghost use Rattle.slice_scheduler.specs.Claims.{base_of, claim_of, claims_of, taken_of, room_of};
+ghost use Rattle.std.specs.Prelude.{◌≡◌, ◌+◌, ◌-◌, ◌≤◌, All, IfOk, sum_by};
+ghost use Rattle.slice_scheduler.specs.Claims.{base_of, claim_of, claims_of, taken_of};
+ghost use Rattle.slice_scheduler.specs.Schedule.{minislots_in};
 ghost use Rattle.slice_scheduler.specs.Servable.{IsPast, need_at, total_need};
 ghost use Rattle.slice_scheduler.specs.Wanted.{IsClaim, asking};
 
 use crate::claim::Claim;
-use crate::due::minislots_due;
 use crate::flowing::{At, Flowing};
+use crate::piece::Piece;
 use grant_policy::{RankInput, Ranking, rank_at_most_63};
 use std::alloc::{AllocError, Global};
 
@@ -23,29 +24,36 @@ fn base(at: &At, flow: &Flowing) -> u16
     u32::from(flow.backlog).min(reserve) as u16
 }
 
-/// Returns what a flow has before the rest is shared.
-fn base_minislots(at: &At, flow: &Flowing) -> u32
-    requires { IsPast at.now.frame flow.now }
-    ensures value { result ≡ taken_of at.now flow.now }
-    ensures within { taken_of at.now flow.now ≤ need_at at.now flow.now }
+/// Returns what is left of so many minislots once these grants are taken off.
+fn left_of_due(minislots: u16, pieces: &[Piece]) -> u16
+    requires { minislots_in pieces.now ≤ minislots }
+    ensures { result ≡ minislots - minislots_in pieces.now }
 {
-    // For the proof: what the type of `flow.set.get_fields()` keeps.
-    let _fields = flow.set.get_fields();
-    minislots_due(at, flow) + u32::from(base(at, flow))
+    let mut left = minislots;
+    for piece in pieces {
+        left -= piece.len;
+    }
+    left
 }
 
-/// Returns the minislots of the slice that are shared.
-pub(crate) fn room(flows: &[Flowing], at: &At) -> u16
-    requires past { All (IsPast at.now.frame) flows.now }
-    requires within { total_need at.now flows.now ≤ at.now.slice.length }
-    ensures value { result ≡ room_of at.now flows.now }
-    ensures fits { sum_by (taken_of at.now) flows.now ≤ at.now.slice.length }
+/// Returns what is left of so many minislots once the bases of these claims are taken off.
+fn left_of_bases(minislots: u16, claims: &[Claim]) -> u16
+    requires { sum_by (λ c. c.base) claims.now ≤ minislots }
+    ensures { result ≡ minislots - sum_by (λ c. c.base) claims.now }
 {
-    let mut room = u32::from(at.get_slice().get_length());
-    for flow in flows {
-        room -= base_minislots(at, flow);
+    let mut left = minislots;
+    for claim in claims {
+        left -= claim.base;
     }
-    room as u16
+    left
+}
+
+/// Returns the minislots of a slice that are shared: what is due and the bases are taken off.
+pub(crate) fn room(minislots: u16, due: &[Piece], claims: &[Claim]) -> u16
+    requires { minislots_in due.now + sum_by (λ c. c.base) claims.now ≤ minislots }
+    ensures { result ≡ minislots - (minislots_in due.now + sum_by (λ c. c.base) claims.now) }
+{
+    left_of_bases(left_of_due(minislots, due), claims)
 }
 
 /// Returns what a flow claims.
@@ -79,7 +87,19 @@ fn always_claims(flow: &Flowing, at: &At, ranking: &Ranking)
     let _policy = ranking.policy();
 }
 
-/// Returns what each flow that asks claims, in the flows' order.
+/// States that what a flow has before the rest is shared is no more than its parameter set needs.
+/// Does nothing.
+fn always_within(flow: &Flowing, at: &At)
+    requires { IsPast at.now.frame flow.now }
+    ensures { taken_of at.now flow.now ≤ need_at at.now flow.now }
+{
+    // For the proof: what the types of these numbers keep.
+    let _fields = flow.set.get_fields();
+    let _backlog = flow.backlog;
+    let _units = at.get_units();
+}
+
+/// Returns what each flow that asks claims, in the flows' order. Takes no memory if none asks.
 pub(crate) fn claims(
     alloc: Global,
     flows: &[Flowing],
@@ -90,11 +110,13 @@ pub(crate) fn claims(
     ensures items { IfOk result (λ claims. claims.items ≡ claims_of ranking.now.policy at.now (asking flows.now)) }
     ensures sound { IfOk result (λ claims. All IsClaim claims.items) }
     ensures all_sound { IfOk result (λ _. All IsClaim (claims_of ranking.now.policy at.now flows.now)) }
+    ensures fits { IfOk result (λ _. sum_by (taken_of at.now) flows.now ≤ total_need at.now flows.now) }
 {
-    let mut claims = Vec::with_capacity(alloc, flows.len())?;
+    let mut claims = Vec::new(alloc);
     for flow in flows {
-        // For the proof: what this flow claims has the numbers of a claim.
+        // For the proof: what this flow claims has the numbers of a claim, and its base is needed.
         always_claims(flow, at, ranking);
+        always_within(flow, at);
         if 0 < flow.backlog {
             claims.push(claim(flow, at, ranking))?;
         }

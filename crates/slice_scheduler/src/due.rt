@@ -2,8 +2,8 @@
 
 ghost use Rattle.std.specs.Prelude.{◌≡◌, ◌≤◌, ◌++◌, All, OnOk, IfOk, replicate};
 ghost use Rattle.std.specs.List.{flat_map};
-ghost use Rattle.slice_scheduler.specs.Due.{interval_of, ends_after, is_due, due_minislots, due_pieces, iuc_of};
-ghost use Rattle.slice_scheduler.specs.Servable.{IsPast, need_at};
+ghost use Rattle.slice_scheduler.specs.Due.{interval_of, ends_after, is_due, due_pieces, iuc_of};
+ghost use Rattle.slice_scheduler.specs.Servable.{IsPast};
 ghost use Rattle.slice_scheduler.specs.Wanted.{HasMinislots};
 
 use crate::flowing::{At, Flowing};
@@ -55,25 +55,6 @@ pub(crate) fn iuc_for(at: &At, minislots: u16) -> Iuc
         Iuc::Short
     } else {
         Iuc::Long
-    }
-}
-
-/// Returns the minislots that a flow is granted whatever it asks.
-pub(crate) fn minislots_due(at: &At, flow: &Flowing) -> u32
-    requires { IsPast at.now.frame flow.now }
-    ensures { result ≡ due_minislots at.now flow.now }
-{
-    if !due_now(at, flow) {
-        return 0;
-    }
-    let fields = flow.set.get_fields();
-    match fields.scheduling {
-        Scheduling::BestEffort => 0,
-        Scheduling::NonRealTimePolling | Scheduling::RealTimePolling => 1,
-        Scheduling::UnsolicitedGrant => {
-            u32::from(fields.grants_per_interval)
-                * at.get_units().minislots(u32::from(fields.grant_size))
-        }
     }
 }
 

@@ -18,11 +18,12 @@ use grant_policy::Ranking;
 use lists::Listed;
 use std::alloc::{AllocError, Global};
 
-/// Returns the SIDs of those that asked for more than they are granted.
+/// Returns the SIDs of those that asked for more than they are granted. Takes no memory if there is
+/// none.
 fn pending(alloc: Global, awards: &[Award]) -> Result<Vec<u16>, AllocError>
     ensures { IfOk result (λ sids. sids.items ≡ map (λ a. a.sid) (filter (λ a. nat_lt a.grant a.backlog) awards.now)) }
 {
-    let mut sids = Vec::with_capacity(alloc, awards.len())?;
+    let mut sids = Vec::new(alloc);
     for award in awards {
         if award.grant < award.backlog {
             sids.push(award.sid)?;
@@ -66,16 +67,16 @@ pub fn schedule(
     ensures busy { IfOk result (λ _. All (LeavesNothingIdle ranking.now.policy at.now flows.now) flows.now) }
     ensures granted { IfOk result (λ served. served.granted ≡ granted_of ranking.now.policy at.now flows.now) }
 {
-    let room = room(flows, at);
-    let claims = claims(alloc, flows, at, ranking)?;
-    let awards = awards(alloc, claims.as_slice(), room)?;
-    let ordered = order_awards(alloc, awards.as_slice())?;
-    let mut pieces = all_due(alloc, flows, at)?;
-    push_awards(&mut pieces, ordered.as_slice(), at)?;
     let slice = at.get_slice();
+    let mut pieces = all_due(alloc, flows, at)?;
+    let claims = claims(alloc, flows, at, ranking)?;
+    let room = room(slice.get_length(), pieces.as_slice(), claims.as_slice());
+    let awards = awards(alloc, claims.as_slice(), room)?;
+    let granted = grants_of_awards(alloc, awards.as_slice())?;
+    let ordered = order_awards(alloc, awards)?;
+    push_awards(&mut pieces, ordered.as_slice(), at)?;
     let spans = pack(alloc, &slice, pieces.as_slice())?;
     let pending = pending(alloc, ordered.as_slice())?;
-    let granted = grants_of_awards(alloc, awards.as_slice())?;
     Ok(Served {
         elements: Elements::new(ElementsFields {
             slice,

@@ -1,10 +1,12 @@
-use Rattle.std.proofs.Common.{◌∙◌, ap, subst, All, List, ◌++◌, ◌∷◌, []}
+use Rattle.std.proofs.Common.{◌≤◌, ◌∙◌, ap, arith, subst, All, List, ◌++◌, ◌∷◌, [], sum_by}
 use Rattle.std.proofs.lemmas.List.{take_all}
 use Rattle.std.proofs.lemmas.List.Elements.{All-push}
 use Rattle.slice_scheduler.specs.declared.claim.Claim.{Claim}
 use Rattle.slice_scheduler.specs.declared.flowing.Flowing.{Flowing}
-use Rattle.slice_scheduler.specs.Claims.{claims_of}
+use Rattle.slice_scheduler.specs.Claims.{claims_of, taken_of}
+use Rattle.slice_scheduler.specs.Servable.{need_at}
 use Rattle.slice_scheduler.specs.Wanted.{IsClaim, asking}
+use Rattle.slice_scheduler.proofs.MoreLemmas.{sum_by-more}
 use Rattle.slice_scheduler.proofs.AskingLemmas.{claims-more, claims-same, sound-more}
 use Rattle.slice_scheduler.proofs.claiming.claims.Goals as goal
 use Rattle.slice_scheduler.proofs.claiming.claims.Goals.{then-flow-gt0+in_ok-push, else-flow-gt0}
@@ -16,6 +18,8 @@ loop-flow-preserved g c =
     let flows = c.args.flows.now in
     let i = c.loop-flow.flow-index in
     let flow = c.flow-item.result in
+    let taken = sum_by-more flows i flow flow c.loop-flow-test.true c.flow-item.is (taken_of at) in
+    let need = sum_by-more flows i flow flow c.loop-flow-test.true c.flow-item.is (need_at at) in
     record {
       items = elim c.if-flow-gt0.branch [
         | then-flow-gt0+in_ok-push w ↦ rw w.claims-is (claims-more policy at flows i flow c.loop-flow.claims.items _ c.loop-flow-test.true c.flow-item.is w.if-flow-gt0.true c.loop-flow.invariant.items
@@ -27,6 +31,7 @@ loop-flow-preserved g c =
         | else-flow-gt0 w ↦ rw w.claims-is c.loop-flow.invariant.sound
       ];
       all_sound = sound-more policy at flows i flow c.loop-flow-test.true c.flow-item.is c.loop-flow.invariant.all_sound c.always_claims.ensures;
+      fits = omega (arith, taken, need, c.always_within.ensures);
     }
 
 pub returns : goal.returns
@@ -38,4 +43,5 @@ returns g c =
       items = c.loop-flow.invariant.items ∙ ap (λ (flows : List Flowing). claims_of policy at (asking flows)) whole;
       sound = c.loop-flow.invariant.sound;
       all_sound = subst (λ (flows : List Flowing). All IsClaim (claims_of policy at flows)) whole c.loop-flow.invariant.all_sound;
+      fits = subst (λ (flows : List Flowing). sum_by (taken_of at) flows ≤ sum_by (need_at at) flows) whole c.loop-flow.invariant.fits;
     }

@@ -1,5 +1,6 @@
-use Rattle.std.proofs.Common.{◌≡◌, All, take}
-use Rattle.slice_scheduler.specs.Claims.{claims_of}
+use Rattle.std.proofs.Common.{◌≡◌, ◌≤◌, All, sum_by, take}
+use Rattle.slice_scheduler.specs.Claims.{claims_of, taken_of}
+use Rattle.slice_scheduler.specs.Servable.{need_at}
 use Rattle.slice_scheduler.specs.Wanted.{IsClaim, asking}
 use Rattle.slice_scheduler.proofs.claiming.claims.Given as goal
 
@@ -8,4 +9,5 @@ invariant-loop-flow g l = record {
   items : l.claims.items ≡ claims_of l.ranking.policy l.at (asking (take l.flow-index l.flows));
   sound : All IsClaim l.claims.items;
   all_sound : All IsClaim (claims_of l.ranking.policy l.at (take l.flow-index l.flows));
+  fits : sum_by (taken_of l.at) (take l.flow-index l.flows) ≤ sum_by (need_at l.at) (take l.flow-index l.flows);
 }
