@@ -1,6 +1,11 @@
--- How the address of a modem is shown.
+-- How the address of a modem is hashed and shown.
 use Rattle.std.specs.Prelude.{ℕ, ◌+◌, ◌/◌, ◌%◌, List, [], ◌∷◌, slice_index, nat_lt, if◌then◌else◌}
+use Rattle.std.specs.Int.{w64, from_be_bytes}
 use Rattle.std.specs.List.{flat_map}
+
+-- the six bytes of an address as one number, the first byte highest
+abbrev pub address_number : List ℕ → ℕ
+address_number address = from_be_bytes w64 (0 ∷ 0 ∷ address)
 
 -- the upper-case hexadecimal digit of a number below 16, as its character
 abbrev pub hex_digit : ℕ → ℕ

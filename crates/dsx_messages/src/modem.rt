@@ -2,13 +2,15 @@
 
 ghost use Rattle.std.specs.Prelude.{Some, bytes_eq};
 ghost use Rattle.std.specs.Cmp.{on_equiv, on_per, partial_equiv_from_equiv};
-ghost use Rattle.std.specs.Cmp.Lexicographic.{nat_list_eq_equiv};
-ghost use Rattle.dsx_messages.specs.Modem.{hex_pair, hex_digits};
+ghost use Rattle.std.specs.Cmp.Lexicographic.{bytes_decides, nat_list_eq_equiv};
+ghost use Rattle.std.specs.Hash as fed;
+ghost use Rattle.dsx_messages.specs.Modem.{address_number, hex_pair, hex_digits};
 
 use std::fmt::{self, Display};
+use std::hash::{Hash, Hasher};
 
 /// The hardware address of a cable modem, shown as 12 upper-case hexadecimal digits with nothing between them.
-#[derive(Clone, Copy, Debug, Hash)]
+#[derive(Clone, Copy, Debug)]
 pub struct Modem(pub [u8; 6]);
 
 impl PartialEq for Modem {
@@ -26,6 +28,18 @@ impl PartialEq for Modem {
 
 impl Eq for Modem {
     ghost laws = { on_equiv (λ m. m.0) nat_list_eq_equiv };
+}
+
+impl Hash for Modem {
+    ghost hash_input = { λ m. fed.u64 (address_number m.0) };
+
+    ghost respects_eq = { (fed.on_Alike (λ m. m.0) (fed.same_Alike (λ address. fed.u64 (address_number address)) bytes_decides)).fed };
+
+    /// Hashes the address as one number of 64 bits: a hasher takes it in one step.
+    fn hash<H: Hasher>(&self, state: &mut H) {
+        let [a, b, c, d, e, f] = self.0;
+        state.write_u64(u64::from_be_bytes([0, 0, a, b, c, d, e, f]));
+    }
 }
 
 /// A byte, shown as two upper-case hexadecimal digits.
