@@ -1,8 +1,8 @@
 -- What is planned of an action, and what becomes of the state when the plan is committed (implementation-specific).
-use Rattle.std.specs.Prelude.{◌≡◌, ◌<◌, ◌+◌, ℕ, List, [], ◌∷◌, ◌++◌, drop, length, find, None, IsNone}
+use Rattle.std.specs.Prelude.{◌≡◌, ◌<◌, ◌+◌, ℕ, List, [], ◌∷◌, ◌++◌, drop, length, find, position, Some, None, IsNone}
 use Rattle.dsx_messages.specs.declared.kind.Kind.{Kind}
 use Rattle.dsx_messages.specs.declared.modem.Modem.{Modem}
-use Rattle.transactions.specs.Entry.{is_of}
+use Rattle.transactions.specs.Entry.{is_of, waits_for}
 use Rattle.transactions.specs.Keeping.{begun_entry}
 use Rattle.transactions.specs.Timers.{kept_after, given_up_in}
 use Rattle.flow_table.specs.Flow.{flow_after_request}
@@ -41,7 +41,7 @@ state_after_request op sfid minislots = (with_change op sfid (flow_after_request
 abbrev pub state_after_handling : HandledEffect → Operator → OperatorState
 state_after_handling handled.Nothing op = op.state
 state_after_handling (handled.Response modem tid kind reply verdict) op = state_after_response op modem tid kind reply (verdict_of verdict)
-state_after_handling (handled.Acknowledged modem tid kind code) op = (ack_result op modem tid kind code).state
+state_after_handling (handled.Acknowledged place modem tid kind code) op = (ack_result op modem tid kind code).state
 state_after_handling (handled.Requested sfid minislots) op = state_after_request op sfid minislots
 
 -- the timers have counted a tick, these grants are taken off the backlogs, and the next frame follows
@@ -76,7 +76,7 @@ pub record MayRespond (op : Operator) (modem : Modem) (tid : ℕ) (verdict : Ver
 abbrev pub MayHandle : Operator → HandledEffect → Type 0
 MayHandle op handled.Nothing = Unit {0}
 MayHandle op (handled.Response modem tid kind reply verdict) = MayRespond op modem tid (verdict_of verdict)
-MayHandle op (handled.Acknowledged modem tid kind code) = Unit {0}
+MayHandle op (handled.Acknowledged place modem tid kind code) = position (waits_for modem tid kind) op.state.kept ≡ Some place
 MayHandle op (handled.Requested sfid minislots) = Unit {0}
 
 abbrev pub MayCommit : Operator → Effect → Type 0

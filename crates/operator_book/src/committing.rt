@@ -1,7 +1,7 @@
 //! How a plan is committed.
 
-ghost use Rattle.std.specs.Prelude.{◌≡◌, ◌<◌, drop, length, find, IsNone, IfOk, OnOk, OnErr};
-ghost use Rattle.transactions.specs.Entry.{is_of};
+ghost use Rattle.std.specs.Prelude.{◌≡◌, ℕ, ◌<◌, Some, drop, length, find, position, IsNone, IfOk, OnOk, OnErr};
+ghost use Rattle.transactions.specs.Entry.{is_of, waits_for};
 ghost use Rattle.flow_table.specs.Flow.{flow_after_ack, flow_after_request};
 ghost use Rattle.operator_model.specs.Changed.{with_flows, with_change, with_inbox};
 ghost use Rattle.operator_model.specs.Handle.{undone, flows_after, ack_result};
@@ -73,12 +73,13 @@ impl MachineState {
                 verdict,
             } => self.respond(modem, tid, kind, reply, verdict),
             HandledEffect::Acknowledged {
-                modem,
-                tid,
+                place,
+                modem: _,
+                tid: _,
                 kind,
                 code,
             } => {
-                self.acknowledge(modem, tid, kind, code);
+                self.acknowledge(place, kind, code);
                 Ok(())
             }
             HandledEffect::Requested { sfid, minislots } => {
@@ -136,13 +137,14 @@ impl MachineState {
         }
     }
 
-    /// Takes an acknowledgement: code 0 commits what waits of the flow, another undoes it.
-    fn acknowledge(&mut self, modem: Modem, tid: u16, kind: Kind, code: u8)
-        ensures { self.new ≡ record self.old { state = (ack_result self.old modem tid kind code).state } }
+    /// Takes the acknowledgement for which the response at `place` waits: code 0 commits what waits
+    /// of the flow, another undoes it.
+    fn acknowledge(&mut self, place: usize, kind: Kind, code: u8)
+        requires { place < length self.old.state.kept }
+        ensures { (modem : Modem) (tid : ℕ) → position (waits_for modem tid kind) self.old.state.kept ≡ Some place
+            → self.new ≡ record self.old { state = (ack_result self.old modem tid kind code).state } }
     {
-        let Some(sfid) = self.kept.acked(modem, tid, kind) else {
-            return;
-        };
+        let sfid = self.kept.acked_at(place);
         if code == 0 {
             self.commit_pending(sfid);
         } else {

@@ -1,12 +1,10 @@
 //! The plan of what was received: to take it in, and to handle it.
 
-ghost use Rattle.std.specs.Prelude.{◌≡◌, Result, Ok, Err, IfOk, IfErr, OnOk, find};
-ghost use Rattle.std.specs.Option.{option_copied};
+ghost use Rattle.std.specs.Prelude.{◌≡◌, Result, Ok, Err, IfOk, IfErr, OnOk};
 ghost use Rattle.dsx_messages.specs.declared.message.Message.{Message};
 ghost use Rattle.dsx_messages.specs.declared.fault.MessageFault.{MessageFault};
 ghost use Rattle.lists.specs.Results.{Fails, Gives};
 ghost use Rattle.dsx_messages.specs.Reading.{message_cause};
-ghost use Rattle.transactions.specs.Entry.{waits_for};
 ghost use Rattle.operator_model.specs.declared.verdict.Verdict.TheVariants.{Refused};
 ghost use Rattle.operator_model.specs.Handle.{silent, transaction_result, ack_result, message_handled, bandwidth_request_result};
 ghost use Rattle.operator_model.specs.Machine.{work_result, arrival_result};
@@ -20,17 +18,6 @@ use crate::refusal::{encoding_refusal, refusal};
 use dsx_messages::{Code, Kind, Message, MessageFault, Modem, Reply, Request, read};
 use operator_model::{Arrival, Cause, Heard, Output};
 use std::alloc::{AllocError, Global};
-use transactions::{KeptEntry, ResponseState};
-
-/// Returns whether a cached response waits for this acknowledgement.
-fn waits_for(entry: &KeptEntry, modem: Modem, tid: u16, kind: Kind) -> bool
-    ensures { result ≡ waits_for modem tid kind entry.now }
-{
-    entry.modem == modem
-        && entry.tid == tid
-        && entry.standing == ResponseState::Waiting
-        && entry.kind == kind
-}
 
 impl MachineState {
     /// Plans that what was received first gets no reply, for this cause.
@@ -66,16 +53,6 @@ impl MachineState {
         self.response_plan(alloc, modem, kind, tid, BoxedVerdict::Refused { reply })
     }
 
-    /// Returns the response that waits for this acknowledgement.
-    fn waiting_response(&self, modem: Modem, tid: u16, kind: Kind) -> Option<&KeptEntry>
-        ensures { option_copied result ≡ find (waits_for modem tid kind) self.now.state.kept }
-    {
-        self.kept
-            .entries()
-            .iter()
-            .find(|entry| waits_for(entry, modem, tid, kind))
-    }
-
     /// Plans an acknowledgement: code 0 commits, another takes back.
     fn ack_plan(
         &self,
@@ -87,12 +64,13 @@ impl MachineState {
     ) -> Result<Plan, AllocError>
         ensures { IfOk result (IsPlanOfFirst self.now (ack_result self.now modem tid kind code)) }
     {
-        let Some(_waiting) = self.waiting_response(modem, tid, kind) else {
+        let Some(place) = self.kept.waiting_place(modem, tid, kind) else {
             return self.silent_plan(alloc, modem, Cause::UnknownAck);
         };
         Ok(Plan {
             outputs: Vec::new(alloc),
             effect: Effect::Handled(HandledEffect::Acknowledged {
+                place,
                 modem,
                 tid,
                 kind,

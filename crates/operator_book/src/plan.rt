@@ -47,9 +47,10 @@ pub(crate) enum HandledEffect {
         reply: Bytes,
         verdict: BoxedVerdict,
     },
-    /// The response that waits for this acknowledgement is held, and what waits of its flow is
-    /// committed or undone.
+    /// The response at this place, which waits for this acknowledgement, is held, and what waits of
+    /// its flow is committed or undone.
     Acknowledged {
+        place: usize,
         modem: Modem,
         tid: u16,
         kind: Kind,

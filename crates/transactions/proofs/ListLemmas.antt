@@ -1,5 +1,5 @@
 -- Lists that a pass takes from, changes, or writes to at one place.
-use Rattle.std.proofs.Common.{◌≡◌, ℕ, zero, suc, ◌+◌, ◌<◌, ◌≤◌, Bool, true, false, cond, List, [], ◌∷◌, ◌++◌, length, get_or, set, take, slice_get, nat_lt, map, filter, count_by, Some, None, All, refl, sym, ap, ◌∙◌, subst, arith}
+use Rattle.std.proofs.Common.{◌≡◌, ℕ, zero, suc, ◌+◌, ◌<◌, ◌≤◌, Bool, true, false, cond, List, [], ◌∷◌, ◌++◌, length, get_or, set, take, slice_get, nat_lt, map, filter, count_by, Option, Some, None, is_some, IsSome, IfSome, IfNone, All, refl, sym, ap, ◌∙◌, subst, arith}
 use Rattle.std.specs.List.Retain.{RetainsInTurn}
 use Rattle.std.specs.List.{find, position, position_or_len}
 use Rattle.std.proofs.lemmas.Bool.{true≢false, ltb-false}
@@ -111,6 +111,12 @@ module _ {X : Type 0} (p : X → Bool) where
       past : (b : Bool) → cond b (Some (position_or_len p xs)) None ≡ None → b ≡ false
       past true e = absurd (none-some _ (sym e))
       past false e = refl
+
+  -- one is found where there is a place, and only there
+  pub found_at : (xs : List X) (place : Option ℕ) → place ≡ position p xs → IfSome place (λ _. IsSome (find p xs)) × IfNone place (find p xs ≡ None)
+  found_at xs None is = (tt, find-no_position xs (sym is))
+  found_at [] (Some i) is = absurd (none-some i (sym is))
+  found_at (x ∷ xs) (Some i) is = (ap is_some (find-position (x ∷ xs) i x (sym is)), tt)
 
   module _ (change : X → X) where
     abbrev changed : List X → List X

@@ -1,6 +1,6 @@
 //! The cached responses of all transactions.
 
-ghost use Rattle.std.specs.Prelude.{◌≡◌, ◌≢◌, ◌≤◌, ◌<◌, ◌↔◌, [], ◌∷◌, ◌++◌, length, All, find, position, map, count_by, option_map, IsTrue, IsSome, IsNone, IsOk, IfOk, OnOk, OnErr};
+ghost use Rattle.std.specs.Prelude.{◌≡◌, ℕ, ◌≢◌, ◌≤◌, ◌<◌, ◌↔◌, [], ◌∷◌, ◌++◌, length, All, find, position, map, count_by, option_map, IsTrue, IsSome, IsNone, IfSome, IfNone, IsOk, IfOk, OnOk, OnErr};
 ghost use Rattle.std.specs.Option.{option_copied};
 ghost use Rattle.transactions.specs.Waits.{IsLasting};
 ghost use Rattle.transactions.specs.Entry.{is_of, waits_for};
@@ -45,8 +45,8 @@ impl Model for Kept {
 }
 
 impl Kept {
-    /// Returns no entries, and room for `capacity` of them. Besides `tick`, no other call takes
-    /// memory.
+    /// Returns no entries, and room for `capacity` of them. Of the other calls only `tick`, `resends`
+    /// and `given_ups` take memory.
     pub fn new(alloc: Global, capacity: u32, timers: Timers) -> Result<Kept, AllocError>
         ensures { IfOk result (λ kept. kept ≡ record { capacity = capacity; waits = timers; entries = [] }) }
     {
@@ -146,11 +146,35 @@ impl Kept {
             { entries = map (entry_after_ack self.old.waits modem tid kind) self.old.entries } }
         ensures none { result ≡ None → self.new ≡ self.old }
     {
-        let place = waiting_place(&self.entries, modem, tid, kind)?;
+        let place = self.waiting_place(modem, tid, kind)?;
+        Some(self.acked_at(place))
+    }
+
+    /// Returns where the entry is that waits for this acknowledgement, counted from 0.
+    pub fn waiting_place(&self, modem: Modem, tid: u16, kind: Kind) -> Option<usize>
+        ensures place { result ≡ position (waits_for modem tid kind) self.now.entries }
+        ensures within { IfSome result (λ place. place < length self.now.entries) }
+        ensures found { IfSome result (λ _. IsSome (find (waits_for modem tid kind) self.now.entries)) }
+        ensures none { IfNone result (find (waits_for modem tid kind) self.now.entries ≡ None) }
+    {
+        place_waiting_for(self.entries.as_slice(), modem, tid, kind)
+    }
+
+    /// Takes the acknowledgement for which the entry at `place` waits, as `acked` does, and returns
+    /// the entry's SFID. Looks at no other entry: the caller has the place from `waiting_place`.
+    pub fn acked_at(&mut self, place: usize) -> u32
+        requires { place < length self.old.entries }
+        ensures sfid { (modem : Modem) (tid : ℕ) (kind : Kind) → position (waits_for modem tid kind) self.old.entries ≡ Some place
+            → Some result ≡ option_map (λ e. e.sfid) (find (waits_for modem tid kind) self.old.entries) }
+        ensures state { (modem : Modem) (tid : ℕ) (kind : Kind) → position (waits_for modem tid kind) self.old.entries ≡ Some place
+            → self.new ≡ record self.old { entries = map (entry_after_ack self.old.waits modem tid kind) self.old.entries } }
+        ensures capacity { self.new.capacity ≡ self.old.capacity }
+        ensures waits { self.new.waits ≡ self.old.waits }
+    {
         let timers = self.timers;
         let entry = &mut self.entries[place];
         entry.hold(timers);
-        Some(entry.sfid)
+        entry.sfid
     }
 
     /// Counts one tick: retransmits responses, abandons those that were never acknowledged, and
@@ -238,8 +262,8 @@ impl Kept {
     }
 }
 
-/// Returns where the entry is that waits for this acknowledgement.
-fn waiting_place(entries: &[KeptEntry], modem: Modem, tid: u16, kind: Kind) -> Option<usize>
+/// Returns where the entry is that waits for this acknowledgement, counted from 0.
+fn place_waiting_for(entries: &[KeptEntry], modem: Modem, tid: u16, kind: Kind) -> Option<usize>
     ensures { result ≡ position (waits_for modem tid kind) entries.now }
 {
     entries
