@@ -1,19 +1,19 @@
 -- A state that a machine can go on from has no fault.
-use Rattle.std.proofs.Common.{◌≡◌, ◌≢◌, ℕ, zero, suc, ◌+◌, ◌<◌, ◌≤◌, ◌==◌, ◌&&◌, ◌||◌, Bool, true, false, not, cond, nat_le, nat_lt, List, [], ◌∷◌, ◌++◌, length, map, get_or, All, ◌⊎◌, Option, Some, None, IsSome, IfSome, is_some, count_by, sum_by, refl, sym, ap, ◌∙◌, subst, arith, inl, inr}
-use Rattle.std.specs.Prelude.{AllPairs, find}
-use Rattle.std.specs.List.{Contains, AllByRecursion, cons_option, filter_map, list_any}
+use Rattle.std.proofs.Common.{◌≡◌, ◌≢◌, ℕ, zero, suc, ◌+◌, ◌<◌, ◌≤◌, ◌==◌, ◌&&◌, Bool, true, false, not, cond, nat_lt, List, [], ◌∷◌, ◌++◌, length, map, get_or, All, ◌⊎◌, Option, Some, None, IsSome, IfSome, is_some, count_by, refl, sym, ap, ◌∙◌, subst, arith, inl, inr}
+use Rattle.std.specs.Prelude.{find}
+use Rattle.std.specs.List.{Contains, cons_option, list_any}
 use Rattle.std.specs.List.Sorted.{IsStrictlySortedBy}
 use Rattle.std.specs.Option.{option_or}
 use Rattle.std.specs.declared.cmp.Ordering.{Ordering}
 use Rattle.std.specs.declared.cmp.Ordering.TheVariants.{Less, Equal, Greater}
 use Rattle.std.specs.Ordering.{nat_cmp, match_ordering, MatchOrdering}
-use Rattle.std.specs.Map.{keys_of, values_of}
+use Rattle.std.specs.Map.{keys_of}
 use Rattle.std.specs.BTreeMap.{insert_entry}
-use Rattle.std.proofs.lemmas.Bool.{le-ltb, lt-leb, ltb-false, eq-eqb, eqb-true, ne_eqb, and_from, and_parts, or_from, and_left, and_right, not_from_true, true≢false, cases_Bool, cases_eq, cases_order, false_from_ne_true, lt-ltb, ltb-true}
+use Rattle.std.proofs.lemmas.Bool.{le-ltb, lt-leb, eq-eqb, eqb-true, ne_eqb, and_from, and_parts, or_from, not_from_true, true≢false, false_from_ne_true}
 use Rattle.std.specs.Str.{bytes_eq}
 use Rattle.std.proofs.lemmas.Slice.Eq.{bytes_eq-Decides}
-use Rattle.std.proofs.lemmas.Option.{none-some, same_Some}
-use Rattle.std.proofs.lemmas.List.Elements.{All-nil, All-cons, All-head, All-tail, Contains-append_right, Contains-push}
+use Rattle.std.proofs.lemmas.Option.{none-some}
+use Rattle.std.proofs.lemmas.List.Elements.{All-nil, All-cons, All-head, All-tail, Contains-append_right}
 use Rattle.std.proofs.lemmas.List.Folds.{list_any_none}
 use Rattle.std.proofs.lemmas.List.{append_assoc}
 use Rattle.std.proofs.lemmas.List.Sums.{sum_by-cons, sum_by-append}
@@ -36,17 +36,17 @@ use Rattle.transactions.specs.Keeping.{OneEach, HasTicks, IsHeldUnsent}
 use Rattle.flow_table.specs.declared.flow.Flow.{Flow}
 use Rattle.flow_table.specs.declared.flow.Pending.{Pending}
 use Rattle.flow_table.specs.Flow.{asks_for_grants}
-use Rattle.flow_table.specs.Table.{sfids_of, sids_of, flow_at, flow_with, sid_if, is_sid, with_flow, committed_minislots, committed_elements, HaveOwnSids}
+use Rattle.flow_table.specs.Table.{sids_of, flow_at, flow_with, sid_if, is_sid, with_flow, committed_minislots, committed_elements, HaveOwnSids}
 use Rattle.flow_table.proofs.EntryLemmas.{looked_first, looked_past}
-use Rattle.flow_table.proofs.IndexLemmas.{cases_sid, none_of, is_sid_no}
+use Rattle.flow_table.proofs.IndexLemmas.{cases_sid, none_of}
 use Rattle.operator_model.specs.declared.share.Share.{Share}
 use Rattle.operator_model.specs.declared.share.NextShare.{NextShare}
 use Rattle.operator_model.specs.declared.heard.Arrival.{Arrival}
-use Rattle.operator_model.specs.State.{OperatorState, operator}
-use Rattle.operator_model.specs.Sound.{IsSoundFlow, IsSoundPending, IsNew, IsWaitingOf, HasItsFlow, HaveOwnFlows, IsShare, IsNextShare, IsSound}
+use Rattle.operator_model.specs.State.{OperatorState}
+use Rattle.operator_model.specs.Sound.{IsSoundFlow, IsSoundPending, IsWaitingOf, HasItsFlow, HaveOwnFlows, IsShare, IsNextShare}
 use Rattle.operator_book.specs.declared.state_fault.StateFault.{StateFault}
 use Rattle.operator_book.specs.declared.state_fault.StateFault.TheVariants as faults
-use Rattle.operator_book.specs.Resuming.{IsStateUnder, fault_where, first_fault_in, modem_fault, is_out_of, sid_fault, lacks_sid, has_stray_backlog, same_params, same_set, pending_fault, standing_fault, flow_fault, is_not_after, order_fault, sid_twice_fault, sids_fault, is_unset, does_await, response_fault, awaits_flow, pairs_fault, is_off_time, entry_fault, entries_fault, share_fault, next_fault, counts_fault, committed_fault, parts_fault, table_fault, state_fault}
+use Rattle.operator_book.specs.Resuming.{IsStateUnder, fault_where, first_fault_in, modem_fault, is_out_of, sid_fault, same_params, same_set, pending_fault, standing_fault, flow_fault, order_fault, sid_twice_fault, sids_fault, is_unset, does_await, response_fault, awaits_flow, pairs_fault, is_off_time, entries_fault, share_fault, next_fault, counts_fault, committed_fault, parts_fault, table_fault, state_fault}
 
 -- ---- no fault
 

@@ -8,7 +8,6 @@ use Rattle.dsx_messages.specs.declared.kind.Kind.{Kind}
 use Rattle.dsx_messages.specs.declared.kind.Kind.TheVariants.{Dsa, Dsc, Dsd}
 use Rattle.dsx_messages.specs.declared.modem.Modem.{Modem}
 use Rattle.param_sets.specs.Scheduling.{scheduling_number}
-use Rattle.param_sets.specs.Units.{UnitSizes}
 use Rattle.param_sets.specs.declared.param_set.ParamFields.{ParamFields}
 use Rattle.param_sets.specs.declared.sets.SetsFields.{SetsFields}
 use Rattle.param_sets.specs.Sets.{AreNested}
@@ -22,7 +21,6 @@ use Rattle.flow_table.specs.declared.flow.Flow.{Flow}
 use Rattle.flow_table.specs.declared.flow.Pending.{Pending}
 use Rattle.flow_table.specs.Flow.{asks_for_grants}
 use Rattle.flow_table.specs.Table.{flow_at, flow_with, with_flow, committed_minislots, committed_elements}
-use Rattle.operator_model.specs.declared.heard.Arrival.{Arrival}
 use Rattle.operator_model.specs.declared.share.Share.{Share}
 use Rattle.operator_model.specs.declared.share.NextShare.{NextShare}
 use Rattle.operator_model.specs.State.{OperatorState, operator}

@@ -1,4 +1,4 @@
-use Rattle.std.proofs.Common.{◌≡◌, ℕ, List, All, take, length, sym, arith}
+use Rattle.std.proofs.Common.{ℕ, take, sym, arith}
 use Rattle.std.proofs.lemmas.List.{take_all}
 use Rattle.std.proofs.lemmas.List.Elements.{All-more, at_read, All-same}
 use Rattle.flow_table.specs.declared.flow.Flow.{Flow}

@@ -1,4 +1,4 @@
-use Rattle.std.proofs.Common.{◌≡◌, ◌≤◌, ℕ, List, All, IfSome, subst, rules}
+use Rattle.std.proofs.Common.{◌≤◌, ℕ, List, All, IfSome, subst, rules}
 use Rattle.flow_table.specs.declared.flow.Flow.{Flow}
 use Rattle.operator_book.specs.Resuming.{IsTypedFlow}
 use Rattle.operator_book.proofs.SoundState.{sound_state}
