@@ -1,27 +1,23 @@
 //! Serving a plant as long as there are lines.
 
-ghost use Rattle.run_model.specs.Starts.{Start};
-ghost use Rattle.std.specs.Prelude.{◌≡◌, [], ◌∷◌, List, ℕ, Option, map, Err, IfOk, OnOk, IfSome};
-ghost use Rattle.plant.specs.declared.plant.PlantFields.{PlantFields};
-ghost use Rattle.run_model.specs.declared.step.Out.{Out};
-ghost use Rattle.run_model.specs.declared.step.Step.{Step};
+ghost use Rattle.std.specs.Prelude.{◌≡◌, [], List, ℕ, map, Err, IfOk, OnOk, IfSome};
 ghost use Rattle.live_core.specs.After.{BehindEachRun, IsAfter, IsReachableFromStart};
 ghost use Rattle.live_core.specs.LiveView.{live_view};
 ghost use Rattle.line_service.specs.Service.{IsServiceOf};
-ghost use Rattle.line_service.specs.SoFar.{IsHeld, LineIsAnswered, IsServedSoFar};
+ghost use Rattle.line_service.specs.SoFar.{IsHeld, LineIsAnswered};
 ghost use Rattle.json_service.specs.declared.serving.ServiceFault.TheVariants as faults;
 ghost use Rattle.json_service.specs.Served.{IsServedFromOpening};
 
 use crate::answering::answer_line;
 use crate::step_notes::StepNotes;
 use grant_policy::Ranking;
-use line_service::{LineBuffer, LineOutcome, next_byte, next_number, write_end};
+use line_service::{LineBreak, LineBuffer, LineOutcome, next_number, read_line, write_end};
 use live_core::LiveCore;
 use plant::Plant;
 use plant_core::CoreOpenFault;
 use std::alloc::{AllocError, Global};
 use std::io;
-use std::io::Read;
+use std::io::BufRead;
 
 /// Why a service ended before its input did.
 #[derive(Clone, Copy, Debug, PartialEq, Eq)]
@@ -73,35 +69,8 @@ fn answer_held<W: StepNotes>(
     answer_begun(alloc, core, number, held, writer)
 }
 
-/// Takes a byte more of a script: where a line ends it is answered, and the next one begins.
-fn take_byte<W: StepNotes>(
-    alloc: Global,
-    core: &mut LiveCore,
-    number: &mut u64,
-    held: &mut LineBuffer,
-    byte: u8,
-    writer: &mut W,
-) -> io::Result<()>
-    requires reached { IsReachableFromStart (live_view core.old) }
-    ensures reached { OnOk result (IsReachableFromStart (live_view core.new)) }
-    ensures on { OnOk result ((plant : PlantFields) (start : Start) (before : List Step) (shown : List Out) (input rest : List ℕ)
-        (written : Option (List ℕ)) → IsServedSoFar plant start before shown input (byte ∷ rest) held.old.bytes.items
-        held.old.is_long number.old (live_view core.old) written (W.contents writer.old)
-        → IsServedSoFar plant start before shown input rest held.new.bytes.items held.new.is_long number.new
-        (live_view core.new) written (W.contents writer.new)) }
-{
-    if byte != b'\n' {
-        held.push(byte)?;
-        return Ok(());
-    }
-    answer_held(alloc, core, *number, held, writer)?;
-    *number = next_number(*number)?;
-    held.clear();
-    Ok(())
-}
-
 /// Serves the plant as `serve` of `line_service` does, and notes before each step what decides it.
-fn serve<R: Read, W: StepNotes>(
+fn serve<R: BufRead, W: StepNotes>(
     alloc: Global,
     core: &mut LiveCore,
     mut held: LineBuffer,
@@ -117,10 +86,13 @@ fn serve<R: Read, W: StepNotes>(
 {
     let mut number = 1u64;
     for _ in 0..u64::MAX {
-        match next_byte(reader)? {
-            None => return answer_held(alloc, core, number, &held, writer),
-            Some(byte) => take_byte(alloc, core, &mut number, &mut held, byte, writer)?,
+        let end = read_line(reader, &mut held)?;
+        answer_held(alloc, core, number, &held, writer)?;
+        match end {
+            LineBreak::Another => number = next_number(number)?,
+            LineBreak::End => return Ok(()),
         }
+        held.clear();
     }
     Err(io::Error::from(io::ErrorKind::Other))
 }
@@ -139,8 +111,8 @@ fn core_of(alloc: Global, plant: Plant, rankings: Vec<Ranking>) -> Result<LiveCo
 
 /// Serves a plant as it is opened: reads lines of a script for as long as there are any, and answers each before it reads the next.
 /// The answers are those of `serve` of `line_service`, and before each step the writer notes what decides what the step outputs.
-/// The rankings are in the plant's order of operators. It reads a byte at a time: give it a reader with a buffer.
-pub fn serve_ranked<R: Read, W: StepNotes>(
+/// The rankings are in the plant's order of operators.
+pub fn serve_ranked<R: BufRead, W: StepNotes>(
     alloc: Global,
     plant: Plant,
     rankings: Vec<Ranking>,

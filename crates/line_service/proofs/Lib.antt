@@ -2,4 +2,5 @@ pub mod FrontLemmas
 pub mod LeftLemmas
 pub mod StepLemmas
 pub mod LineLemmas
+pub mod ReadLemmas
 pub mod ServiceLemmas

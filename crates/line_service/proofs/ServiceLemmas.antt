@@ -1,6 +1,6 @@
 -- The lines of a service, one after the other.
 use Rattle.run_model.specs.Starts.{Start}
-use Rattle.std.proofs.Common.{◌≡◌, ℕ, suc, ◌+◌, length, arith, ◌==◌, Bool, true, false, List, [], ◌∷◌, ◌++◌, Option, Some, None, IfSome, refl, sym, ap, subst, ◌∙◌, append_assoc, append-nil, length-append}
+use Rattle.std.proofs.Common.{◌≡◌, ℕ, suc, ◌+◌, length, arith, Bool, List, [], ◌∷◌, ◌++◌, Option, Some, None, IfSome, refl, sym, ap, subst, ◌∙◌, append_assoc, append-nil, length-append}
 use Rattle.std.specs.Io.KnownBytes.{Appends}
 use Rattle.std.proofs.KnownBytes.{Appends-nil, Appends-trans}
 use Rattle.std.proofs.lemmas.Grind.{flat_map-append}
@@ -10,8 +10,10 @@ use Rattle.run_model.specs.declared.step.Out.{Out}
 use Rattle.run_model.specs.IsStateAfter.{CoreView}
 use Rattle.live_core.specs.After.{IsAfterFrom}
 use Rattle.live_core.proofs.LawLemmas.{live_shown, live_ordered}
-use Rattle.script_format.specs.Lines.{parts_of, parts_from}
-use Rattle.line_service.specs.Bytes.{Takes, WhereKnown}
+use Rattle.script_format.specs.Lines.{lines_of}
+use Rattle.line_service.specs.declared.line_break.LineBreak.{LineBreak}
+use Rattle.line_service.specs.Bytes.{WhereKnown}
+use Rattle.line_service.specs.Lines.{lines_left, IsLineRead}
 use Rattle.line_service.specs.Service.{LineRun, answer_text, IsAnswer, AreAnswered, service_text, all_done, all_told, IsServiceOf, ServiceIsShown}
 use Rattle.line_service.specs.SoFar.{IsHeld, LineIsAnswered, IsServedSoFar}
 
@@ -53,55 +55,30 @@ text_more plant number (b ∷ bs) a =
 
 module _ (plant : PlantFields) (start : Start) (before : List Step) (shown : List Out) where
   -- nothing is read yet
-  pub begun : (input : List ℕ) (bytes : List ℕ) (is_long : Bool) (live : CoreView) (known : Option (List ℕ)) → IsHeld bytes is_long [] → IsAfterFrom plant start before shown live
-      → IsServedSoFar plant start before shown input input bytes is_long 1 live known known
-  unfolding parts_of
-  begun input bytes is_long live known held after = record {
+  pub begun : (input : List ℕ) (live : CoreView) (known : Option (List ℕ)) → IsAfterFrom plant start before shown live
+      → IsServedSoFar plant start before shown input (lines_of input) 1 live known known
+  begun input live known after = record {
     lines = [];
-    part = [];
     answers = [];
     lines_are = refl;
-    is_held = held;
     number_is = refl;
     answered = tt;
     after = subst (λ (s : List Step). IsAfterFrom plant start s (shown ++ []) live) (sym (append-nil before)) (subst (λ (o : List Out). IsAfterFrom plant start before o live) (sym (append-nil shown)) after);
     written = Appends-nil known;
   }
 
-  -- the byte within a line
-  within : (byte : ℕ) (part rest : List ℕ) → (byte == 10) ≡ false → parts_from 10 part (byte ∷ rest) ≡ parts_from 10 (part ++ byte ∷ []) rest
-  within byte part rest other =
-      ap (λ (t : Bool). elim t [ true ↦ part ∷ parts_from 10 [] rest | false ↦ parts_from 10 (part ++ byte ∷ []) rest ]) other
-
-  pub byte_read : (input rest : List ℕ) (bytes new_bytes : List ℕ) (is_long new_long : Bool) (number byte : ℕ) (live : CoreView) (w0 w1 : Option (List ℕ)) → (byte == 10) ≡ false
-      → IsServedSoFar plant start before shown input (byte ∷ rest) bytes is_long number live w0 w1
-      → ((part : List ℕ) → IsHeld bytes is_long part → IsHeld new_bytes new_long (part ++ byte ∷ []))
-      → IsServedSoFar plant start before shown input rest new_bytes new_long number live w0 w1
-  unfolding within
-  byte_read input rest bytes new_bytes is_long new_long number byte live w0 w1 other so_far held = record {
-    lines = so_far.lines;
-    part = so_far.part ++ byte ∷ [];
-    answers = so_far.answers;
-    lines_are = so_far.lines_are ∙ ap (λ (ls : List (List ℕ)). so_far.lines ++ ls) (within byte so_far.part rest other);
-    is_held = held so_far.part so_far.is_held;
-    number_is = so_far.number_is;
-    answered = so_far.answered;
-    after = so_far.after;
-    written = so_far.written;
-  }
-
   -- all that is answered with a line more
-  module _ (input rest : List ℕ) (bytes : List ℕ) (is_long : Bool) (number : ℕ) (old live : CoreView) (w0 w1 w2 : Option (List ℕ))
-      (so_far : IsServedSoFar plant start before shown input rest bytes is_long number old w0 w1)
-      (new : LineIsAnswered plant start (before ++ all_done so_far.answers) (shown ++ all_told so_far.answers) number so_far.part live w1 w2) where
+  module _ (input line : List ℕ) (left : List (List ℕ)) (number : ℕ) (old live : CoreView) (w0 w1 w2 : Option (List ℕ))
+      (so_far : IsServedSoFar plant start before shown input (line ∷ left) number old w0 w1)
+      (new : LineIsAnswered plant start (before ++ all_done so_far.answers) (shown ++ all_told so_far.answers) number line live w1 w2) where
     all : List LineRun
     all = so_far.answers ++ new.answered ∷ []
 
-    are_answered : AreAnswered plant start before shown 1 (so_far.lines ++ so_far.part ∷ []) all
+    are_answered : AreAnswered plant start before shown 1 (so_far.lines ++ line ∷ []) all
     unfolding all
     are_answered =
-        answered_more plant start before shown 1 so_far.lines so_far.answers so_far.part live new.answered so_far.answered
-        (subst (λ (n : ℕ). IsAnswer plant start (before ++ all_done so_far.answers) (shown ++ all_told so_far.answers) n so_far.part live new.answered) so_far.number_is new.is)
+        answered_more plant start before shown 1 so_far.lines so_far.answers line live new.answered so_far.answered
+        (subst (λ (n : ℕ). IsAnswer plant start (before ++ all_done so_far.answers) (shown ++ all_told so_far.answers) n line live new.answered) so_far.number_is new.is)
 
     run_is : IsAfterFrom plant start (before ++ all_done all) (shown ++ all_told all) live
     unfolding all
@@ -123,20 +100,14 @@ module _ (plant : PlantFields) (start : Start) (before : List Step) (shown : Lis
         subst (λ (t : List ℕ). Appends w0 w2 t) (sym (text_more plant 1 so_far.answers new.answered))
         (Appends-trans w0 w1 w2 _ _ so_far.written (subst (λ (n : ℕ). Appends w1 w2 (answer_text plant n new.answered)) (sym count) new.written))
 
-    -- the line has ended, and the next one begins
-    pub line_ended : (new_bytes : List ℕ) (new_long : Bool) (next : ℕ) (left : List ℕ) → rest ≡ 10 ∷ left → next ≡ number + 1 → IsHeld new_bytes new_long []
-        → IsServedSoFar plant start before shown input left new_bytes new_long next live w0 w2
+    -- the line is answered, and these are left
+    pub line_answered : (next : ℕ) → next ≡ number + 1 → IsServedSoFar plant start before shown input left next live w0 w2
     unfolding all are_answered run_is is_written
-    line_ended new_bytes new_long next left ends next_is held = record {
-      lines = so_far.lines ++ so_far.part ∷ [];
-      part = [];
+    line_answered next next_is = record {
+      lines = so_far.lines ++ line ∷ [];
       answers = all;
-      lines_are =
-          so_far.lines_are
-          ∙ ap (λ (bs : List ℕ). so_far.lines ++ parts_from 10 so_far.part bs) ends
-          ∙ sym (append_assoc so_far.lines (so_far.part ∷ []) (parts_from 10 [] left));
-      is_held = held;
-      number_is = let n : number ≡ 1 + length so_far.lines = so_far.number_is in next_is ∙ ap (λ (k : ℕ). k + 1) n ∙ counted so_far.lines so_far.part;
+      lines_are = so_far.lines_are ∙ sym (append_assoc so_far.lines (line ∷ []) left);
+      number_is = let n : number ≡ 1 + length so_far.lines = so_far.number_is in next_is ∙ ap (λ (k : ℕ). k + 1) n ∙ counted so_far.lines line;
       answered = are_answered;
       after = run_is;
       written = is_written;
@@ -146,14 +117,41 @@ module _ (plant : PlantFields) (start : Start) (before : List Step) (shown : Lis
         counted xs x = let long = length-append xs (x ∷ []) in omega (arith, long)
 
     -- the input has ended
-    pub input_ended : rest ≡ [] → IsServiceOf plant start before shown input live w0 w2
+    pub input_ended : left ≡ [] → IsServiceOf plant start before shown input live w0 w2
     unfolding all are_answered run_is is_written
     input_ended ends = record {
       answers = all;
-      answered = subst (λ (ls : List (List ℕ)). AreAnswered plant start before shown 1 ls all) (sym (so_far.lines_are ∙ ap (λ (bs : List ℕ). so_far.lines ++ parts_from 10 so_far.part bs) ends)) are_answered;
+      answered = subst (λ (ls : List (List ℕ)). AreAnswered plant start before shown 1 ls all) (sym (so_far.lines_are ∙ ap (λ (ls : List (List ℕ)). so_far.lines ++ line ∷ ls) ends)) are_answered;
       after = run_is;
       written = is_written;
     }
+
+-- ---- a line is read, and answered
+
+-- what a line is answered, if it is held so
+abbrev pub AnswersHeld : CoreView → CoreView → ℕ → List ℕ → Bool → Option (List ℕ) → Option (List ℕ) → Type 0
+AnswersHeld old live number bytes is_long w1 w2 =
+    (plant : PlantFields) (start : Start) (before : List Step) (shown : List Out) → IsAfterFrom plant start before shown old
+    → (line : List ℕ) → IsHeld bytes is_long line → LineIsAnswered plant start before shown number line live w1 w2
+
+module _ (plant : PlantFields) (start : Start) (before : List Step) (shown : List Out) (number : ℕ) (old live : CoreView) (bytes : List ℕ) (is_long : Bool)
+    (w0 w1 w2 : Option (List ℕ)) (answers : AnswersHeld old live number bytes is_long w1 w2) (input rest left : List ℕ)
+    (so_far : IsServedSoFar plant start before shown input (lines_of rest) number old w0 w1) where
+  module _ (end : LineBreak) (read : IsLineRead rest left bytes is_long end) where
+    here : IsServedSoFar plant start before shown input (read.line ∷ lines_left end left) number old w0 w1
+    here = subst (λ (ls : List (List ℕ)). IsServedSoFar plant start before shown input ls number old w0 w1) read.lines_are so_far
+
+    answer : LineIsAnswered plant start (before ++ all_done here.answers) (shown ++ all_told here.answers) number read.line live w1 w2
+    unfolding here
+    answer = answers plant start (before ++ all_done here.answers) (shown ++ all_told here.answers) here.after read.line read.is_held
+
+    pub served_on : (next : ℕ) → next ≡ number + 1 → IsServedSoFar plant start before shown input (lines_left end left) next live w0 w2
+    unfolding here answer
+    served_on next next_is = line_answered plant start before shown input read.line (lines_left end left) number old live w0 w1 w2 here answer next next_is
+
+    pub served_all : lines_left end left ≡ [] → IsServiceOf plant start before shown input live w0 w2
+    unfolding here answer
+    served_all ends = input_ended plant start before shown input read.line (lines_left end left) number old live w0 w1 w2 here answer ends
 
 -- ---- where the reader's bytes are known
 
@@ -161,15 +159,22 @@ pub known_same : (known : Option (List ℕ)) (P : List ℕ → List ℕ → Type
 known_same None P h = tt
 known_same (Some input) P h = h input
 
-pub known_ended : (a b d : Option (List ℕ)) (G : PlantFields → Start → List Step → List Out → Type 0) (P : PlantFields → Start → List Step → List Out → List ℕ → List ℕ → Type 0) (Q : PlantFields → Start → List Step → List Out → List ℕ → Type 0)
-    → ((plant : PlantFields) (start : Start) (before : List Step) (shown : List Out) → G plant start before shown → WhereKnown a b (P plant start before shown)) → Takes b d None
-    → ((plant : PlantFields) (start : Start) (before : List Step) (shown : List Out) (input : List ℕ) → G plant start before shown → P plant start before shown input [] → Q plant start before shown input)
+-- what holds of an input and of what is left of it, and what holds of that and of what is left then, make a third
+pub known_then : (a b d : Option (List ℕ)) (P Q R : List ℕ → List ℕ → Type 0) → ((input rest left : List ℕ) → P input rest → Q rest left → R input left) → WhereKnown a b P → WhereKnown b d Q → WhereKnown a d R
+known_then None b d P Q R on h k = tt
+known_then (Some input) None d P Q R on h k = absurd h
+known_then (Some input) (Some rest) None P Q R on h k = absurd k
+known_then (Some input) (Some rest) (Some left) P Q R on h k = on input rest left h k
+
+pub known_ended : (a b d : Option (List ℕ)) (G : PlantFields → Start → List Step → List Out → Type 0) (P : PlantFields → Start → List Step → List Out → List ℕ → List ℕ → Type 0) (L : List ℕ → List ℕ → Type 0)
+    (Q : PlantFields → Start → List Step → List Out → List ℕ → Type 0)
+    → ((plant : PlantFields) (start : Start) (before : List Step) (shown : List Out) → G plant start before shown → WhereKnown a b (P plant start before shown)) → WhereKnown b d L
+    → ((plant : PlantFields) (start : Start) (before : List Step) (shown : List Out) (input rest left : List ℕ) → P plant start before shown input rest → L rest left → Q plant start before shown input)
     → IfSome a (λ input. (plant : PlantFields) (start : Start) (before : List Step) (shown : List Out) → G plant start before shown → Q plant start before shown input)
-known_ended None b d G P Q h took on = tt
-known_ended (Some input) None d G P Q h took on = λ plant start before shown is. absurd (h plant start before shown is)
-known_ended (Some input) (Some rest) None G P Q h took on = absurd took
-known_ended (Some input) (Some rest) (Some left) G P Q h took on = λ plant start before shown is.
-    on plant start before shown input is (subst (λ (l : List ℕ). P plant start before shown input l) took.0 (h plant start before shown is))
+known_ended None b d G P L Q h read on = tt
+known_ended (Some input) None d G P L Q h read on = λ plant start before shown is. absurd (h plant start before shown is)
+known_ended (Some input) (Some rest) None G P L Q h read on = absurd read
+known_ended (Some input) (Some rest) (Some left) G P L Q h read on = λ plant start before shown is. on plant start before shown input rest left (h plant start before shown is) read
 
 -- ---- the law
 

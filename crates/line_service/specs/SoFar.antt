@@ -8,7 +8,7 @@ use Rattle.run_model.specs.declared.step.Out.{Out}
 use Rattle.run_model.specs.IsStateAfter.{CoreView}
 use Rattle.live_core.specs.After.{IsAfterFrom}
 use Rattle.script_format.specs.declared.script.LineStep.{LineStep}
-use Rattle.script_format.specs.Lines.{lines_of, parts_from}
+use Rattle.script_format.specs.Lines.{lines_of}
 use Rattle.script_format.specs.Script.{steps_without_numbers}
 use Rattle.script_format.specs.Text.{outs_text}
 use Rattle.line_service.specs.declared.line_outcome.LineOutcome.{LineOutcome}
@@ -40,14 +40,12 @@ pub record LineIsAnswered (plant : PlantFields) (start : Start) (before : List S
   pub is : IsAnswer plant start before shown number line live answered
   pub written : Appends old new (answer_text plant number answered)
 
--- so many lines are answered, and of the next one this part is read; the rest of the input is left
-pub record IsServedSoFar (plant : PlantFields) (start : Start) (before : List Step) (shown : List Out) (input rest : List ℕ) (bytes : List ℕ) (is_long : Bool) (number : ℕ)
-    (live : CoreView) (old new : Option (List ℕ)) : Type 0 where
+-- so many lines are answered, and these are left
+pub record IsServedSoFar (plant : PlantFields) (start : Start) (before : List Step) (shown : List Out) (input : List ℕ) (left : List (List ℕ)) (number : ℕ) (live : CoreView)
+    (old new : Option (List ℕ)) : Type 0 where
   pub lines : List (List ℕ)
-  pub part : List ℕ
   pub answers : List LineRun
-  pub lines_are : lines_of input ≡ lines ++ parts_from 10 part rest
-  pub is_held : IsHeld bytes is_long part
+  pub lines_are : lines_of input ≡ lines ++ left
   pub number_is : number ≡ 1 + length lines
   pub answered : AreAnswered plant start before shown 1 lines answers
   pub after : IsAfterFrom plant start (before ++ all_done answers) (shown ++ all_told answers) live

@@ -29,17 +29,25 @@ impl LineBuffer {
         })
     }
 
+    /// Adds bytes to the line. If they do not fit, the line is too long.
+    pub fn extend(&mut self, bytes: &[u8]) -> Result<(), AllocError>
+        ensures { OnOk result ((part : List ℕ) → IsHeld self.old.bytes.items self.old.is_long part
+            → IsHeld self.new.bytes.items self.new.is_long (part ++ bytes.now)) }
+    {
+        if bytes.len() <= MOST_BYTES.saturating_sub(self.bytes.len()) {
+            self.bytes.extend_from_slice(bytes)?;
+        } else {
+            self.is_long = true;
+        }
+        Ok(())
+    }
+
     /// Adds a byte to the line.
     pub fn push(&mut self, byte: u8) -> Result<(), AllocError>
         ensures { OnOk result ((part : List ℕ) → IsHeld self.old.bytes.items self.old.is_long part
             → IsHeld self.new.bytes.items self.new.is_long (part ++ byte ∷ [])) }
     {
-        if self.bytes.len() < MOST_BYTES {
-            self.bytes.push(byte)?;
-        } else {
-            self.is_long = true;
-        }
-        Ok(())
+        self.extend(&[byte])
     }
 
     /// Makes the line empty again.

@@ -1,23 +1,20 @@
 //! Serving a plant as long as there are lines.
 
-ghost use Rattle.run_model.specs.Starts.{Start};
-ghost use Rattle.std.specs.Prelude.{◌≡◌, ◌≢◌, ◌↔◌, ◌+◌, [], ◌∷◌, List, ℕ, Option, IfOk, OnOk, IsOk, IfSome};
-ghost use Rattle.plant.specs.declared.plant.PlantFields.{PlantFields};
-ghost use Rattle.run_model.specs.declared.step.Out.{Out};
-ghost use Rattle.run_model.specs.declared.step.Step.{Step};
+ghost use Rattle.std.specs.Prelude.{◌≡◌, ◌≢◌, ◌↔◌, ◌+◌, [], List, ℕ, IfOk, OnOk, IsOk, IfSome};
 ghost use Rattle.live_core.specs.After.{BehindEachRun, IsReachableFromStart};
 ghost use Rattle.live_core.specs.LiveView.{live_view};
 ghost use Rattle.line_service.specs.Service.{IsServiceOf};
-ghost use Rattle.line_service.specs.SoFar.{IsHeld, LineIsAnswered, IsServedSoFar};
+ghost use Rattle.line_service.specs.SoFar.{IsHeld, LineIsAnswered};
 
 use crate::answering::{answer_line, write_end};
-use crate::bytes::next_byte;
+use crate::line_break::LineBreak;
 use crate::line_buffer::LineBuffer;
 use crate::line_outcome::LineOutcome;
+use crate::reading::read_line;
 use live_core::LiveCore;
 use std::alloc::Global;
 use std::io;
-use std::io::{Read, Write};
+use std::io::{BufRead, Write};
 
 /// Returns the number of the line after this one, or an error after 2^64 - 1 lines.
 pub fn next_number(number: u64) -> io::Result<u64>
@@ -52,39 +49,12 @@ pub fn answer_held<W: Write>(
     answer_line(alloc, core, number, held.bytes.as_slice(), writer)
 }
 
-/// Takes a byte more of a script: where a line ends it is answered, and the next one begins.
-fn take_byte<W: Write>(
-    alloc: Global,
-    core: &mut LiveCore,
-    number: &mut u64,
-    held: &mut LineBuffer,
-    byte: u8,
-    writer: &mut W,
-) -> io::Result<()>
-    requires reached { IsReachableFromStart (live_view core.old) }
-    ensures reached { OnOk result (IsReachableFromStart (live_view core.new)) }
-    ensures on { OnOk result ((plant : PlantFields) (start : Start) (before : List Step) (shown : List Out) (input rest : List ℕ)
-        (written : Option (List ℕ)) → IsServedSoFar plant start before shown input (byte ∷ rest) held.old.bytes.items
-        held.old.is_long number.old (live_view core.old) written (W.contents writer.old)
-        → IsServedSoFar plant start before shown input rest held.new.bytes.items held.new.is_long number.new
-        (live_view core.new) written (W.contents writer.new)) }
-{
-    if byte != b'\n' {
-        held.push(byte)?;
-        return Ok(());
-    }
-    answer_held(alloc, core, *number, held, writer)?;
-    *number = next_number(*number)?;
-    held.clear();
-    Ok(())
-}
-
 /// Serves the plant: reads lines of a script for as long as there are any, and answers each before
 /// it reads the next (`answer_line`). Lines are counted from 1, empty ones too. It takes no memory
 /// of its own except the steps of a line. It ends at the end of the input, or where a read or a
-/// write fails. It reads a byte at a time and writes in small pieces: give it a reader and a writer
-/// with buffers.
-pub fn serve<R: Read, W: Write>(
+/// write fails. It takes from the reader what it has at hand, and writes in small pieces: give it a
+/// writer with a buffer.
+pub fn serve<R: BufRead, W: Write>(
     alloc: Global,
     core: &mut LiveCore,
     mut held: LineBuffer,
@@ -100,10 +70,13 @@ pub fn serve<R: Read, W: Write>(
 {
     let mut number = 1u64;
     for _ in 0..u64::MAX {
-        match next_byte(reader)? {
-            None => return answer_held(alloc, core, number, &held, writer),
-            Some(byte) => take_byte(alloc, core, &mut number, &mut held, byte, writer)?,
+        let end = read_line(reader, &mut held)?;
+        answer_held(alloc, core, number, &held, writer)?;
+        match end {
+            LineBreak::Another => number = next_number(number)?,
+            LineBreak::End => return Ok(()),
         }
+        held.clear();
     }
     Err(io::Error::from(io::ErrorKind::Other))
 }

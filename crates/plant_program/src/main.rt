@@ -3,7 +3,7 @@
 
 use plant_script::{Ending, behind_name, exit_code};
 use program_runner::run_with_options;
-use std::io::{BufReader, BufWriter, IsTerminal, Read, Write};
+use std::io::{BufRead, BufReader, BufWriter, IsTerminal, Read, Write};
 use std::process::ExitCode;
 use std::rt::{Env, Files};
 use std::sync::Wait;
@@ -91,7 +91,7 @@ fn reports_at_once(words: &[&str]) -> bool {
 }
 
 /// Runs the program over its words. Returns the status.
-fn run_words<'a, R: Read, W: Write, E: Write>(
+fn run_words<'a, R: BufRead, W: Write, E: Write>(
     rt: &(impl Files + Threads + Wait + Sync),
     host: &HostRuntime,
     words: &'a [&'a str],

@@ -30,7 +30,7 @@ use script_format::{LineFault, before_bar, messages_of, parts_of, script_text};
 use simdutf8::compat::from_utf8;
 use std::alloc::{AllocError, Global};
 use std::io;
-use std::io::{Read, Write};
+use std::io::{BufRead, Read, Write};
 use std::sync::Wait;
 use std::thread::Threads;
 
@@ -243,7 +243,7 @@ fn answer_batch<'a, R: Read, W: Write>(
 
 /// Carries out a command, and notes what was seen on the way. The run of `threads` is left to the
 /// caller. An `Err` is a write that failed, or under `serve` a read after the plant file.
-fn answer_word<'a, R: Read, W: Write>(
+fn answer_word<'a, R: BufRead, W: Write>(
     alloc: Global,
     word: Word<'a>,
     reader: &mut R,
@@ -270,7 +270,7 @@ fn answer_word<'a, R: Read, W: Write>(
 
 /// Answers the words, and notes what was seen on the way. The run of `threads` is left to the
 /// caller. An `Err` is a write that failed, or under `serve` a read after the plant file.
-fn answer_words<'a, R: Read, W: Write>(
+fn answer_words<'a, R: BufRead, W: Write>(
     alloc: Global,
     words: &'a [&'a str],
     reader: &mut R,
@@ -345,7 +345,7 @@ fn end_program<H: Threads + Wait + Sync, W: Write>(
 ///
 /// An `Err` is a write that failed, or under `serve` a read after the plant file: what is written
 /// then no clause says.
-pub fn run_without_threads<'a, R: Read, W: Write>(
+pub fn run_without_threads<'a, R: BufRead, W: Write>(
     alloc: Global,
     words: &'a [&'a str],
     reader: &mut R,
@@ -383,7 +383,7 @@ pub fn run_without_threads<'a, R: Read, W: Write>(
 /// is fixed where no write has failed (`run_without_threads`). Status 5 may come wherever memory is
 /// allocated, and never in place of a refused step of `run`, `trace` or `serve`. No clause says
 /// anything of the text of help.
-pub fn run_program<'a, H: Threads + Wait + Sync, R: Read, W: Write>(
+pub fn run_program<'a, H: Threads + Wait + Sync, R: BufRead, W: Write>(
     rt: &H,
     alloc: Global,
     words: &'a [&'a str],
@@ -406,7 +406,7 @@ pub fn run_program<'a, H: Threads + Wait + Sync, R: Read, W: Write>(
 /// is well it reports keys that nothing reads. What fails in writing reasons is lost, and changes
 /// no status. No clause says what the reasons are. A process that ends after the answer says so by
 /// `ending`, and need not wait until a core is taken apart.
-pub fn run_program_with_reasons<'a, H: Threads + Wait + Sync, R: Read, W: Write, E: Write>(
+pub fn run_program_with_reasons<'a, H: Threads + Wait + Sync, R: BufRead, W: Write, E: Write>(
     rt: &H,
     alloc: Global,
     words: &'a [&'a str],

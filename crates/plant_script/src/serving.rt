@@ -19,7 +19,7 @@ use plant::Plant;
 use slice_table::{PlantFault, read_plant};
 use std::alloc::Global;
 use std::io;
-use std::io::{Read, Write};
+use std::io::{BufRead, Write};
 
 /// A plant that is to be served.
 #[derive(Drop)]
@@ -77,7 +77,7 @@ fn answer_fault_of(error: &io::Error) -> AnswerFault {
 
 /// Serves a plant as it is opened, up to the end of the input. The rankings are in the plant's
 /// order of operators. Returns the exit status, or that a read or a write failed.
-fn serve_ranked<R: Read, W: Write>(
+fn serve_ranked<R: BufRead, W: Write>(
     alloc: Global,
     service: Service,
     rankings: Vec<Ranking>,
@@ -100,7 +100,7 @@ fn serve_ranked<R: Read, W: Write>(
 }
 
 /// Serves a plant, each operator by the policy of its row. Returns the exit status.
-fn serve_plant<R: Read, W: Write>(
+fn serve_plant<R: BufRead, W: Write>(
     alloc: Global,
     service: Service,
     reader: &mut R,
@@ -127,7 +127,7 @@ fn serve_plant<R: Read, W: Write>(
 
 /// Reads a plant file up to the line of three dashes, and serves its plant. The file is noted, or
 /// why it could not be read. Returns the exit status.
-pub(crate) fn serve_words<R: Read, W: Write>(
+pub(crate) fn serve_words<R: BufRead, W: Write>(
     alloc: Global,
     reader: &mut R,
     writer: &mut W,

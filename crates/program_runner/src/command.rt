@@ -13,7 +13,7 @@ use crate::snapshot_command::run_snapshot;
 use plant_script::{Ending, run_program_with_reasons};
 use program_options::UnknownKeyHandling;
 use std::alloc::Global;
-use std::io::{Read, Write};
+use std::io::{BufRead, Write};
 use std::sync::Wait;
 use std::thread::Threads;
 
@@ -32,7 +32,7 @@ pub(crate) struct Command<'a, H> {
 
 impl<H: Threads + Wait + Sync> Command<'_, H> {
     /// Performs the command without its options, `run` as on a plant file. Returns the status.
-    pub(crate) fn run<R: Read, W: Write, E: Write>(
+    pub(crate) fn run<R: BufRead, W: Write, E: Write>(
         &self,
         reader: &mut R,
         writer: &mut W,

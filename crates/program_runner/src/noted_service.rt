@@ -13,7 +13,7 @@ use plant::Plant;
 use slice_table::{PlantFault, read_plant};
 use std::alloc::Global;
 use std::io;
-use std::io::{Read, Write};
+use std::io::{BufRead, Write};
 use std::sync::Wait;
 use std::thread::Threads;
 
@@ -42,7 +42,7 @@ fn trouble_of(error: &io::Error) -> Trouble {
 }
 
 /// Serves a plant, each operator by the policy of its row.
-fn serve_plant<R: Read, W: Write>(
+fn serve_plant<R: BufRead, W: Write>(
     alloc: Global,
     plant: Plant,
     reader: &mut R,
@@ -65,7 +65,7 @@ fn serve_plant<R: Read, W: Write>(
 }
 
 /// Serves the plant of a plant file, and reports how that ended. Returns the status.
-fn serve_valid<R: Read, W: Write, E: Write>(
+fn serve_valid<R: BufRead, W: Write, E: Write>(
     alloc: Global,
     plant: Plant,
     text: &str,
@@ -87,7 +87,7 @@ fn serve_valid<R: Read, W: Write, E: Write>(
 
 /// Serves the plant of a plant file. What is answered to an invalid file needs no script: `serve` answers it, as it does without
 /// the option. Returns the status.
-fn serve_file<H: Threads + Wait + Sync, R: Read, W: Write, E: Write>(
+fn serve_file<H: Threads + Wait + Sync, R: BufRead, W: Write, E: Write>(
     command: &Command<'_, H>,
     mut file: &[u8],
     reader: &mut R,
@@ -109,7 +109,7 @@ fn serve_file<H: Threads + Wait + Sync, R: Read, W: Write, E: Write>(
 
 /// Performs `serve`, and writes an object for each output, with the line of the script, the check that decided it, and the numbers
 /// that the check compared. Returns the status: 5 where an allocation failed for an object.
-pub(crate) fn serve_objects<H: Threads + Wait + Sync, R: Read, W: Write, E: Write>(
+pub(crate) fn serve_objects<H: Threads + Wait + Sync, R: BufRead, W: Write, E: Write>(
     command: &Command<'_, H>,
     reader: &mut R,
     writer: &mut W,

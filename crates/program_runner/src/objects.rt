@@ -9,13 +9,13 @@ use command_line::{BatchWord, RunReport, Word, WordsFault, read_words};
 use json_lines::{JsonLines, LineSource, OutputNote, TraceNotes};
 use program_options::UnknownKeyHandling;
 use std::alloc::Global;
-use std::io::{Read, Write};
+use std::io::{BufRead, BufReader, Write};
 use std::sync::Wait;
 use std::thread::Threads;
 
 /// Performs a command, and writes an object for each of its lines. Returns the status: 5 where an allocation failed for an
 /// object.
-fn run_lines<H: Threads + Wait + Sync, R: Read, W: Write, E: Write>(
+fn run_lines<H: Threads + Wait + Sync, R: BufRead, W: Write, E: Write>(
     command: &Command<'_, H>,
     source: LineSource,
     reader: &mut R,
@@ -33,11 +33,10 @@ fn finish_line<W: Write>(alloc: Global, writer: &mut W, status: u8, line: &[u8])
     finish(&mut lines, status, line)
 }
 
-/// Returns what is known of each output of a run: it is performed as a trace. What is read is recorded. None where an allocation
-/// failed, or a read.
-fn notes_of<H: Threads + Wait + Sync, R: Read, E: Write>(
+/// Returns what is known of each output of a run: it is performed as a trace. None where an allocation failed, or a read.
+fn notes_of<H: Threads + Wait + Sync, R: BufRead, E: Write>(
     command: &Command<'_, H>,
-    recording: &mut RecordingReader<'_, R>,
+    reader: &mut R,
     reasons: &mut E,
 ) -> Result<Vec<OutputNote>, u8> {
     let words = ["trace"];
@@ -51,7 +50,7 @@ fn notes_of<H: Threads + Wait + Sync, R: Read, E: Write>(
     };
     let mut notes = TraceNotes::new(command.alloc);
     let mut message = Vec::new(command.alloc);
-    let status = traced.run(recording, &mut notes, &mut message);
+    let status = traced.run(reader, &mut notes, &mut message);
     let status = match notes.into_notes() {
         Some(notes) if status != 5 && status != 6 => return Ok(notes),
         Some(_notes) => status,
@@ -63,26 +62,29 @@ fn notes_of<H: Threads + Wait + Sync, R: Read, E: Write>(
 
 /// Performs `run`, and writes an object for each output, with the line of the script and the check that decided it. Returns the
 /// status.
-fn run_noted<H: Threads + Wait + Sync, R: Read, W: Write, E: Write>(
+fn run_noted<H: Threads + Wait + Sync, R: BufRead, W: Write, E: Write>(
     command: &Command<'_, H>,
     reader: &mut R,
     writer: &mut W,
     reasons: &mut E,
 ) -> u8 {
-    let mut recording = RecordingReader::new(command.alloc, reader);
+    let alloc = command.alloc;
+    let Ok(mut recording) = BufReader::new(alloc, RecordingReader::new(alloc, reader)) else {
+        return finish_line(alloc, writer, 5, b"fault: memory\n");
+    };
     let noted = notes_of(command, &mut recording, reasons);
-    match (noted, recording.record()) {
+    match (noted, recording.get_ref().record()) {
         (Ok(notes), Some(mut input)) => {
             let source = LineSource::Run(notes.into_iter());
             run_lines(command, source, &mut input, writer, reasons)
         }
-        (Err(6), Some(_input)) => finish_line(command.alloc, writer, 6, b"fault: io\n"),
-        _ => finish_line(command.alloc, writer, 5, b"fault: memory\n"),
+        (Err(6), Some(_input)) => finish_line(alloc, writer, 6, b"fault: io\n"),
+        _ => finish_line(alloc, writer, 5, b"fault: memory\n"),
     }
 }
 
 /// Performs a command, and writes objects in place of lines. Help has no object. Returns the status.
-pub(crate) fn run_objects<H: Threads + Wait + Sync, R: Read, W: Write, E: Write>(
+pub(crate) fn run_objects<H: Threads + Wait + Sync, R: BufRead, W: Write, E: Write>(
     command: &Command<'_, H>,
     reader: &mut R,
     writer: &mut W,

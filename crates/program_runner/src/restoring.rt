@@ -16,7 +16,7 @@ use resumed_service::{BeginFault, is_snapshot_head};
 use snapshot_format::Wrong;
 use std::alloc::{AllocError, Global};
 use std::io;
-use std::io::{Read, Write};
+use std::io::{BufRead, Read, Write};
 use std::sync::Wait;
 use std::thread::Threads;
 
@@ -44,7 +44,7 @@ fn refuse_unread<W: Write, E: Write>(
 }
 
 /// Performs the command `restore`: as `resume`, if the input begins as a snapshot does. Returns the status.
-pub(crate) fn run_restore<R: Read, W: Write, E: Write>(
+pub(crate) fn run_restore<R: BufRead, W: Write, E: Write>(
     alloc: Global,
     reader: &mut R,
     writer: &mut W,
@@ -69,7 +69,7 @@ pub(crate) fn run_restore<R: Read, W: Write, E: Write>(
 }
 
 /// Performs the command `run`: as `resume`, if the input begins as a snapshot does. Returns the status.
-pub(crate) fn run_input<H: Threads + Wait + Sync, R: Read, W: Write, E: Write>(
+pub(crate) fn run_input<H: Threads + Wait + Sync, R: BufRead, W: Write, E: Write>(
     command: &Command<'_, H>,
     reader: &mut R,
     writer: &mut W,

@@ -11,7 +11,7 @@ use plant_script::plant_line;
 use resumed_service::{BeginFault, ServiceEnd, resume};
 use std::alloc::{AllocError, Global};
 use std::io;
-use std::io::{Read, Write};
+use std::io::{BufRead, Write};
 
 /// Returns the status of a service that does not begin.
 fn begin_status(fault: &BeginFault) -> u8
@@ -79,7 +79,7 @@ pub(crate) fn answer_io_error<W: Write, E: Write>(
 }
 
 /// Performs the command `resume`. Returns the status.
-pub(crate) fn run_resume<R: Read, W: Write, E: Write>(
+pub(crate) fn run_resume<R: BufRead, W: Write, E: Write>(
     alloc: Global,
     reader: &mut R,
     writer: &mut W,

@@ -23,14 +23,14 @@ use crate::strict::run_keys;
 use crate::version::{answer_version, asks_version};
 use plant_script::Ending;
 use program_options::{OutputFormat, SeparatedWords, separate};
-use std::io::{BufReader, Read, Write};
+use std::io::{BufRead, BufReader, Write};
 use std::rt::Files;
 use std::sync::Wait;
 use std::thread::Threads;
 
 /// Performs a command on a reader, and writes lines or objects. Returns the status.
 #[tactic(auto, using(crate::proofs::RestoreLemmas::as_run, crate::proofs::RestoreLemmas::as_word, crate::proofs::RestoreLemmas::run_is_not_wrong, crate::proofs::RestoreLemmas::run_is_no_help))]
-fn run_format<H: Threads + Wait + Sync, R: Read, W: Write, E: Write>(
+fn run_format<H: Threads + Wait + Sync, R: BufRead, W: Write, E: Write>(
     command: &Command<'_, H>,
     output: OutputFormat,
     reader: &mut R,
@@ -73,7 +73,7 @@ fn run_file<H: Files + Threads + Wait + Sync, W: Write, E: Write>(
 }
 
 /// Performs the command that is left, with its options. Returns the status.
-fn run_separated<H: Files + Threads + Wait + Sync, R: Read, W: Write, E: Write>(
+fn run_separated<H: Files + Threads + Wait + Sync, R: BufRead, W: Write, E: Write>(
     rt: &H,
     host: &HostRuntime,
     separated: SeparatedWords<'_>,
@@ -116,7 +116,7 @@ fn run_separated<H: Files + Threads + Wait + Sync, R: Read, W: Write, E: Write>(
 /// with a plant file or a snapshot. So does `restore`, which takes a snapshot only, and `run` if its input begins as a snapshot does.
 /// `snapshot` writes the snapshot after the last line. With `--state FOLDER`, `serve` has its lines in the journal of that folder
 /// before they are answered, and goes on from the journal at the next start.
-pub fn run_with_options<'a, H: Files + Threads + Wait + Sync, R: Read, W: Write, E: Write>(
+pub fn run_with_options<'a, H: Files + Threads + Wait + Sync, R: BufRead, W: Write, E: Write>(
     rt: &H,
     host: &HostRuntime,
     words: &'a [&'a str],

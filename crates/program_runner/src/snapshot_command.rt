@@ -10,7 +10,7 @@ use live_core::RestFault;
 use plant::OperatorName;
 use resumed_service::{SnapshotEnd, snapshot_after};
 use std::alloc::{AllocError, Global};
-use std::io::{Read, Write};
+use std::io::{BufRead, Write};
 
 /// Returns why there is no snapshot of a plant, and what to do.
 fn unfinished_reason(
@@ -33,7 +33,7 @@ fn unfinished_reason(
 }
 
 /// Performs the command `snapshot`. Returns the status.
-pub(crate) fn run_snapshot<R: Read, W: Write, E: Write>(
+pub(crate) fn run_snapshot<R: BufRead, W: Write, E: Write>(
     alloc: Global,
     reader: &mut R,
     writer: &mut W,

@@ -23,7 +23,7 @@ use slice_table::PlantFault;
 use state_service::{StateServiceFault, serve_state};
 use std::alloc::Global;
 use std::io;
-use std::io::{BufReader, Read, Write};
+use std::io::{BufRead, BufReader, Read, Write};
 use std::rt::Files;
 use std::sync::Wait;
 use std::thread::Threads;
@@ -222,7 +222,7 @@ fn serve_file<H: Files, W: Write, E: Write>(
 
 /// Performs a command of which the option `--state` names a folder: `serve`. Other words are wrong, or ask for help. Returns the
 /// status.
-pub(crate) fn run_state<H: Files + Threads + Wait + Sync, R: Read, W: Write, E: Write>(
+pub(crate) fn run_state<H: Files + Threads + Wait + Sync, R: BufRead, W: Write, E: Write>(
     command: &Command<'_, H>,
     path: &str,
     options: ProgramOptions<'_>,

@@ -13,7 +13,7 @@ use crate::recording::RecordingReader;
 use diagnostics::{UnknownKeysFault, fault_of_unknown_keys};
 use program_options::UnknownKeyHandling;
 use std::alloc::{AllocError, Global};
-use std::io::{Read, Write};
+use std::io::{BufRead, BufReader, Write};
 use std::sync::Wait;
 use std::thread::Threads;
 
@@ -50,17 +50,19 @@ fn refuse_unknown<W: Write, E: Write>(
 
 /// Performs `check`, and answers as it does, except where the plant file is valid and has unknown keys: then that is a fault of
 /// it. Returns the status.
-pub(crate) fn check_strictly<H: Threads + Wait + Sync, R: Read, W: Write, E: Write>(
+pub(crate) fn check_strictly<H: Threads + Wait + Sync, R: BufRead, W: Write, E: Write>(
     command: &Command<'_, H>,
     reader: &mut R,
     writer: &mut W,
     reasons: &mut E,
 ) -> u8 {
     let alloc = command.alloc;
-    let mut recording = RecordingReader::new(alloc, reader);
+    let Ok(mut recording) = BufReader::new(alloc, RecordingReader::new(alloc, reader)) else {
+        return answer_out_of_memory(writer, reasons);
+    };
     let (mut answer, mut message) = (Vec::new(alloc), Vec::new(alloc));
     let status = command.run(&mut recording, &mut answer, &mut message);
-    match unknown_in(alloc, recording.record(), status) {
+    match unknown_in(alloc, recording.get_ref().record(), status) {
         Ok(Some(fault)) => refuse_unknown(alloc, fault, writer, reasons),
         Ok(None) => {
             pass_on(message.as_slice(), reasons);
@@ -71,7 +73,7 @@ pub(crate) fn check_strictly<H: Threads + Wait + Sync, R: Read, W: Write, E: Wri
 }
 
 /// Performs a command, `run` as on a plant file, whose unknown keys are warnings or a fault. Returns the status.
-pub(crate) fn run_keys<H: Threads + Wait + Sync, R: Read, W: Write, E: Write>(
+pub(crate) fn run_keys<H: Threads + Wait + Sync, R: BufRead, W: Write, E: Write>(
     command: &Command<'_, H>,
     reader: &mut R,
     writer: &mut W,

@@ -12,6 +12,7 @@ use Rattle.plant.specs.Plant.{IsPlant}
 use Rattle.operator_model.specs.State.{OperatorState}
 use Rattle.run_model.specs.IsStateAfter.{CoreView}
 use Rattle.line_service.specs.Bytes.{WhereKnown}
+use Rattle.line_service.specs.Lines.{lines_left}
 use Rattle.line_service.specs.SoFar.{IsHeld}
 use Rattle.snapshot_format.specs.declared.saved.Snapshot.{Snapshot}
 use Rattle.snapshot_format.specs.States.{states_of}
@@ -19,12 +20,12 @@ use Rattle.plant_restart.specs.declared.fault.RestoreFault.{RestoreFault}
 use Rattle.plant_restart.specs.declared.fault.RestoreFault.TheVariants as restore
 use Rattle.plant_restart.specs.declared.fault.RestartFault.TheVariants.{RankingsMismatch, State, Core, NoMemory}
 use Rattle.plant_restart.specs.Restarted.{IsRestarted, IsRestoreFault}
-use Rattle.resumed_service.specs.declared.line_break.LineBreak.{LineBreak}
+use Rattle.line_service.specs.declared.line_break.LineBreak.{LineBreak}
 use Rattle.resumed_service.specs.declared.new_frame_fault.NewFrameFault.{NewFrameFault}
 use Rattle.resumed_service.specs.declared.new_frame_fault.NewFrameFault.TheVariants as faults
 use Rattle.resumed_service.specs.Items.{InService, begun_from}
 use Rattle.resumed_service.specs.NewFrames.{asks_frame, NamesFrame, IsCoreRenumbered, IsNewFrameFault, IsStartRefusal, IsNotStarted, frame_text, frame_refusal_text}
-use Rattle.resumed_service.specs.PlantFiles.{lines_left, IsNumberAfter}
+use Rattle.resumed_service.specs.PlantFiles.{IsNumberAfter}
 use Rattle.resumed_service.specs.Served.{AreServedSoFar, HoldsLine, AwaitsFrame}
 use Rattle.resumed_service.proofs.RenumberLemmas.{run_renumbered}
 use Rattle.resumed_service.proofs.ServedLemmas.{answered, known_map}

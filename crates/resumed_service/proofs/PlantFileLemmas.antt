@@ -11,7 +11,7 @@ use Rattle.slice_table.specs.ReadPlant.{text_plant}
 use Rattle.script_format.specs.Lines.{lines_of, parts_of, parts_from}
 use Rattle.line_service.specs.SoFar.{IsHeld}
 use Rattle.resumed_service.specs.declared.kept_text.Keeping.{Keeping}
-use Rattle.resumed_service.specs.declared.line_break.LineBreak.TheVariants.{Another}
+use Rattle.line_service.specs.declared.line_break.LineBreak.TheVariants.{Another}
 use Rattle.resumed_service.specs.declared.plant_file.PlantFileEnd.TheVariants.{Ended}
 use Rattle.resumed_service.specs.PlantFiles.{is_dashes, is_ended, lines_taken, file_text, most_bytes, most_kept, IsKeptUpTo, IsReadingFile, IsFileRead, IsWhole, IsPlantFileText, IsFileOf}
 

@@ -15,13 +15,13 @@ use Rattle.snapshot_format.specs.declared.saved.Snapshot.{Snapshot}
 use Rattle.snapshot_format.specs.States.{states_of}
 use Rattle.line_service.specs.Bytes.{WhereKnown}
 use Rattle.line_service.specs.SoFar.{IsHeld}
-use Rattle.line_service.proofs.ServiceLemmas.{known_same}
+use Rattle.line_service.proofs.ServiceLemmas.{known_same, known_then}
 use Rattle.plant_restart.specs.ByName.{start_by_name}
 use Rattle.plant_restart.specs.Changing.{IsChangeOf}
 use Rattle.plant_restart.specs.Restarted.{IsRestarted}
 use Rattle.plant_restart.specs.Saving.{states_by_name}
-use Rattle.resumed_service.specs.declared.line_break.LineBreak.{LineBreak}
-use Rattle.resumed_service.specs.declared.line_break.LineBreak.TheVariants.{Another, End}
+use Rattle.line_service.specs.declared.line_break.LineBreak.{LineBreak}
+use Rattle.line_service.specs.declared.line_break.LineBreak.TheVariants.{Another, End}
 use Rattle.resumed_service.specs.declared.new_plant_fault.NewPlantFault.{NewPlantFault}
 use Rattle.resumed_service.specs.declared.new_plant_fault.NewPlantFault.TheVariants as new_faults
 use Rattle.resumed_service.specs.declared.kept_text.Keeping.{Keeping}
@@ -30,9 +30,9 @@ use Rattle.resumed_service.specs.declared.serving.ServiceEnd.TheVariants as ends
 use Rattle.resumed_service.specs.declared.last_state.AtEnd.{AtEnd}
 use Rattle.resumed_service.specs.declared.last_state.LastState.{LastState}
 use Rattle.resumed_service.specs.Beginning.{IsBeginningRead}
-use Rattle.resumed_service.specs.Lines.{IsLineRead}
+use Rattle.line_service.specs.Lines.{lines_left, IsLineRead}
 use Rattle.resumed_service.specs.NewPlants.{IsNewFileFault, IsChangeRefusal, IsNewPlantFault, refusal_text}
-use Rattle.resumed_service.specs.PlantFiles.{lines_taken, lines_left, break_after, file_text, IsFileOf, IsFileKept, IsFileRead, IsNumberAfter}
+use Rattle.resumed_service.specs.PlantFiles.{lines_taken, break_after, file_text, IsFileOf, IsFileKept, IsFileRead, IsNumberAfter}
 use Rattle.resumed_service.specs.Items.{InService, ItemAnswer, IsRunSoFarOf, IsItemAnswer, AreItemAnswers, begins_plant, change_text, texts_of}
 use Rattle.resumed_service.specs.LastStates.{IsLastState, IsServedTo}
 use Rattle.resumed_service.specs.Resumed.{resumed_service, EndsInput}
@@ -143,13 +143,6 @@ change_refused live lines plant (new_faults.NotChanged why) is_file is = record 
 change_refused live lines plant new_faults.NoMemory is_file is = is_file.is_text.0.0
 
 -- ---- where the reader's bytes are known
-
--- what holds of an input and of what is left of it, and what holds of that and of what is left then, make a third
-pub known_then : (a b d : Option (List ℕ)) (P Q R : List ℕ → List ℕ → Type 0) → ((input rest left : List ℕ) → P input rest → Q rest left → R input left) → WhereKnown a b P → WhereKnown b d Q → WhereKnown a d R
-known_then None b d P Q R on h k = tt
-known_then (Some input) None d P Q R on h k = absurd h
-known_then (Some input) (Some rest) None P Q R on h k = absurd k
-known_then (Some input) (Some rest) (Some left) P Q R on h k = on input rest left h k
 
 pub known_map : (a b : Option (List ℕ)) (P Q : List ℕ → List ℕ → Type 0) → ((input rest : List ℕ) → P input rest → Q input rest) → WhereKnown a b P → WhereKnown a b Q
 known_map None b P Q on h = tt

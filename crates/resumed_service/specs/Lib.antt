@@ -1,7 +1,6 @@
 pub mod Beginning
 pub mod Items
 pub mod LastStates
-pub mod Lines
 pub mod NewFrames
 pub mod NewPlants
 pub mod PlantFiles

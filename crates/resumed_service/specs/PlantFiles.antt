@@ -6,11 +6,12 @@ use Rattle.toml.specs.Parse.{parse_document}
 use Rattle.plant.specs.declared.plant.PlantFields.{PlantFields}
 use Rattle.slice_table.specs.ReadPlant.{text_plant}
 use Rattle.script_format.specs.Lines.{lines_of, parts_from}
+use Rattle.line_service.specs.Lines.{lines_left}
 use Rattle.line_service.specs.SoFar.{IsHeld}
 use Rattle.resumed_service.specs.declared.kept_text.Keeping.{Keeping}
 use Rattle.resumed_service.specs.declared.kept_text.Keeping.TheVariants.{Whole, TooLong, NoMemory}
-use Rattle.resumed_service.specs.declared.line_break.LineBreak.{LineBreak}
-use Rattle.resumed_service.specs.declared.line_break.LineBreak.TheVariants.{Another, End}
+use Rattle.line_service.specs.declared.line_break.LineBreak.{LineBreak}
+use Rattle.line_service.specs.declared.line_break.LineBreak.TheVariants.{Another, End}
 use Rattle.resumed_service.specs.declared.plant_file.FileByte.{FileByte}
 use Rattle.resumed_service.specs.declared.plant_file.FileByte.TheVariants.{Within, Last}
 use Rattle.resumed_service.specs.declared.plant_file.PlantFileEnd.{PlantFileEnd}
@@ -83,11 +84,6 @@ pub record IsReadingFile (input rest : List ℕ) (first number : ℕ) (held : Li
   pub ended : is_ended (lines_of input) ≡ is_ended (parts_from 10 part rest)
   pub counted : first + lines_taken (lines_of input) ≡ number + lines_taken (parts_from 10 part rest)
   pub left : drop (lines_taken (lines_of input)) (lines_of input) ≡ drop (lines_taken (parts_from 10 part rest)) (parts_from 10 part rest)
-
--- the lines that are left: those of the rest of the input, or none
-abbrev pub lines_left : LineBreak → List ℕ → List (List ℕ)
-lines_left Another rest = lines_of rest
-lines_left End rest = []
 
 -- the number of the next line, where there is one
 abbrev pub IsNumberAfter : LineBreak → ℕ → ℕ → Type 0

@@ -8,15 +8,16 @@ use Rattle.run_model.specs.declared.step.Out.{Out}
 use Rattle.run_model.specs.Starts.{Start}
 use Rattle.run_model.specs.IsStateAfter.{CoreView}
 use Rattle.script_format.specs.Lines.{lines_of}
+use Rattle.line_service.specs.Lines.{lines_left}
 use Rattle.line_service.specs.SoFar.{IsHeld}
 use Rattle.snapshot_format.specs.declared.saved.Snapshot.{Snapshot}
-use Rattle.resumed_service.specs.declared.line_break.LineBreak.{LineBreak}
+use Rattle.line_service.specs.declared.line_break.LineBreak.{LineBreak}
 use Rattle.resumed_service.specs.declared.new_plant.ItemOutcome.{ItemOutcome}
 use Rattle.resumed_service.specs.declared.new_plant.ItemOutcome.TheVariants.{Answered, Awaits}
 use Rattle.resumed_service.specs.declared.new_plant.WaitingItem.{WaitingItem}
 use Rattle.resumed_service.specs.declared.new_plant.WaitingItem.TheVariants.{NewPlant, NewFrame}
 use Rattle.resumed_service.specs.NewFrames.{asks_frame, NamesFrame, IsCoreRenumbered}
-use Rattle.resumed_service.specs.PlantFiles.{file_text, lines_taken, lines_left, IsFileOf, IsNumberAfter}
+use Rattle.resumed_service.specs.PlantFiles.{file_text, lines_taken, IsFileOf, IsNumberAfter}
 use Rattle.resumed_service.specs.Items.{InService, IsRunSoFarOf, ItemAnswer, begins_plant, IsItemAnswer, AreItemAnswers, SnapshotIsAnswered, after_items, texts_of}
 
 -- a run so far, with the text of the plant file in force

@@ -5,13 +5,13 @@ ghost use Rattle.std.specs.Io.KnownBytes.{Appends};
 ghost use Rattle.live_core.specs.After.{IsReachableFromStart};
 ghost use Rattle.live_core.specs.LiveView.{live_view};
 ghost use Rattle.line_service.specs.Bytes.{WhereKnown};
+ghost use Rattle.line_service.specs.Lines.{lines_left};
 ghost use Rattle.grant_policy.specs.declared.policy.Policy.{Policy};
 ghost use Rattle.plant.specs.declared.plant.PlantFields.{PlantFields};
 ghost use Rattle.run_model.specs.IsStateAfter.{CoreView};
 ghost use Rattle.plant_restart.specs.Changing.{IsChangeOf, IsChangeFault};
 ghost use Rattle.resumed_service.specs.Items.{InService, change_text};
 ghost use Rattle.resumed_service.specs.NewPlants.{IsChangeRefusal, refusal_outcome, refusal_text};
-ghost use Rattle.resumed_service.specs.PlantFiles.{lines_left};
 ghost use Rattle.resumed_service.specs.Served.{AreServedSoFar, AwaitsPlant};
 
 use crate::new_plant::WaitingLine;

@@ -11,7 +11,6 @@ mod items;
 mod kept_text;
 mod last_state;
 mod laws;
-mod line_break;
 mod new_frame;
 mod new_frame_fault;
 mod new_plant;

@@ -2,16 +2,16 @@
 
 ghost use Rattle.std.specs.Prelude.{◌≡◌, ◌∷◌, ◌+◌, [], List, ℕ, IfOk, IfErr};
 ghost use Rattle.line_service.specs.Bytes.{WhereKnown};
+ghost use Rattle.line_service.specs.Lines.{lines_left};
 ghost use Rattle.line_service.specs.SoFar.{IsHeld};
 ghost use Rattle.script_format.specs.Lines.{lines_of};
 ghost use Rattle.resumed_service.specs.NewPlants.{IsNewFileFault};
-ghost use Rattle.resumed_service.specs.PlantFiles.{most_kept, lines_left, break_after, IsKeptUpTo, IsReadingFile, ReadsFileOn, IsFileRead, IsFileKept, IsFileOf, IsWhole, file_text};
+ghost use Rattle.resumed_service.specs.PlantFiles.{most_kept, break_after, IsKeptUpTo, IsReadingFile, ReadsFileOn, IsFileRead, IsFileKept, IsFileOf, IsWhole, file_text};
 
 use crate::holding::is_held;
 use crate::kept_text::{Keeping, KeptText};
-use crate::line_break::LineBreak;
 use crate::new_plant_fault::NewPlantFault;
-use line_service::{LineBuffer, next_byte, next_number};
+use line_service::{LineBreak, LineBuffer, next_byte, next_number};
 use plant::Plant;
 use slice_table::{PlantFault, read_plant};
 use std::alloc::Global;

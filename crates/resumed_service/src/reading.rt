@@ -1,14 +1,10 @@
-//! Reading what is before the lines, and a line.
+//! Reading what is before the lines.
 
-ghost use Rattle.std.specs.Prelude.{◌≡◌, [], Some, IfOk, OnOk, IfSome};
-ghost use Rattle.line_service.specs.Bytes.{WhereKnown};
-ghost use Rattle.line_service.specs.SoFar.{IsHeld};
+ghost use Rattle.std.specs.Prelude.{◌≡◌, Some, IfOk, OnOk, IfSome};
 ghost use Rattle.resumed_service.specs.Beginning.{front_text, lines_after};
-ghost use Rattle.resumed_service.specs.Lines.{IsLineRead};
 
 use crate::beginning::is_snapshot_head;
-use crate::line_break::LineBreak;
-use line_service::{LineBuffer, next_byte, read_to_bar};
+use line_service::read_to_bar;
 use std::alloc::Global;
 use std::io;
 use std::io::Read;
@@ -41,24 +37,4 @@ pub(crate) fn read_front<R: Read>(alloc: Global, reader: &mut R) -> io::Result<V
     text.extend_from_slice(b"---\n")?;
     text.extend_from_slice(records.as_slice())?;
     Ok(text)
-}
-
-/// Reads a line, which is held then. Returns what is after it.
-pub(crate) fn read_line<R: Read>(reader: &mut R, held: &mut LineBuffer) -> io::Result<LineBreak>
-    requires { IsHeld held.old.bytes.items held.old.is_long [] }
-    ensures { IfOk result (λ end. WhereKnown (R.remaining reader.old) (R.remaining reader.new)
-        (λ input rest. IsLineRead input rest held.new.bytes.items held.new.is_long end)) }
-{
-    for _ in 0..u64::MAX {
-        match next_byte(reader)? {
-            None => return Ok(LineBreak::End),
-            Some(byte) => {
-                if byte == b'\n' {
-                    return Ok(LineBreak::Another);
-                }
-                held.push(byte)?;
-            }
-        }
-    }
-    Err(io::Error::from(io::ErrorKind::Other))
 }

@@ -15,7 +15,7 @@ use live_core::RestFault;
 use plant::OperatorName;
 use std::alloc::Global;
 use std::io;
-use std::io::{Read, Write};
+use std::io::{BufRead, Write};
 
 /// How a service ended whose lines are performed for the snapshot after them.
 #[derive(Debug, Drop)]
@@ -58,7 +58,7 @@ fn write_last<W: Write>(last: LastState, writer: &mut W) -> io::Result<SnapshotE
 ///
 /// If the plant does not rest before a frame then, no snapshot is written. So it is where memory runs out for the snapshot, and where
 /// the service does not begin. An error is one of the reader's or of a writer's; then no clause says what is written.
-pub fn snapshot_after<R: Read, A: Write, W: Write, N: RefusalNotes>(
+pub fn snapshot_after<R: BufRead, A: Write, W: Write, N: RefusalNotes>(
     alloc: Global,
     reader: &mut R,
     answers: &mut A,

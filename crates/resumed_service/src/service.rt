@@ -1,11 +1,10 @@
 //! A service that goes on from item to item.
 
 ghost use Rattle.std.specs.Prelude.{◌≡◌, ◌+◌, IfOk};
-ghost use Rattle.resumed_service.specs.declared.line_break.LineBreak.TheVariants.{Another};
+ghost use Rattle.line_service.specs.declared.line_break.LineBreak.TheVariants.{Another};
 ghost use Rattle.resumed_service.specs.PlantFiles.{IsNumberAfter};
 
-use crate::line_break::LineBreak;
-use line_service::{LineBuffer, next_number};
+use line_service::{LineBreak, LineBuffer, next_number};
 use live_core::LiveCore;
 use std::io;
 use tlv24::Bytes;

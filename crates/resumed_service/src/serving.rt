@@ -4,6 +4,7 @@ ghost use Rattle.std.specs.Prelude.{◌≡◌, ◌↔◌, ◌∷◌, List, ℕ, 
 ghost use Rattle.live_core.specs.After.{IsReachableFromStart};
 ghost use Rattle.live_core.specs.LiveView.{live_view};
 ghost use Rattle.line_service.specs.Bytes.{WhereKnown};
+ghost use Rattle.line_service.specs.Lines.{lines_left};
 ghost use Rattle.script_format.specs.Lines.{lines_of};
 ghost use Rattle.plant.specs.declared.plant.PlantFields.{PlantFields};
 ghost use Rattle.snapshot_format.specs.declared.saved.Snapshot.{Snapshot};
@@ -16,7 +17,6 @@ ghost use Rattle.resumed_service.specs.declared.last_state.BegunEnd.TheVariants 
 ghost use Rattle.resumed_service.specs.Beginning.{IsRestoringFault};
 ghost use Rattle.resumed_service.specs.Items.{InService};
 ghost use Rattle.resumed_service.specs.LastStates.{EndsBegun};
-ghost use Rattle.resumed_service.specs.PlantFiles.{lines_left};
 ghost use Rattle.resumed_service.specs.Resumed.{EndsInput};
 ghost use Rattle.resumed_service.specs.Served.{AreServedSoFar, IsAfterItem};
 
@@ -27,19 +27,17 @@ use crate::holding::is_held;
 use crate::items::answer_item;
 use crate::kept_text::KeptText;
 use crate::last_state::{AtEnd, BegunEnd, last_state};
-use crate::line_break::LineBreak;
 use crate::new_frame::{answer_frame, asks_frame, take_frame};
 use crate::new_plant::{ItemOutcome, WaitingItem, WaitingLine};
 use crate::notes::RefusalNotes;
 use crate::plant_file::{break_after, plant_of_file, read_plant_file};
-use crate::reading::read_line;
 use crate::service::{ServiceState, number_after};
 use grant_policy::{RankInput, Ranking, rank_by};
-use line_service::LineBuffer;
+use line_service::{LineBreak, LineBuffer, read_line};
 use plant_restart::{RestartFault, RestoreFault, change, restore};
 use std::alloc::Global;
 use std::io;
-use std::io::{Read, Write};
+use std::io::{BufRead, Write};
 
 /// How a service ended that was to begin with a plant file or a snapshot.
 #[derive(Debug, Drop)]
@@ -51,7 +49,7 @@ pub enum ServiceEnd {
 }
 
 /// Reads the plant file after a line `P`, and answers that line unless the file is valid.
-fn take_plant_file<R: Read, W: Write, N: RefusalNotes>(
+fn take_plant_file<R: BufRead, W: Write, N: RefusalNotes>(
     alloc: Global,
     service: &mut ServiceState,
     after: LineBreak,
@@ -95,7 +93,7 @@ fn take_plant_file<R: Read, W: Write, N: RefusalNotes>(
 }
 
 /// Reads an item of the input, and answers it unless it waits for another core.
-fn serve_item<R: Read, W: Write, N: RefusalNotes>(
+fn serve_item<R: BufRead, W: Write, N: RefusalNotes>(
     alloc: Global,
     service: &mut ServiceState,
     reader: &mut R,
@@ -169,7 +167,7 @@ fn end_without_memory() -> io::Result<BegunEnd>
 ///
 /// The cores of new plants and of new frame numbers, and their rankings, are made here too, since a function that makes them may
 /// not hand them out. A ranking for which memory runs out is left out: then `change` or `restore` fails, since it is missing.
-pub(crate) fn serve_begun<R: Read, W: Write, N: RefusalNotes>(
+pub(crate) fn serve_begun<R: BufRead, W: Write, N: RefusalNotes>(
     alloc: Global,
     begun: Beginning,
     at_end: AtEnd,
@@ -258,7 +256,7 @@ pub(crate) fn serve_begun<R: Read, W: Write, N: RefusalNotes>(
 ///
 /// Where the service does not begin, nothing is written. An error is one of the reader's or of the writer's; then no clause says
 /// what is written.
-pub fn resume<R: Read, W: Write, N: RefusalNotes>(
+pub fn resume<R: BufRead, W: Write, N: RefusalNotes>(
     alloc: Global,
     reader: &mut R,
     writer: &mut W,

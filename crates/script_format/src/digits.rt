@@ -23,6 +23,7 @@ pub(crate) const PENDINGS: usize = 32;
 pub(crate) const PENDINGS_ROOM: usize = 256;
 
 /// Writes a mark and the digits of a number after it, up to a place. Returns where the mark exists.
+#[inline(always)]
 fn write_marked(room: &mut [u8], mark: u8, number: u16, end: usize) -> usize
     requires { (6 ≤ end) × (end ≤ length room.old) }
     ensures start { (end ≤ result + 6) × (result < end) }
@@ -35,6 +36,7 @@ fn write_marked(room: &mut [u8], mark: u8, number: u16, end: usize) -> usize
 
 /// Writes a span after a space, up to a place of its room. Returns where it begins.
 #[tactic(auto, using(crate::proofs::Marked::marks_written))]
+#[inline(always)]
 fn marked_span(room: &mut [u8], span: Span, end: usize) -> usize
     requires { (24 ≤ end) × (end ≤ length room.old) }
     ensures start { (end ≤ result + 24) × (result ≤ end) }
@@ -53,6 +55,7 @@ fn marked_span(room: &mut [u8], span: Span, end: usize) -> usize
 }
 
 /// Writes few spans, each after a space, at the end of their room. Returns where they begin.
+#[inline(always)]
 pub(crate) fn spans_digits(room: &mut [u8; SPANS_ROOM], spans: &[Span]) -> usize
     requires { length spans.now ≤ 32 }
     ensures within { result ≤ 768 }
@@ -95,6 +98,7 @@ pub(crate) fn pendings_digits(room: &mut [u8; PENDINGS_ROOM], pending: &[u16]) -
 }
 
 /// Returns the digits of a modem's address.
+#[inline(always)]
 pub(crate) fn address_digits(modem: Modem) -> [u8; 12]
     ensures { result ≡ address modem }
 {
@@ -105,6 +109,7 @@ pub(crate) fn address_digits(modem: Modem) -> [u8; 12]
 }
 
 /// Returns what is before the bytes of a message: the letter of its line, and the modem.
+#[inline(always)]
 pub(crate) fn line_head(letter: u8, modem: Modem) -> [u8; 15]
     ensures { result ≡ letter ∷ (codes " " ++ (address modem ++ codes " ")) }
 {

@@ -109,6 +109,7 @@ pub fn halves(line: &[u8]) -> Option<(&[u8], &[u8])>
 /// Returns a line in two as by `halves`, with no search where its first field is of one byte, as
 /// that of most lines is.
 #[tactic(auto, using(crate::proofs::Splits::word_of))]
+#[inline(always)]
 pub fn word_and_rest(line: &[u8]) -> Option<(&[u8], &[u8])>
     ensures { MatchOption result (line_fields line.now ≡ line.now ∷ [])
         (λ p. line_fields line.now ≡ p.0.now ∷ line_fields p.1.now) }
@@ -134,6 +135,7 @@ pub fn three_of<'a>(
 }
 
 /// Returns the number of decimal digits, if it is at most `most`. Leading zeros are digits.
+#[inline(always)]
 fn decimal_in(most: u32, text: &[u8]) -> Option<u32>
     ensures value { result ≡ decimal_in most text.now }
     ensures bound { IfSome result (λ number. number ≤ most) }
@@ -155,6 +157,7 @@ fn decimal_in(most: u32, text: &[u8]) -> Option<u32>
 }
 
 /// Returns a decimal number of at most so many digits, and at most `limit`.
+#[inline(always)]
 pub fn number_in(
     field: usize,
     name: NumberName,
@@ -179,6 +182,7 @@ pub fn number_in(
 }
 
 /// Returns a decimal number of 1 to 5 digits, at most 65,535.
+#[inline(always)]
 pub fn short_in(field: usize, name: NumberName, text: &[u8]) -> Result<u16, FieldError>
     ensures { result ≡ short_in field name text.now }
 {
@@ -188,6 +192,7 @@ pub fn short_in(field: usize, name: NumberName, text: &[u8]) -> Result<u16, Fiel
 
 /// Returns the bytes of a message: `-` for none, else hexadecimal. None where the text is not a
 /// message.
+#[inline(always)]
 pub fn message_bytes(alloc: Global, text: &[u8]) -> Result<Option<Bytes>, AllocError>
     ensures { IfOk result (λ bytes. bytes ≡ message_bytes text.now) }
 {

@@ -15,6 +15,7 @@ const STEP: usize = 64;
 const ROOM: usize = 129;
 
 /// Returns the upper-case digit of a number below 16. No table: many digits are computed at once.
+#[inline(always)]
 fn digit(number: u8) -> u8
     requires { number < 16 }
     ensures { result ≡ hex_digit number }
@@ -28,6 +29,7 @@ fn digit(number: u8) -> u8
 
 /// Returns the two digits of a byte.
 #[tactic(auto, using(crate::proofs::Encoded::digit_is))]
+#[inline(always)]
 pub(crate) fn hex_pair(byte: u8) -> (u8, u8)
     ensures high { result.0 ≡ slice_index upper_digits (byte / 16) }
     ensures low { result.1 ≡ slice_index upper_digits (byte % 16) }
@@ -37,6 +39,7 @@ pub(crate) fn hex_pair(byte: u8) -> (u8, u8)
 }
 
 /// Puts the digits of bytes at the front of their room.
+#[inline(always)]
 fn fill(room: &mut [u8; ROOM], bytes: &[u8])
     requires { length bytes.now ≤ 64 }
     ensures { take (2 * length bytes.now) room.new ≡ encode_upper bytes.now }

@@ -390,6 +390,7 @@ fn put_word<'a>(
 /// Appends the steps of a line. An empty line has none. `fields` is room for the parts of the line,
 /// and is used again for the next one.
 #[tactic(auto, unfolding(crate::specs::Script::line_steps))]
+#[inline(always)]
 pub fn put_line<'a>(
     alloc: Global,
     plant: &Plant,

@@ -22,6 +22,7 @@ const VALUES: &[u8; 256] = &[
 ];
 
 /// Returns the value of a digit; 255 for what is not a digit.
+#[inline(always)]
 fn value(digit: u8) -> u8
     ensures { result ≡ unwrap_or (hex_digit_value digit) 255 }
 {
@@ -30,6 +31,7 @@ fn value(digit: u8) -> u8
 
 /// Puts the bytes that pairs of digits say into room for so many. False where one is not a digit;
 /// the room then holds no message.
+#[inline(always)]
 pub(crate) fn decode_into(digits: &[u8], room: &mut [u8]) -> bool
     requires { length digits.now ≡ 2 * length room.old }
     ensures { MatchResult (decode_sized digits.now (length room.old))

@@ -32,6 +32,7 @@ fn write_address<W: Write>(writer: &mut W, modem: Modem) -> io::Result<()>
 }
 
 /// Writes few spans, each after a space.
+#[inline(always)]
 fn write_few_spans<W: Write>(writer: &mut W, spans: &[Span]) -> io::Result<()>
     requires { length spans.now ≤ 32 }
     ensures { OnOk result (Appends (W.contents writer.old) (W.contents writer.new)
@@ -80,6 +81,7 @@ fn write_pending<W: Write>(writer: &mut W, pending: &[u16]) -> io::Result<()>
 }
 
 /// Writes the elements of a frame, each after a space.
+#[inline(always)]
 fn write_elements<W: Write>(writer: &mut W, elements: &Elements) -> io::Result<()>
     ensures { OnOk result (Appends (W.contents writer.old) (W.contents writer.new) (elements_text elements.now)) }
 {
@@ -119,6 +121,7 @@ fn write_silent<W: Write>(writer: &mut W, modem: Option<Modem>, cause: Cause) ->
 }
 
 /// Writes the line of a reply.
+#[inline(always)]
 fn write_reply<W: Write>(writer: &mut W, modem: Modem, bytes: &[u8]) -> io::Result<()>
     ensures { OnOk result (Appends (W.contents writer.old) (W.contents writer.new)
         (codes "R " ++ (address modem ++ (codes " " ++ (encode_upper bytes.now ++ 10 ∷ []))))) }
@@ -146,6 +149,7 @@ fn write_frame<W: Write>(
 }
 
 /// Writes the line of an operator's output.
+#[inline(always)]
 pub fn write_output<W: Write>(
     writer: &mut W,
     plant: &Plant,
@@ -172,6 +176,7 @@ pub fn write_map<W: Write>(writer: &mut W, made: &MapBytes) -> io::Result<()>
 }
 
 /// Writes the line of an output.
+#[inline(always)]
 fn write_out<W: Write>(writer: &mut W, plant: &Plant, out: &Out) -> io::Result<()>
     ensures { OnOk result (Appends (W.contents writer.old) (W.contents writer.new) (out_line plant.now out.now)) }
 {

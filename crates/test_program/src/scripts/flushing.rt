@@ -7,7 +7,7 @@ use slice_table::read_plant;
 use std::alloc::Global;
 use std::cell::Cell;
 use std::io;
-use std::io::{Read, Write};
+use std::io::{BufReader, Read, Write};
 use std::test::Fail;
 use test_plants::PLANT;
 
@@ -76,11 +76,12 @@ fn serve_script(alloc: Global, script: &[u8]) -> Result<Vec<u8>, Fail> {
     };
     let held = LineBuffer::new(alloc)?;
     let held_back = Cell::new(0);
-    let mut reader = Waiting {
+    let waiting = Waiting {
         bytes: script,
         is_begun: false,
         held_back: &held_back,
     };
+    let mut reader = BufReader::new(alloc, waiting)?;
     let mut writer = Buffered {
         taken: Vec::new(alloc),
         held_back: &held_back,

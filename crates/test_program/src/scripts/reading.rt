@@ -5,6 +5,7 @@ use crate::scripts::wanted::{ADDITION, CASES, REPLY, script_input};
 use plant_script::run_program;
 use std::alloc::Global;
 use std::io;
+use std::io::BufReader;
 use std::process::Abort;
 use std::sync::Wait;
 use std::test::Fail;
@@ -21,12 +22,13 @@ fn check_read(
     fails_at: usize,
 ) -> Result<(), Fail> {
     let (words, status, text) = case;
-    let mut reader = Dripping {
+    let dripping = Dripping {
         bytes: input.as_bytes(),
         reads: 0,
         fails_at,
         kind,
     };
+    let mut reader = BufReader::new(alloc, dripping)?;
     let mut written = Vec::new(alloc);
     let told = run_program(rt, alloc, words, &mut reader, &mut written);
     let (status, text) = if fails_at <= input.len() {
@@ -37,7 +39,7 @@ fn check_read(
     assert_eq!(rt; told, status, "read {fails_at} of {text}");
     assert_eq!(rt; written.as_slice(), text.as_bytes(), "read {fails_at}");
     let reads = fails_at.min(input.len()).saturating_add(1);
-    assert_eq!(rt; reader.reads, reads, "read {fails_at} of {text}");
+    assert_eq!(rt; reader.get_ref().reads, reads, "read {fails_at} of {text}");
     Ok(())
 }
 
@@ -68,21 +70,21 @@ fn a_read_that_fails_is_status_6(rt: HostRuntime) -> Result<(), Fail> {
 #[test]
 fn nothing_is_read_for_words_that_are_no_order(rt: HostRuntime) -> Result<(), Fail> {
     for word in ["two", "--help"] {
-        let mut reader = Endless { reads: 0 };
+        let mut reader = BufReader::new(rt.alloc(), Endless { reads: 0 })?;
         let mut text = Vec::new(rt.alloc());
         let _status = run_program(&rt, rt.alloc(), &[word], &mut reader, &mut text);
-        assert_eq!(rt; reader.reads, 0, "at {word}");
+        assert_eq!(rt; reader.get_ref().reads, 0, "at {word}");
     }
     Ok(())
 }
 
 #[test]
 fn an_input_that_is_too_long_is_status_6(rt: HostRuntime) -> Result<(), Fail> {
-    let mut reader = Endless { reads: 0 };
+    let mut reader = BufReader::new(rt.alloc(), Endless { reads: 0 })?;
     let mut text = Vec::new(rt.alloc());
     let status = run_program(&rt, rt.alloc(), &["one"], &mut reader, &mut text);
     assert_eq!(rt; status, 6);
     assert_eq!(rt; text.as_slice(), b"fault: io\n".as_slice());
-    assert_eq!(rt; reader.reads, 1_048_577);
+    assert_eq!(rt; reader.get_ref().reads, 1_048_577);
     Ok(())
 }

@@ -3,7 +3,7 @@
 use plant_script::{Ending, run_program_with_reasons};
 use std::alloc::Global;
 use std::io;
-use std::io::{Read, Write};
+use std::io::{BufReader, Read, Write};
 use std::sync::Wait;
 use std::test::Fail;
 use std::thread::Threads;
@@ -76,11 +76,12 @@ fn an_answer_and_its_reason(rt: HostRuntime) -> Result<(), Fail> {
 fn reads_and_writes_that_fail(rt: HostRuntime) -> Result<(), Fail> {
     let alloc = rt.alloc();
     let (mut answer, mut reasons) = (Vec::new(alloc), Vec::new(alloc));
+    let mut broken = BufReader::new(alloc, Broken)?;
     let status = run_program_with_reasons(
         &rt,
         alloc,
         &["run"],
-        &mut Broken,
+        &mut broken,
         &mut answer,
         &mut reasons,
         Ending::GoesOn,

@@ -1,60 +1,66 @@
-use Rattle.std.proofs.Common.{[], ℕ, Option, refl, subst}
+use Rattle.std.proofs.Common.{refl, subst}
 use Rattle.live_core.specs.After.{IsAfterFrom}
 use Rattle.live_core.specs.LiveView.{live_view}
-use Rattle.line_service.specs.Bytes.{Takes}
+use Rattle.script_format.specs.Lines.{lines_of}
+use Rattle.line_service.specs.declared.line_break.LineBreak.{LineBreak}
+use Rattle.line_service.specs.declared.line_break.LineBreak.TheVariants.{Another, End}
+use Rattle.line_service.specs.Bytes.{WhereKnown}
+use Rattle.line_service.specs.Lines.{IsLineRead}
 use Rattle.line_service.specs.Service.{IsServiceOf}
 use Rattle.line_service.specs.SoFar.{IsServedSoFar}
-use Rattle.line_service.proofs.FrontLemmas.{known_on}
-use Rattle.line_service.proofs.StepLemmas.{on_ok_map}
-use Rattle.line_service.proofs.ServiceLemmas.{begun, input_ended, known_same, known_ended}
+use Rattle.line_service.proofs.ServiceLemmas.{begun, served_on, served_all, known_same, known_then, known_ended}
 use Rattle.json_service.proofs.serving.serve.Goals as goal
 
 pub loop-init : goal.loop-init
 loop-init g c =
     let known = g.R.Read.remaining c.args.reader.now in
     let written = g.W.Write.contents c.args.writer.now in
-    let held = c.args.held in (
-      c.requires.reached,
-      λ plant start before shown after.
-          known_same known (λ input rest. IsServedSoFar plant start before shown input rest held.bytes.items held.is_long 1 (live_view c.args.core.now) written written)
-          (λ input. begun plant start before shown input held.bytes.items held.is_long (live_view c.args.core.now) written c.requires.empty after),
-    )
+    record {
+      reached = c.requires.reached;
+      empty = c.requires.empty;
+      served = λ plant start before shown after.
+          known_same known (λ input rest. IsServedSoFar plant start before shown input (lines_of rest) 1 (live_view c.args.core.now) written written)
+          (λ input. begun plant start before shown input (live_view c.args.core.now) written after);
+    }
 
-pub returns-in-None : goal.returns-in-None
-returns-in-None g c =
+pub returns-in-End : goal.returns-in-End
+returns-in-End g c =
     let known = g.R.Read.remaining c.args.reader.now in
     let rest = g.R.Read.remaining c.loop.reader in
-    let left = g.R.Read.remaining c.next_byte.new.reader in
+    let left = g.R.Read.remaining c.read_line.new.reader in
     let old = g.W.Write.contents c.args.writer.now in
     let mid = g.W.Write.contents c.loop.writer in
     let new = g.W.Write.contents c.answer_held.new.writer in
-    let held = c.loop.held in
-    on_ok_map c.answer_held.result _ _
-    (λ answers.
+    let held = c.read_line.new.held in
     known_ended known rest left (λ plant start before shown. IsAfterFrom plant start before shown (live_view c.args.core.now))
-    (λ plant start before shown input bytes. IsServedSoFar plant start before shown input bytes held.bytes.items held.is_long c.loop.number (live_view c.loop.core) old mid)
-    (λ plant start before shown input. IsServiceOf plant start before shown input (live_view c.answer_held.new.core) old new) c.loop.invariant.1
-    (subst (λ (o : Option ℕ). Takes rest left o) c.in-None.is c.in_ok-next_byte.ensures)
-    (λ plant start before shown input after so_far.
-    input_ended plant start before shown input [] held.bytes.items held.is_long c.loop.number (live_view c.loop.core) (live_view c.answer_held.new.core) old mid new so_far
-    (answers plant start _ _ so_far.after so_far.part so_far.is_held) refl))
-    c.answer_held.ensures.answered
+    (λ plant start before shown input bytes. IsServedSoFar plant start before shown input (lines_of bytes) c.loop.number (live_view c.loop.core) old mid)
+    (λ bytes behind. IsLineRead bytes behind held.bytes.items held.is_long End)
+    (λ plant start before shown input. IsServiceOf plant start before shown input (live_view c.answer_held.new.core) old new) c.loop.invariant.served
+    (subst (λ (end : LineBreak). WhereKnown rest left (λ bytes behind. IsLineRead bytes behind held.bytes.items held.is_long end)) c.in-End.is c.in_ok-end.ensures)
+    (λ plant start before shown input bytes behind so_far read.
+    served_all plant start before shown c.loop.number (live_view c.loop.core) (live_view c.answer_held.new.core) held.bytes.items held.is_long old mid new c.in_ok-answer_held.ensures.answered input bytes behind
+    so_far End read refl)
 
 pub loop-preserved : goal.loop-preserved
 loop-preserved g c =
     let known = g.R.Read.remaining c.args.reader.now in
     let rest = g.R.Read.remaining c.loop.reader in
-    let left = g.R.Read.remaining c.next_byte.new.reader in
+    let left = g.R.Read.remaining c.read_line.new.reader in
     let old = g.W.Write.contents c.args.writer.now in
     let mid = g.W.Write.contents c.loop.writer in
-    let new = g.W.Write.contents c.take_byte.new.writer in
-    let held = c.loop.held in
-    let after_held = c.take_byte.new.held in (
-      c.in_ok-take_byte-in-Some.ensures.reached,
-      λ plant start before shown after.
-          known_on known rest left c.in-Some.byte
-          (λ input bytes. IsServedSoFar plant start before shown input bytes held.bytes.items held.is_long c.loop.number (live_view c.loop.core) old mid)
-          (λ input bytes. IsServedSoFar plant start before shown input bytes after_held.bytes.items after_held.is_long c.take_byte.new.number (live_view c.take_byte.new.core) old new)
-          (λ input bytes so_far. c.in_ok-take_byte-in-Some.ensures.on plant start before shown input bytes old so_far) (c.loop.invariant.1 plant start before shown after)
-          (subst (λ (o : Option ℕ). Takes rest left o) c.in-Some.is c.in_ok-next_byte.ensures),
-    )
+    let new = g.W.Write.contents c.answer_held.new.writer in
+    let held = c.read_line.new.held in
+    let next = c.in_ok-number-in-Another.number in
+    record {
+      reached = c.in_ok-answer_held.ensures.reached;
+      empty = c.clear.ensures;
+      served = λ plant start before shown after.
+          known_then known rest left (λ input bytes. IsServedSoFar plant start before shown input (lines_of bytes) c.loop.number (live_view c.loop.core) old mid)
+          (λ bytes behind. IsLineRead bytes behind held.bytes.items held.is_long Another)
+          (λ input behind. IsServedSoFar plant start before shown input (lines_of behind) next (live_view c.answer_held.new.core) old new)
+          (λ input bytes behind so_far read.
+          served_on plant start before shown c.loop.number (live_view c.loop.core) (live_view c.answer_held.new.core) held.bytes.items held.is_long old mid new c.in_ok-answer_held.ensures.answered input bytes
+          behind so_far Another read next c.in_ok-number-in-Another.ensures.next)
+          (c.loop.invariant.served plant start before shown after)
+          (subst (λ (end : LineBreak). WhereKnown rest left (λ bytes behind. IsLineRead bytes behind held.bytes.items held.is_long end)) c.in-Another.is c.in_ok-end.ensures);
+    }

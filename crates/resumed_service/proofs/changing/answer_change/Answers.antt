@@ -5,7 +5,7 @@ use Rattle.line_service.specs.Bytes.{WhereKnown}
 use Rattle.line_service.proofs.StepLemmas.{on_ok_map}
 use Rattle.plant_restart.specs.Changing.{IsChangeOf, IsChangeFault}
 use Rattle.resumed_service.specs.Items.{change_text}
-use Rattle.resumed_service.specs.PlantFiles.{lines_left}
+use Rattle.line_service.specs.Lines.{lines_left}
 use Rattle.resumed_service.specs.Served.{AreServedSoFar}
 use Rattle.resumed_service.proofs.ServedLemmas.{plant_changed, plant_kept}
 use Rattle.resumed_service.proofs.changing.answer_change.Goals as goal

@@ -9,9 +9,9 @@ use Rattle.script_format.proofs.Outcomes.{if_ok}
 use Rattle.snapshot_format.specs.States.{states_of}
 use Rattle.plant_restart.specs.Restarted.{IsRestoreFault}
 use Rattle.plant_restart.specs.Saving.{states_by_name}
-use Rattle.resumed_service.specs.declared.line_break.LineBreak.{LineBreak}
+use Rattle.line_service.specs.declared.line_break.LineBreak.{LineBreak}
 use Rattle.resumed_service.specs.declared.new_plant.ItemOutcome.{ItemOutcome}
-use Rattle.resumed_service.specs.PlantFiles.{lines_left}
+use Rattle.line_service.specs.Lines.{lines_left}
 use Rattle.resumed_service.specs.Resumed.{resumed_service}
 use Rattle.resumed_service.specs.declared.new_plant.WaitingItem.{WaitingItem}
 use Rattle.resumed_service.specs.Served.{AreServedSoFar, AwaitsCore, IsAfterItem}

@@ -2,7 +2,7 @@ use Rattle.std.proofs.Common.{◌≡◌, map, take}
 use Rattle.live_core.specs.After.{IsReachableFromStart}
 use Rattle.live_core.specs.LiveView.{live_view}
 use Rattle.line_service.specs.Bytes.{WhereKnown}
-use Rattle.resumed_service.specs.PlantFiles.{lines_left}
+use Rattle.line_service.specs.Lines.{lines_left}
 use Rattle.resumed_service.specs.Resumed.{resumed_service}
 use Rattle.resumed_service.specs.Served.{AreServedSoFar}
 use Rattle.resumed_service.proofs.serving.serve_begun.Given as goal

@@ -2,7 +2,7 @@
 
 /// What is after a line that was read.
 #[derive(Clone, Copy, Debug, PartialEq, Eq)]
-pub(crate) enum LineBreak {
+pub enum LineBreak {
     /// Another line, which may be empty.
     Another,
     /// The end of the input.
