@@ -1,2 +1,3 @@
 pub mod TakeLemmas
 mod ReceiptLemmas
+mod RoomLemmas

@@ -1,5 +1,5 @@
 -- Frames that are taken, and how many stand before a place.
-use Rattle.std.proofs.Common.{◌≡◌, ◌≢◌, ℕ, zero, suc, ◌+◌, ◌-◌, ◌<◌, ◌≤◌, List, [], ◌∷◌, ◌++◌, length, get_or, take, drop, All, cond, refl, sym, ap, ◌∙◌, arith}
+use Rattle.std.proofs.Common.{◌≡◌, ◌≢◌, ℕ, zero, suc, ◌+◌, ◌-◌, ◌<◌, ◌≤◌, List, [], ◌∷◌, ◌++◌, length, get_or, take, drop, All, Option, Some, cond, refl, sym, ap, subst, ◌∙◌, arith}
 use Rattle.std.specs.Prelude.{count_by, nat_lt}
 use Rattle.std.specs.List.{flat_map}
 use Rattle.std.proofs.lemmas.List.{take-append-drop, length-append}
@@ -14,7 +14,9 @@ use Rattle.operator_model.specs.declared.output.Output.TheVariants.{Reply, Silen
 use Rattle.run_model.specs.IsStateAfter.{frame_with_number, frames_of}
 use Rattle.plant_core.specs.Waiting.{frames_in, waiting_in, IsOneFrame}
 use Rattle.plant_core.proofs.WaitingLemmas.{waiting_more}
+use Rattle.cell_state.specs.Oldest.{IsOldest}
 use Rattle.cell_state.specs.Taking.{is_frame, has_frame}
+use Rattle.cell_state.specs.declared.collecting.Oldest.{Oldest}
 
 abbrev pub Numbered : Type 0
 Numbered = ℕ × ElementsFields
@@ -26,6 +28,12 @@ frames_append : (xs ys : List Entry) → frames_in (xs ++ ys) ≡ frames_in xs +
 frames_append xs ys =
     ap frames_of (flat_map-append (λ (e : Entry). e.outputs) xs ys)
     ∙ filter_map-append frame_with_number (flat_map (λ (e : Entry). e.outputs) xs) (flat_map (λ (e : Entry). e.outputs) ys)
+
+-- the frame that waits longest is the first of those that wait
+pub oldest_front : (h history : List Entry) (place : ℕ) (o : Option Oldest) (oldest : Oldest) → h ≡ history → o ≡ Some oldest → IsOldest h place o
+    → waiting_in history place ≡ (oldest.number, oldest.elements) ∷ waiting_in history oldest.behind
+oldest_front h history place o oldest same is waits =
+    (subst (λ (x : Option Oldest). IsOldest history place x) is (subst (λ (es : List Entry). IsOldest es place o) same waits)).0
 
 -- ---- how many
 

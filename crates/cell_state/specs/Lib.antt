@@ -1,4 +1,5 @@
 pub mod HeldView
+pub mod Oldest
 pub mod Receiving
 pub mod Refusing
 pub mod Taking

@@ -5,35 +5,35 @@ ghost use Rattle.operator_model.specs.declared.action.Action.TheVariants as acti
 ghost use Rattle.operator_model.specs.Machine.{unfit_from};
 ghost use Rattle.operator_model.specs.Replay.{operator_of_book, book_after_action};
 ghost use Rattle.run_model.specs.Steps.{NoneRefuses};
-ghost use Rattle.plant_core.specs.declared.core_fault.CoreFault.TheVariants as core_faults;
-ghost use Rattle.plant_core.specs.Faults.{IsReported};
-ghost use Rattle.plant_core.specs.Giving.{HaveTaken};
-ghost use Rattle.plant_core.specs.Reslicing.{reslice_fault};
+ghost use Rattle.live_core.specs.declared.core_fault.CoreFault.TheVariants as core_faults;
+ghost use Rattle.live_core.specs.Faults.{IsReported};
+ghost use Rattle.live_core.specs.Giving.{HaveTaken};
+ghost use Rattle.live_core.specs.Reslicing.{reslice_fault};
 ghost use Rattle.cell_state.specs.HeldView.{cell_book, waiting_of, history_room};
 ghost use Rattle.cell_state.specs.Receiving.{IsReceiptOf, AreOwnersReceipts};
 
 use crate::held::Held;
 use crate::judging::reslice_fault;
 use crate::told::Told;
+use live_core::CoreFault;
 use operator_model::{Action, Outputs, SliceRow};
-use plant_core::CoreFault;
 use run_receipts::{Caller, Receipt};
 use std::alloc::{AllocError, Global};
 
 impl Held {
     /// Makes room for one more entry in the history.
     fn make_room(&mut self) -> Result<(), AllocError>
-        requires within { self.old.desk.collected ≤ length (cell_book self.old).history }
+        requires within { self.old.collected ≤ length (cell_book self.old).history }
         ensures room { OnOk result (0 < history_room self.new) }
         ensures book { cell_book self.new ≡ cell_book self.old }
         ensures waiting { waiting_of self.new ≡ waiting_of self.old }
     {
-        self.desk.book.make_room()
+        self.book.make_room()
     }
 
     /// Takes a row from a later frame on, and returns the owner's receipt. Takes no memory.
     fn reslice(&mut self, alloc: Global, from: u32, row: SliceRow) -> Receipt
-        requires within { self.old.desk.collected ≤ length (cell_book self.old).history }
+        requires within { self.old.collected ≤ length (cell_book self.old).history }
         requires fit { unfit_from (operator_of_book (cell_book self.old)) from row ≡ None }
         requires room { 0 < history_room self.old }
         ensures receipt { IsReceiptOf (cell_book self.old) (actions.Reslice from row) result }
@@ -41,7 +41,7 @@ impl Held {
         ensures waiting { waiting_of self.new ≡ waiting_of self.old }
     {
         let index = self.count();
-        self.desk.book.reslice(from, row);
+        self.book.reslice(from, row);
         Receipt {
             index,
             action: Action::Reslice { from, row },

@@ -1,13 +1,27 @@
 //! Judging new slices for all operators.
 
 ghost use Rattle.std.specs.Prelude.{◌≡◌, length, map};
+ghost use Rattle.operator_model.specs.Machine.{unfit_from};
+ghost use Rattle.operator_model.specs.Replay.{operator_of_book};
+ghost use Rattle.live_core.specs.Reslicing.{is_unfit, least_unfit, row_fault, reslice_fault};
 ghost use Rattle.cell_state.specs.HeldView.{cell_book};
-ghost use Rattle.plant_core.specs.Reslicing.{least_unfit, row_fault, reslice_fault};
 
 use crate::held::Held;
+use live_core::{ResliceFault, Unfits, first_fault, is_same};
 use operator_model::{SliceRow, Unfit};
 use plant::Op;
-use plant_core::{ResliceFault, Unfits, first_fault, is_refused};
+
+impl Held {
+    /// Returns whether the book refuses a row from a frame on with this fault. Takes no memory.
+    fn refuses(&self, from: u32, row: SliceRow, unfit: Unfit) -> bool
+        ensures { result ≡ is_unfit unfit (unfit_from (operator_of_book (cell_book self.now)) from row) }
+    {
+        match self.book.offer(from, row) {
+            Ok(()) => false,
+            Err(found) => is_same(unfit, found),
+        }
+    }
+}
 
 /// Returns the least operator whose book refuses its row with this fault.
 fn least_unfit(helds: &[Held], from: u32, rows: &[SliceRow], unfit: Unfit) -> Option<Op>
@@ -15,7 +29,7 @@ fn least_unfit(helds: &[Held], from: u32, rows: &[SliceRow], unfit: Unfit) -> Op
     ensures { result ≡ least_unfit unfit from 0 (map cell_book helds.now) rows.now }
 {
     for (op, row) in rows.iter().enumerate() {
-        if is_refused(&helds[op].desk.book, from, *row, unfit) {
+        if helds[op].refuses(from, *row, unfit) {
             return Some(op);
         }
     }

@@ -2,7 +2,9 @@
 //! stopped. All that a caller under the lock can do is a call here.
 #![tactic(auto)]
 
+mod acting;
 mod cell_fault;
+mod collecting;
 mod giving;
 mod held;
 mod judging;

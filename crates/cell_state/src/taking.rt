@@ -9,7 +9,6 @@ ghost use Rattle.cell_state.specs.Taking.{frames_at, is_frame, has_frame};
 use crate::held::Held;
 use operator_book::Book;
 use operator_model::{Entry, Output};
-use plant_core::OperatorSlot;
 
 /// Returns whether an output is a frame.
 fn is_frame(output: &Output) -> bool
@@ -72,7 +71,8 @@ impl Held {
     {
         let collected = book.history().len();
         Held {
-            desk: OperatorSlot { book, collected },
+            book,
+            collected,
             stopped: false,
         }
     }
@@ -89,20 +89,24 @@ impl Held {
         book.always_replayed();
         let collected = behind(book.history(), taken);
         Held {
-            desk: OperatorSlot { book, collected },
+            book,
+            collected,
             stopped: false,
         }
     }
 
     /// Returns the book, and how many of its frames were collected. Takes no memory.
     pub fn into_parts(self) -> (Book, usize)
-        requires { self.desk.collected ≤ length (cell_book self).history }
+        requires { self.collected ≤ length (cell_book self).history }
         ensures book { view_of result.0 ≡ cell_book self }
         ensures within { result.1 ≤ length (frames_at (view_of result.0)) }
         ensures taken { waiting_of self ≡ drop result.1 (frames_at (view_of result.0)) }
     {
-        let Held { desk, stopped: _ } = self;
-        let OperatorSlot { book, collected } = desk;
+        let Held {
+            book,
+            collected,
+            stopped: _,
+        } = self;
         // For the proof: each entry of the history outputs one frame at most.
         book.always_replayed();
         let taken = entries_with_frame(&book.history()[..collected]);

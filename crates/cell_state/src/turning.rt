@@ -32,7 +32,7 @@ impl Held {
         index: usize,
         action: Action,
     ) -> Result<Receipt, CellFault>
-        requires within { self.old.desk.collected ≤ length (cell_book self.old).history }
+        requires within { self.old.collected ≤ length (cell_book self.old).history }
         ensures index { IfOk result (λ receipt. receipt.index ≡ index) }
         ensures receipt { IfOk result (IsReceiptOf (cell_book self.old) action) }
         ensures some_book { IfOk result (IsOfSomeBook action) }
@@ -73,7 +73,7 @@ impl Held {
     ///
     /// Faults, in this order: `Stopped`; `Book` of `NoMemory`.
     pub fn take(&mut self, alloc: Global, op: Op) -> Result<Option<(u32, Elements)>, CellFault>
-        requires within { self.old.desk.collected ≤ length (cell_book self.old).history }
+        requires within { self.old.collected ≤ length (cell_book self.old).history }
         ensures taken { IfOk result (IsFrontTaken (waiting_of self.old) (waiting_of self.new)) }
         ensures some_book { IfOk result (λ taken. IfSome taken IsFrameOfSomeBook) }
         ensures stopped { (result ≡ Err (CellFault.Stopped op)) ↔ (self.old.stopped ≡ true) }
@@ -95,9 +95,10 @@ impl Held {
 
     /// Stops the turns: each that waits, and each later one, is refused.
     pub fn stop(&mut self)
-        requires within { self.old.desk.collected ≤ length (cell_book self.old).history }
+        requires within { self.old.collected ≤ length (cell_book self.old).history }
         ensures stopped { self.new.stopped ≡ true }
-        ensures desk { self.new.desk ≡ self.old.desk }
+        ensures book { self.new.book ≡ self.old.book }
+        ensures collected { self.new.collected ≡ self.old.collected }
     {
         self.stopped = true;
     }

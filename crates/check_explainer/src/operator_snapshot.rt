@@ -6,7 +6,7 @@ ghost use Rattle.operator_model.specs.State.{operator};
 ghost use Rattle.operator_model.specs.Sound.{IsSound};
 
 use flow_table::Flow;
-use operator_book::{Book, Machine, StateView};
+use operator_book::{Machine, StateView};
 use plant::{Consts, OperatorRow};
 use std::alloc::{AllocError, Global};
 use std::marker::Model;
@@ -107,17 +107,6 @@ fn snapshot_of(
 }
 
 impl OperatorSnapshot {
-    /// Returns the operator of a book, as it exists.
-    pub fn of_book(alloc: Global, book: &Book) -> Result<OperatorSnapshot, AllocError>
-        ensures { IfOk result (λ operator_snapshot. operator_snapshot
-            ≡ operator book.now.kept.book.consts book.now.kept.book.row book.now.kept.book.state) }
-    {
-        // For the proof: what always holds of `book`.
-        book.always_sound();
-        let state = book.state_view(alloc)?;
-        snapshot_of(alloc, book.consts(), book.row(), state)
-    }
-
     /// Returns the operator of a machine, as it exists.
     pub fn of_machine(alloc: Global, machine: &Machine) -> Result<OperatorSnapshot, AllocError>
         ensures { IfOk result (λ operator_snapshot. operator_snapshot ≡ machine.now.sound) }

@@ -7,9 +7,10 @@ use crate::joint::{Side, name_of, say_over_slice, say_overlap};
 use crate::reason::{GapText, Reason};
 use crate::values::say_slice;
 use grant_policy::{RankInput, Ranking, rank_by};
+use live_core::{CoreFault, CoreOpenFault, ResliceFault};
 use operator_book::{Action, BookFault, Entry, SliceRow};
 use plant::{Op, Plant};
-use plant_core::{CoreFault, CoreOpenFault, PlantCore, ResliceFault};
+use plant_core::PlantCore;
 use run_model::{SliceRows, Step};
 use script_format::LineStep;
 

@@ -1,7 +1,7 @@
 //! Steps that are noted and done one after the other, and the answer to one line.
 
 ghost use Rattle.std.specs.Prelude.{◌≡◌, None, IfOk, OnOk, OnErr};
-ghost use Rattle.plant_core.specs.Faults.{step_fault};
+ghost use Rattle.live_core.specs.Faults.{step_fault};
 ghost use Rattle.live_core.specs.After.{BehindEachRun, IsReachableFromStart};
 ghost use Rattle.live_core.specs.LiveView.{live_view};
 ghost use Rattle.line_service.specs.SoFar.{HasAnswered, LineIsAnswered};

@@ -10,7 +10,7 @@ use Rattle.run_model.specs.declared.step.Out.{Out}
 use Rattle.run_model.specs.IsStateAfter.{CoreView}
 use Rattle.run_model.specs.IsTraceOf.{IsTraceFrom}
 use Rattle.run_model.specs.Ordered.{OrderedFrom}
-use Rattle.plant_core.specs.Faults.{step_fault}
+use Rattle.live_core.specs.Faults.{step_fault}
 use Rattle.live_core.specs.After.{IsAfterFrom}
 use Rattle.script_format.specs.declared.fields.FieldError.TheVariants.{TooLong}
 use Rattle.script_format.specs.declared.script.LineStep.{LineStep}

@@ -16,11 +16,11 @@ use Rattle.slice_scheduler.specs.declared.elements.ElementsFields.{ElementsField
 use Rattle.run_model.specs.declared.step.Step.{Step}
 use Rattle.run_model.specs.declared.step.Step.TheVariants as steps
 use Rattle.run_model.specs.IsStateAfter.{CoreView}
-use Rattle.plant_core.specs.declared.core_fault.CoreFault.TheVariants.{Reslice}
-use Rattle.plant_core.specs.declared.core_fault.ResliceFault.{ResliceFault}
-use Rattle.plant_core.specs.declared.core_fault.ResliceFault.TheVariants as found
-use Rattle.plant_core.specs.Faults.{act_fault, arrive_fault, collect_fault, step_fault}
-use Rattle.plant_core.specs.Reslicing.{is_unfit, least_unfit, least_meeting, first_fault, row_fault, reslice_fault}
+use Rattle.live_core.specs.declared.core_fault.CoreFault.TheVariants.{Reslice}
+use Rattle.live_core.specs.declared.core_fault.ResliceFault.{ResliceFault}
+use Rattle.live_core.specs.declared.core_fault.ResliceFault.TheVariants as found
+use Rattle.live_core.specs.Faults.{act_fault, arrive_fault, collect_fault, step_fault}
+use Rattle.live_core.specs.Reslicing.{is_unfit, least_unfit, least_meeting, first_fault, row_fault, reslice_fault}
 use Rattle.live_core.specs.GoingOn.{forgotten, IsOf}
 
 -- ---- other slices

@@ -1,11 +1,11 @@
 -- What one step makes of a live core, it makes of each core of which that is held.
-use Rattle.std.proofs.Common.{◌≡◌, ℕ, zero, suc, ◌<◌, List, [], ◌∷◌, ◌++◌, length, map, get_or, Option, Some, None, option_map, AllPairs, false, refl, sym, ap, ap₂, subst, ◌∙◌, arith}
+use Rattle.std.proofs.Common.{◌≡◌, ℕ, zero, suc, ◌<◌, List, [], ◌∷◌, ◌++◌, length, map, get_or, Option, Some, None, option_map, refl, sym, ap, ap₂, subst, ◌∙◌, arith}
 use Rattle.std.specs.Prelude.{slice_get, slice_set}
 use Rattle.std.proofs.lemmas.List.{map-set, length-map}
 use Rattle.std.proofs.lemmas.Option.{slice_get-map, same_Some}
 use Rattle.std.proofs.Math.Logic.{∥∥₁_map, ∥∥₁_elim}
 use Rattle.std.proofs.Props.{props}
-use Rattle.slice_scheduler.specs.Minislots.{Minislots, slices_overlap}
+use Rattle.slice_scheduler.specs.Minislots.{Minislots}
 use Rattle.slice_scheduler.specs.declared.elements.ElementsFields.{ElementsFields}
 use Rattle.plant.specs.declared.consts.ConstsFields.{ConstsFields}
 use Rattle.plant.specs.declared.operator_row.RowFields.{RowFields}
@@ -30,18 +30,18 @@ use Rattle.run_model.specs.Starts.{Start, first_start, IsStart}
 use Rattle.run_model.specs.Opened.{opened_core, started_book, started_core, gathering_from}
 use Rattle.run_model.specs.Ordered.{target}
 use Rattle.run_model.specs.IsStateAfter.{CoreView, frames_of}
-use Rattle.run_model.specs.Steps.{Acts, Collects, Reslices, Steps, told_map, NoneRefuses}
+use Rattle.run_model.specs.Steps.{Acts, Collects, Reslices, Steps, told_map}
 use Rattle.run_model.proofs.OneStep.{step_from}
 use Rattle.run_model.proofs.Opening.{started_reached}
 use Rattle.run_model.proofs.Fits.{fits_from, opened_starts}
 use Rattle.run_model.proofs.Anew.{anew_from}
-use Rattle.plant_core.specs.Reachable.{core_of}
-use Rattle.plant_core.specs.Giving.{HaveTakenAs}
-use Rattle.plant_core.specs.Reslicing.{reslice_fault}
-use Rattle.plant_core.proofs.FreeLemmas.{are_free}
-use Rattle.plant_core.proofs.ReachLemmas.{step_acts}
-use Rattle.plant_core.proofs.PlaceLemmas.{seen_at, set_alike, set_seen}
-use Rattle.plant_core.specs.Putting.{FitsOldest, PutsOldest}
+use Rattle.live_core.specs.Reachable.{core_of}
+use Rattle.live_core.specs.Giving.{HaveTakenAs}
+use Rattle.live_core.specs.Reslicing.{reslice_fault}
+use Rattle.live_core.proofs.FreeLemmas.{AreFree, are_free}
+use Rattle.live_core.proofs.ReachLemmas.{step_acts}
+use Rattle.live_core.proofs.PlaceLemmas.{seen_at, set_alike, set_seen}
+use Rattle.live_core.specs.Putting.{FitsOldest, PutsOldest}
 use Rattle.live_core.specs.GoingOn.{forgotten, went, IsOf, GoesOn}
 use Rattle.live_core.specs.After.{IsAfter, IsAfterFrom, IsReachableFromStart}
 use Rattle.live_core.proofs.AlikeLemmas.{same_fault, same_answer, alike_put, held_put, alike_resliced, held_resliced, may_too}
@@ -227,12 +227,7 @@ went_all from (b ∷ books) (l ∷ lives) (row ∷ rows) one long each =
     (went_all from books lives rows (omega (arith, one)) (omega (arith, long)) (λ i r x e f. each (suc i) r x e f))
 
 -- rows that have no fault at the books without their histories have none at those with them
-pub record AreFreeBehind (from : ℕ) (books : List BookView) (rows : List SliceRow) : Type 0 where
-  pub one_each : length rows ≡ length books
-  pub apart : AllPairs (λ a b. slices_overlap (slice_of a) (slice_of b) ≡ false) rows
-  pub fit : NoneRefuses from books rows
-
-free_behind : (from : ℕ) (books lives : List BookView) (rows : List SliceRow) → map forgotten books ≡ lives → reslice_fault from lives rows ≡ None → AreFreeBehind from books rows
+free_behind : (from : ℕ) (books lives : List BookView) (rows : List SliceRow) → map forgotten books ≡ lives → reslice_fault from lives rows ≡ None → AreFree from books rows
 free_behind from books lives rows are none =
     let free = are_free from lives rows none in
     record {

@@ -7,7 +7,7 @@ use Rattle.operator_model.specs.declared.action.SliceRow.{SliceRow}
 use Rattle.operator_model.specs.declared.action.Unfit.{Unfit}
 use Rattle.operator_model.specs.Machine.{unfit_from}
 use Rattle.operator_model.specs.Replay.{BookView, operator_of_book}
-use Rattle.plant_core.specs.Reslicing.{is_unfit, least_unfit}
+use Rattle.live_core.specs.Reslicing.{is_unfit, least_unfit}
 
 -- the list from a place on
 from_here : {X : Type 0} (xs : List X) (n : ℕ) (x : X) → slice_get xs n ≡ Some x → drop n xs ≡ x ∷ drop (n + 1) xs

@@ -1,5 +1,5 @@
 -- A live core of which a part is the same.
-use Rattle.std.proofs.Common.{◌≡◌, ℕ, ◌<◌, List, ◌++◌, length, map, get_or, Option, Some, None, sym, ap, ◌∙◌, subst, Result, Ok, Err, true, false, OnOk, OnErr, refl}
+use Rattle.std.proofs.Common.{◌≡◌, ℕ, ◌<◌, List, length, map, get_or, Option, Some, None, sym, ap, ◌∙◌, subst, true, false, refl}
 use Rattle.std.specs.Prelude.{slice_get, slice_set}
 use Rattle.std.proofs.lemmas.Bool.{cond-true}
 use Rattle.std.proofs.lemmas.Option.{some_pair_parts}
@@ -9,7 +9,6 @@ use Rattle.slice_scheduler.specs.declared.elements.ElementsFields.{ElementsField
 use Rattle.plant.specs.declared.operator_row.RowFields.{RowFields}
 use Rattle.plant.specs.declared.plant.PlantFields.{PlantFields}
 use Rattle.plant.specs.Row.{is_listed}
-use Rattle.plant.specs.Plant.{IsPlant}
 use Rattle.plant.specs.Roster.{holder}
 use Rattle.plant.proofs.Holders.{holder_holds}
 use Rattle.dsx_messages.specs.declared.modem.Modem.{Modem}
@@ -20,20 +19,19 @@ use Rattle.run_model.specs.declared.step.Step.TheVariants as steps
 use Rattle.run_model.specs.declared.step.Out.{Out}
 use Rattle.run_model.specs.Steps.{Acts, Steps}
 use Rattle.operator_model.specs.declared.action.Action.{Action}
-use Rattle.operator_model.specs.State.{Operator, operator}
-use Rattle.operator_model.specs.Machine.{own_step, stranger_of, unfit_of, IsAllowed}
+use Rattle.operator_model.specs.State.{Operator}
+use Rattle.operator_model.specs.Machine.{stranger_of, unfit_of}
 use Rattle.operator_model.specs.Replay.{BookView}
 use Rattle.map_assembly.specs.Gathering.{Gathering}
 use Rattle.map_assembly.specs.LettingGo.{has_begun}
-use Rattle.run_model.specs.OwnSteps.{outputs_under}
-use Rattle.run_model.specs.Ordered.{action_at, target}
-use Rattle.run_model.specs.IsStateAfter.{CoreView, frames_of}
-use Rattle.plant_core.specs.Reachable.{core_of, IsOfAStep}
-use Rattle.plant_core.proofs.PlaceLemmas.{seen_at, set_alike}
-use Rattle.plant_core.proofs.StepLemmas.{same_view}
-use Rattle.live_core.specs.GoingOn.{went, IsOf, GoesOn}
+use Rattle.run_model.specs.Ordered.{target}
+use Rattle.run_model.specs.IsStateAfter.{CoreView}
+use Rattle.live_core.specs.Reachable.{core_of, IsOfAStep}
+use Rattle.live_core.proofs.PlaceLemmas.{seen_at, set_alike}
+use Rattle.live_core.specs.GoingOn.{IsOf, GoesOn}
 use Rattle.live_core.specs.After.{IsReachableFromStart}
-use Rattle.live_core.proofs.GoLemmas.{found, acts_on, acts_step, stepped_on}
+use Rattle.live_core.proofs.ReachLemmas.{goes_to}
+use Rattle.live_core.proofs.GoLemmas.{found}
 
 pub same_plant : (new old : PlantFields) (lives : List BookView) (queues : List (List (ℕ × ElementsFields))) (gathering : Gathering) → new ≡ old → ∥ IsReachableFromStart (core_of old lives queues gathering) ∥₁ → ∥ IsReachableFromStart (core_of new lives queues gathering) ∥₁
 same_plant new old lives queues gathering same reached = subst (λ (p : PlantFields). ∥ IsReachableFromStart (core_of p lives queues gathering) ∥₁) (sym same) reached
@@ -55,50 +53,17 @@ desk_same book waits plant new old desks n op desk after long within at books wa
 pub reached_again : (new old : CoreView) → new ≡ old → ∥ IsReachableFromStart old ∥₁ → ∥ IsReachableFromStart new ∥₁
 reached_again new old same reached = subst (λ (core : CoreView). ∥ IsReachableFromStart core ∥₁) (sym same) reached
 
--- whether the desk did it or refused it
-pub acted_reaches : {A E : Type 0} (result : Result A E) (plant : PlantFields) (gathering : Gathering) (lives lives' : List BookView) (queues queues' : List (List (ℕ × ElementsFields)))
-    (op : ℕ) (action : Action) (b : BookView) (waiting : List (ℕ × ElementsFields)) → IsPlant plant → IsOfAStep plant op action
-    → slice_get lives op ≡ Some b → slice_get queues op ≡ Some waiting
-    → OnOk result (IsAllowed (operator b.consts b.row b.state) action)
-    → OnOk result (lives' ≡ slice_set lives op (went b action)) → OnOk result (queues' ≡ slice_set queues op (waiting ++ frames_of (own_step (operator b.consts b.row b.state) action).outputs))
-    → OnErr result (lives' ≡ lives) → OnErr result (queues' ≡ queues)
-    → ∥ IsReachableFromStart (core_of plant lives queues gathering) ∥₁ → ∥ IsReachableFromStart (core_of plant lives' queues' gathering) ∥₁
-acted_reaches (Ok x) plant gathering lives lives' queues queues' op action b waiting valid goal there waits allowed new_lives new_queues same_lives same_queues reached =
-    let outs = outputs_under op (own_step (operator b.consts b.row b.state) action).outputs in
-    stepped_on goal.0 (core_of plant lives queues gathering) (core_of plant lives' queues' gathering) outs valid refl
-    (acts_step goal.0 op action (core_of plant lives queues gathering) (core_of plant lives' queues' gathering) outs goal.1
-    (acts_on plant gathering lives lives' queues queues' op action b waiting outs there waits allowed new_lives new_queues refl))
-    reached
-acted_reaches (Err y) plant gathering lives lives' queues queues' op action b waiting valid goal there waits allowed new_lives new_queues same_lives same_queues reached =
-    subst (λ (core : CoreView). ∥ IsReachableFromStart core ∥₁) (sym (same_view plant gathering lives lives' queues queues' same_lives same_queues)) reached
-
-pub acts_on_if : {A E : Type 0} (result : Result A E) (plant : PlantFields) (gathering : Gathering) (lives lives' : List BookView) (queues queues' : List (List (ℕ × ElementsFields)))
-    (op : ℕ) (action : Action) (b : BookView) (waiting : List (ℕ × ElementsFields)) (outs outs' : List Out)
-    → slice_get lives op ≡ Some b → slice_get queues op ≡ Some waiting → OnOk result (IsAllowed (operator b.consts b.row b.state) action)
-    → OnOk result (lives' ≡ slice_set lives op (went b action)) → OnOk result (queues' ≡ slice_set queues op (waiting ++ frames_of (own_step (operator b.consts b.row b.state) action).outputs))
-    → OnOk result (outs' ≡ outs ++ outputs_under op (own_step (operator b.consts b.row b.state) action).outputs)
-    → OnOk result ((now : List Out) × (outs' ≡ outs ++ now) × GoesOn (Acts op action) (core_of plant lives queues gathering) (core_of plant lives' queues' gathering) now)
-acts_on_if (Ok x) plant gathering lives lives' queues queues' op action b waiting outs outs' there waits allowed new_lives new_queues told =
-    (outputs_under op (own_step (operator b.consts b.row b.state) action).outputs, told, acts_on plant gathering lives lives' queues queues' op action b waiting _ there waits allowed new_lives new_queues refl)
-acts_on_if (Err y) plant gathering lives lives' queues queues' op action b waiting outs outs' there waits allowed new_lives new_queues told = tt
-
 -- what is heard of a modem goes to the operator that lists it
-pub arrive_on : (new old : PlantFields) (lives : List BookView) (queues : List (List (ℕ × ElementsFields))) (gathering : Gathering) (modem : Modem) (heard : Heard) (op : ℕ) (after : CoreView) (now : List Out)
-    → new ≡ old → Some op ≡ holder old.rows modem → GoesOn (Acts op (actions.Arrive modem heard)) (core_of new lives queues gathering) after now
-    → GoesOn (Steps (steps.Arrive modem heard)) (core_of old lives queues gathering) after now
-arrive_on new old lives queues gathering modem heard op after now same there goes = λ core is.
-    let done = goes core (subst (λ (p : PlantFields). IsOf (core_of p lives queues gathering) core) (sym same) is) in
+pub arrive_on : (new old : CoreView) (modem : Modem) (heard : Heard) (op : ℕ) (after : CoreView) (now : List Out) → new ≡ old → Some op ≡ holder old.plant.rows modem
+    → GoesOn (Acts op (actions.Arrive modem heard)) new after now → GoesOn (Steps (steps.Arrive modem heard)) old after now
+arrive_on new old modem heard op after now same there goes = λ core is.
+    let done = goes core (subst (λ (v : CoreView). IsOf v core) (sym same) is) in
     (done.0, (op, ap (λ (p : PlantFields). holder p.rows modem) is.plant_is ∙ sym there, done.1), done.2)
 
 pub step_is : (step named : Step) (old new : CoreView) (now : List Out) → step ≡ named → GoesOn (Steps named) old new now → GoesOn (Steps step) old new now
 step_is step named old new now same goes = subst (λ (s : Step). GoesOn (Steps s) old new now) (sym same) goes
 
 -- ---- the action of a step
-
--- the place and the action that a step goes to
-goes_to : (place : Option ℕ) (op : ℕ) (heard action : Action) → action_at place heard ≡ Some (op, action) → (place ≡ Some op) × (heard ≡ action)
-goes_to None op heard action h = absurd (cc)
-goes_to (Some i) op heard action h = let same = some_pair_parts i op heard action h in (ap (λ (k : ℕ). let place : Option ℕ = Some k in place) same.0, same.1)
 
 -- it is no slice change, so no machine finds it unfit
 pub step_fits : (plant : PlantFields) (op : ℕ) (action : Action) (machine : Operator) → IsOfAStep plant op action → unfit_of machine action ≡ None

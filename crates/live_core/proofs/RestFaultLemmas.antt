@@ -10,8 +10,8 @@ use Rattle.plant.specs.declared.plant.PlantFields.{PlantFields}
 use Rattle.operator_model.specs.Replay.{BookView}
 use Rattle.map_assembly.specs.Gathering.{Gathering}
 use Rattle.run_model.specs.IsStateAfter.{CoreView}
-use Rattle.plant_core.specs.Reachable.{core_of}
-use Rattle.plant_core.proofs.PlaceLemmas.{seen_at}
+use Rattle.live_core.specs.Reachable.{core_of}
+use Rattle.live_core.proofs.PlaceLemmas.{seen_at}
 use Rattle.live_core.specs.declared.rest_fault.RestFault.{RestFault}
 use Rattle.live_core.specs.declared.rest_fault.RestFault.TheVariants.{FrameWaits, NotAtFrame}
 use Rattle.live_core.specs.GoingOn.{forgotten}

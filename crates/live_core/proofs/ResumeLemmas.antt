@@ -28,7 +28,7 @@ use Rattle.map_assembly.proofs.OrderLemmas.{PairsByRecursion, pairs_from_AllPair
 use Rattle.run_model.specs.Starts.{Start, own_of, IsStart}
 use Rattle.run_model.specs.Opened.{started_book, started_core, gathering_from}
 use Rattle.run_model.specs.IsStateAfter.{CoreView}
-use Rattle.plant_core.specs.Reachable.{core_of}
+use Rattle.live_core.specs.Reachable.{core_of}
 use Rattle.slice_scheduler.specs.declared.elements.ElementsFields.{ElementsFields}
 use Rattle.live_core.specs.After.{IsAfterFrom, IsReachableFromStart}
 use Rattle.live_core.proofs.GoLemmas.{started_after}

@@ -1,4 +1,10 @@
+pub mod Cached
 pub mod DeskView
+pub mod Reachable
+pub mod Reslicing
+pub mod Giving
+pub mod Putting
+pub mod Faults
 pub mod GoingOn
 pub mod After
 pub mod LiveView
@@ -6,3 +12,4 @@ pub mod Resumed
 pub mod LiveOperator
 pub mod Resting
 pub mod Changed
+pub mod Planning

@@ -1,7 +1,7 @@
 -- What contracts see of a live core (implementation-specific).
 use Rattle.std.specs.Prelude.{map}
 use Rattle.run_model.specs.IsStateAfter.{CoreView}
-use Rattle.plant_core.specs.Reachable.{core_of}
+use Rattle.live_core.specs.Reachable.{core_of}
 use Rattle.live_core.specs.declared.held.LiveCore.{LiveCore}
 use Rattle.live_core.specs.DeskView.{slot_book, slot_waiting}
 

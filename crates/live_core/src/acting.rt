@@ -1,23 +1,49 @@
 //! Actions of an operator, and the collection of its oldest frame.
 
-ghost use Rattle.std.specs.Prelude.{◌≡◌, ◌<◌, ◌++◌, length, slice_get, Some, None, IfOk, OnOk, OnErr};
-ghost use Rattle.operator_model.specs.Machine.{own_step, stranger_of, unfit_of, IsAllowed};
+ghost use Rattle.std.specs.Prelude.{◌≡◌, ◌+◌, ◌<◌, ◌≤◌, ◌++◌, length, vec_len, vec_capacity, slice_get, option_to_list, Some, None, IfOk, OnOk, OnErr};
+ghost use Rattle.operator_model.specs.Machine.{stranger_of, unfit_of, IsAllowed};
+ghost use Rattle.operator_book.specs.Planned.{IsPlanOf, IsCommittable, after_effect};
 ghost use Rattle.run_model.specs.OwnSteps.{outputs_under};
 ghost use Rattle.run_model.specs.IsStateAfter.{frames_of};
-ghost use Rattle.plant_core.specs.Faults.{act_fault, collect_fault, IsReported};
-ghost use Rattle.live_core.specs.GoingOn.{went};
+ghost use Rattle.run_model.specs.Steps.{told_map};
+ghost use Rattle.live_core.specs.Faults.{act_fault, collect_fault, IsReported};
 ghost use Rattle.live_core.specs.DeskView.{slot_book, slot_waiting};
-ghost use Rattle.plant_core.specs.Putting.{FitsOldest, PutsOldest, CollectsOldest};
+ghost use Rattle.live_core.specs.Putting.{FitsOldest, PutsOldest, CollectsOldest};
 
+use crate::act_plan::ActPlan;
+use crate::core_fault::CoreFault;
 use crate::desk::LiveSlot;
 use map_assembly::{Gather, MapBytes};
-use operator_book::BookFault;
+use operator_book::{BookFault, Plan};
 use operator_model::{Action, Output};
 use plant::Op;
-use plant_core::{CoreFault, append, append_map};
 use run_model::Out;
 use slice_scheduler::Elements;
 use std::alloc::{AllocError, Global};
+
+/// Adds an operator's outputs, for which there is room.
+#[inline(always)]
+fn append(outs: &mut Vec<Out>, op: Op, told: Vec<Output>)
+    requires { vec_len outs.old + vec_len told ≤ vec_capacity outs.old }
+    ensures { outs.new.items ≡ outs.old.items ++ outputs_under op told.items }
+{
+    if told.is_empty() {
+        return;
+    }
+    for output in told {
+        outs.push_reserved(Out::Of { op, output });
+    }
+}
+
+/// Adds a MAP that is made, for which there is room.
+fn append_map(outs: &mut Vec<Out>, made: Option<MapBytes>)
+    requires { vec_len outs.old < vec_capacity outs.old }
+    ensures { outs.new.items ≡ outs.old.items ++ told_map made }
+{
+    if let Some(made) = made {
+        outs.push_reserved(Out::Map(made));
+    }
+}
 
 /// Returns a copy of the first frame among outputs.
 fn frame_copy(alloc: Global, outputs: &[Output]) -> Result<Option<(u32, Elements)>, AllocError>
@@ -32,69 +58,67 @@ fn frame_copy(alloc: Global, outputs: &[Output]) -> Result<Option<(u32, Elements
 }
 
 impl LiveSlot {
-    /// Performs an allowed action, and appends its outputs. Its frame waits. Allocates all memory
-    /// before any change.
-    #[tactic(auto, using(crate::proofs::DeskLemmas::frame_waits, crate::proofs::DeskLemmas::none_waits))]
+    /// Plans an action of the operator at this place. The caller knows that the operator's row lists the modem of the action, and
+    /// that a slice of the action fits.
     #[inline(always)]
-    fn act(
+    pub(crate) fn plan(&self, alloc: Global, op: Op, action: Action) -> Result<ActPlan, CoreFault>
+        requires mine { stranger_of self.now.live.sound.row action ≡ None }
+        requires fit { unfit_of self.now.live.sound action ≡ None }
+        ensures op { IfOk result (λ act. act.op ≡ op) }
+        ensures plan { IfOk result (λ act. IsPlanOf self.now.live.sound action act.plan) }
+        ensures committable { IfOk result (λ act. IsCommittable self.now.live.sound act.plan) }
+        ensures frame { IfOk result (λ act. act.frame ≡ slice_get (frames_of act.plan.outputs.items) 0) }
+        ensures allowed { OnOk result (IsAllowed self.now.live.sound action) }
+        ensures fault { IsReported result (act_fault op action (Some (slot_book self.now))) }
+    {
+        if self.live.is_spent(&action) {
+            return Err(CoreFault::Book(BookFault::FramesSpent));
+        }
+        match self.plan_allowed(alloc, op, action) {
+            Ok(act) => Ok(act),
+            Err(AllocError) => Err(CoreFault::NoMemory),
+        }
+    }
+
+    /// Plans an allowed action of the operator at this place.
+    #[inline(always)]
+    fn plan_allowed(&self, alloc: Global, op: Op, action: Action) -> Result<ActPlan, AllocError>
+        requires { IsAllowed self.now.live.sound action }
+        ensures op { IfOk result (λ act. act.op ≡ op) }
+        ensures plan { IfOk result (λ act. IsPlanOf self.now.live.sound action act.plan) }
+        ensures committable { IfOk result (λ act. IsCommittable self.now.live.sound act.plan) }
+        ensures frame { IfOk result (λ act. act.frame ≡ slice_get (frames_of act.plan.outputs.items) 0) }
+    {
+        let plan = self.live.plan_allowed(alloc, action)?;
+        let frame = frame_copy(alloc, plan.outputs())?;
+        Ok(ActPlan { op, plan, frame })
+    }
+
+    /// Commits the plan of an action, and appends its outputs. Its frame waits. If memory runs out nothing changes.
+    #[inline(always)]
+    pub(crate) fn commit(
         &mut self,
-        alloc: Global,
         op: Op,
-        action: Action,
+        plan: Plan,
+        frame: Option<(u32, Elements)>,
         outs: &mut Vec<Out>,
     ) -> Result<(), AllocError>
-        requires { IsAllowed self.old.live.sound action }
-        ensures book { OnOk result (slot_book self.new ≡ went (slot_book self.old) action) }
-        ensures waiting { OnOk result (slot_waiting self.new ≡ slot_waiting self.old
-            ++ frames_of (own_step self.old.live.sound action).outputs) }
-        ensures outputs { OnOk result (outs.new.items ≡ outs.old.items
-            ++ outputs_under op (own_step self.old.live.sound action).outputs) }
+        requires { IsCommittable self.old.live.sound plan }
+        ensures book { OnOk result (self.new.live.sound ≡ after_effect self.old.live.sound plan.effect) }
+        ensures waiting { OnOk result (slot_waiting self.new ≡ slot_waiting self.old ++ option_to_list frame) }
+        ensures outputs { OnOk result (outs.new.items ≡ outs.old.items ++ outputs_under op plan.outputs.items) }
         ensures outs { OnErr result (outs.new.items ≡ outs.old.items) }
         ensures same_book { OnErr result (slot_book self.new ≡ slot_book self.old) }
         ensures same_waiting { OnErr result (slot_waiting self.new ≡ slot_waiting self.old) }
     {
         self.waiting.reserve(1)?;
-        let plan = self.live.plan_allowed(alloc, action)?;
         outs.reserve(plan.outputs().len())?;
-        let frame = frame_copy(alloc, plan.outputs())?;
         let outputs = self.live.commit(plan)?;
         append(outs, op, outputs);
         if let Some(frame) = frame {
             self.waiting.push_back_reserved(frame);
         }
         Ok(())
-    }
-
-    /// Performs an action, and appends its outputs. Its frame waits. The caller knows that the
-    /// operator's row lists the modem of the action, and that a slice of the action fits.
-    #[inline(always)]
-    pub(crate) fn act_into(
-        &mut self,
-        alloc: Global,
-        op: Op,
-        action: Action,
-        outs: &mut Vec<Out>,
-    ) -> Result<(), CoreFault>
-        requires mine { stranger_of self.old.live.sound.row action ≡ None }
-        requires fit { unfit_of self.old.live.sound action ≡ None }
-        ensures book { OnOk result (slot_book self.new ≡ went (slot_book self.old) action) }
-        ensures waiting { OnOk result (slot_waiting self.new ≡ slot_waiting self.old
-            ++ frames_of (own_step self.old.live.sound action).outputs) }
-        ensures outputs { OnOk result (outs.new.items ≡ outs.old.items
-            ++ outputs_under op (own_step self.old.live.sound action).outputs) }
-        ensures allowed { OnOk result (IsAllowed self.old.live.sound action) }
-        ensures outs { OnErr result (outs.new.items ≡ outs.old.items) }
-        ensures same_book { OnErr result (slot_book self.new ≡ slot_book self.old) }
-        ensures same_waiting { OnErr result (slot_waiting self.new ≡ slot_waiting self.old) }
-        ensures fault { IsReported result (act_fault op action (Some (slot_book self.old))) }
-    {
-        if self.live.is_spent(&action) {
-            return Err(CoreFault::Book(BookFault::FramesSpent));
-        }
-        match self.act(alloc, op, action, outs) {
-            Ok(()) => Ok(()),
-            Err(AllocError) => Err(CoreFault::NoMemory),
-        }
     }
 
     /// Puts the frame that waits longest into the assembly, and returns the MAP that it completes.

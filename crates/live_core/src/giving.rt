@@ -1,11 +1,12 @@
 //! Giving new slices to all operators of a live core.
 
-ghost use Rattle.std.specs.Prelude.{◌≡◌, [], map, length, vec_len, None, OnOk, OnErr};
+ghost use Rattle.std.specs.Prelude.{◌≡◌, [], map, length, vec_len, All, None, IfOk, OnOk, OnErr};
 ghost use Rattle.operator_model.specs.declared.action.Action.TheVariants as actions;
 ghost use Rattle.operator_model.specs.Machine.{unfit_from};
+ghost use Rattle.run_model.specs.OwnSteps.{slice_of};
 ghost use Rattle.run_model.specs.Steps.{Reslices, NoneRefuses};
-ghost use Rattle.plant_core.specs.Reslicing.{reslice_fault};
-ghost use Rattle.plant_core.specs.Giving.{HaveTakenAs};
+ghost use Rattle.live_core.specs.Reslicing.{reslice_fault};
+ghost use Rattle.live_core.specs.Giving.{IsOfASlice, HaveTakenAs};
 ghost use Rattle.live_core.specs.DeskView.{slot_book, slot_waiting};
 ghost use Rattle.live_core.specs.GoingOn.{went, GoesOn};
 ghost use Rattle.live_core.specs.LiveView.{live_view};
@@ -13,7 +14,7 @@ ghost use Rattle.live_core.specs.LiveView.{live_view};
 use crate::desk::LiveSlot;
 use crate::held::LiveCore;
 use operator_model::SliceRow;
-use plant_core::slices_of;
+use slice_scheduler::Slice;
 use std::alloc::{AllocError, Global};
 
 impl LiveSlot {
@@ -25,6 +26,18 @@ impl LiveSlot {
     {
         self.live.reslice(from, row);
     }
+}
+
+/// Returns the slices of rows.
+fn slices_of(alloc: Global, rows: &[SliceRow]) -> Result<Vec<Slice>, AllocError>
+    requires { All IsOfASlice rows.now }
+    ensures { IfOk result (λ slices. slices.items ≡ map slice_of rows.now) }
+{
+    let mut slices = Vec::with_capacity(alloc, rows.len())?;
+    for row in rows {
+        slices.push(Slice::new(row.start, row.length))?;
+    }
+    Ok(slices)
 }
 
 /// Gives each operator its row of a slice change. Takes no memory.
@@ -43,12 +56,7 @@ fn give(desks: &mut Vec<LiveSlot>, from: u32, rows: &[SliceRow])
 impl LiveCore {
     /// Gives each operator its row, and the assembly all slices, from a later frame on. All memory
     /// is taken first. Slices that no frame to come needs are dropped.
-    pub(crate) fn give(
-        &mut self,
-        alloc: Global,
-        from: u32,
-        rows: &[SliceRow],
-    ) -> Result<(), AllocError>
+    pub fn give(&mut self, alloc: Global, from: u32, rows: &[SliceRow]) -> Result<(), AllocError>
         requires { reslice_fault from (live_view self.old).books rows.now ≡ None }
         ensures ok { OnOk result (GoesOn (Reslices from rows.now) (live_view self.old) (live_view self.new) []) }
         ensures err { OnErr result (live_view self.new ≡ live_view self.old) }

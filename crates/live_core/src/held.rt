@@ -2,13 +2,13 @@
 
 ghost use Rattle.std.specs.Prelude.{◌≡◌, false, map};
 ghost use Rattle.map_assembly.specs.LettingGo.{has_begun};
-ghost use Rattle.plant_core.specs.Reachable.{core_of};
+ghost use Rattle.live_core.specs.Reachable.{core_of};
 ghost use Rattle.live_core.specs.DeskView.{slot_book, slot_waiting};
 ghost use Rattle.live_core.specs.After.{IsReachableFromStart};
 
 use crate::desk::LiveSlot;
+use crate::routes::Routes;
 use map_assembly::Gather;
-use plant_core::Routes;
 
 /// A plant's core with no history: the plant, each operator's machine with its frames that wait to
 /// be collected, and what is gathered. Contracts speak of `live_view` of it. The type keeps that

@@ -12,7 +12,7 @@ ghost use Rattle.run_model.specs.IsTraceOf.{IsTraceFrom};
 ghost use Rattle.run_model.specs.Opened.{gathering_from, started_core};
 ghost use Rattle.map_assembly.specs.Gathering.{IsGathering};
 ghost use Rattle.run_model.specs.Steps.{Steps};
-ghost use Rattle.plant_core.specs.Faults.{step_fault};
+ghost use Rattle.live_core.specs.Faults.{step_fault};
 ghost use Rattle.live_core.specs.GoingOn.{IsOf, GoesOn};
 ghost use Rattle.live_core.specs.Resting.{RestingIsAtRest, BooksStandNow};
 ghost use Rattle.live_core.specs.Changed.{ResumedIsChanged};

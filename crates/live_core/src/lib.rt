@@ -1,8 +1,10 @@
-//! The core of a plant without histories: the operators' machines, the frames that are not yet collected, and the assembly of
-//! MAPs.
+//! The core of a plant: the operators' machines, the frames that are not yet collected, and the assembly of MAPs. It keeps no
+//! histories.
 #![tactic(auto)]
 
+mod act_plan;
 mod acting;
+mod core_fault;
 mod desk;
 mod giving;
 mod held;
@@ -10,16 +12,23 @@ mod judging;
 mod keeping;
 mod laws;
 mod opening;
+mod planning;
 mod rest_fault;
 mod resting;
 mod resume_fault;
 mod resuming;
+mod routes;
 mod stepping;
 
+pub use act_plan::ActPlan;
+pub use core_fault::{CoreFault, CoreOpenFault, ResliceFault, Unfits};
 pub use held::LiveCore;
+pub use judging::{first_fault, is_same, least_meeting};
 pub use laws::{
     books_stand_now, faults_are_the_same, live_run_is_shown, resting_core_is_at_rest,
     resumed_is_changed, started_core_is_after, step_goes_on, two_live_cores, two_resumed_cores,
 };
+pub use opening::follow;
 pub use rest_fault::RestFault;
 pub use resume_fault::ResumeFault;
+pub use routes::Routes;

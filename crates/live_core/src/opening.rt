@@ -1,21 +1,43 @@
 //! Opens a live core.
 
-ghost use Rattle.std.specs.Prelude.{◌≡◌, ◌≢◌, ◌↔◌, [], map, length, All, Err, IfOk};
+ghost use Rattle.std.specs.Prelude.{◌≡◌, ◌≢◌, ◌↔◌, [], map, length, All, IsTrue, Err, IfOk};
 ghost use Rattle.plant.specs.Row.{IsRowOf};
 ghost use Rattle.operator_model.specs.State.{operator, opened_state};
 ghost use Rattle.run_model.specs.Opened.{opened_core};
-ghost use Rattle.plant_core.specs.declared.core_fault.CoreOpenFault.{CoreOpenFault};
-ghost use Rattle.plant_core.specs.declared.core_fault.CoreOpenFault.TheVariants.{RankingsMismatch};
+ghost use Rattle.live_core.specs.declared.core_fault.CoreOpenFault.{CoreOpenFault};
+ghost use Rattle.live_core.specs.declared.core_fault.CoreOpenFault.TheVariants.{RankingsMismatch};
 ghost use Rattle.live_core.specs.After.{IsAfter};
 ghost use Rattle.live_core.specs.LiveOperator.{sound_of};
 ghost use Rattle.live_core.specs.LiveView.{live_view};
 
+use crate::core_fault::CoreOpenFault;
 use crate::held::LiveCore;
 use grant_policy::Ranking;
 use operator_book::Machine;
 use plant::{Consts, OperatorRow, Plant};
-use plant_core::{CoreOpenFault, follow};
 use std::alloc::{AllocError, Global};
+
+/// Returns whether a ranking follows the row's policy.
+fn follows(ranking: &Ranking, row: &OperatorRow) -> bool
+    ensures { IsTrue result ↔ (ranking.now.policy ≡ row.now.policy) }
+{
+    ranking.policy() == row.get_fields().policy
+}
+
+/// Returns whether there is one ranking for each row, and each follows its row's policy.
+pub fn follow(rankings: &[Ranking], rows: &[OperatorRow]) -> bool
+    ensures { IsTrue result ↔ (map (λ ranking. ranking.policy) rankings.now ≡ map (λ row. row.policy) rows.now) }
+{
+    if rankings.len() != rows.len() {
+        return false;
+    }
+    for (at, ranking) in rankings.iter().enumerate() {
+        if !follows(ranking, &rows[at]) {
+            return false;
+        }
+    }
+    true
+}
 
 /// Returns the machine of each operator as it is opened.
 fn opened_lives(

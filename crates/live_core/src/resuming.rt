@@ -15,10 +15,10 @@ ghost use Rattle.live_core.specs.Resumed.{later_of, waits_from, first_from, slic
 use crate::desk::LiveSlot;
 use crate::held::LiveCore;
 use crate::resume_fault::ResumeFault;
+use crate::routes::Routes;
 use map_assembly::{Gather, first_invalid_slice};
 use operator_book::Machine;
 use plant::{Op, Plant};
-use plant_core::Routes;
 use slice_scheduler::Slice;
 use std::alloc::{AllocError, AllocFailed, Global};
 use std::collections::VecDeque;

@@ -5,19 +5,19 @@ ghost use Rattle.run_model.specs.declared.step.Out.{Out};
 ghost use Rattle.run_model.specs.declared.step.Step.{Step};
 ghost use Rattle.run_model.specs.declared.step.Step.TheVariants as steps;
 ghost use Rattle.run_model.specs.Steps.{Acts, Collects, Steps};
-ghost use Rattle.plant_core.specs.Faults.{act_fault, collect_fault, step_fault, IsReported};
-ghost use Rattle.plant_core.specs.Reachable.{IsOfAStep};
+ghost use Rattle.live_core.specs.Faults.{act_fault, collect_fault, step_fault, IsReported};
+ghost use Rattle.live_core.specs.Reachable.{IsOfAStep};
 ghost use Rattle.live_core.specs.GoingOn.{GoesOn};
 ghost use Rattle.live_core.specs.After.{LeadsOnFromStart};
 ghost use Rattle.live_core.specs.LiveView.{live_view};
 
+use crate::core_fault::CoreFault;
 use crate::held::LiveCore;
 use dsx_messages::Modem;
 use operator_model::{Action, Heard};
 use plant::Op;
-use plant_core::CoreFault;
 use run_model::{Out, Step};
-use std::alloc::Global;
+use std::alloc::{AllocError, Global};
 
 impl LiveCore {
     /// Performs an action of the operator at this place, if there is one.
@@ -29,19 +29,18 @@ impl LiveCore {
         action: Action,
         outs: &mut Vec<Out>,
     ) -> Result<(), CoreFault>
-        requires { IsOfAStep self.old.routes op action }
+        requires { IsOfAStep (live_view self.old).plant op action }
         ensures ok { OnOk result ((now : List Out) × (outs.new.items ≡ outs.old.items ++ now)
             × GoesOn (Acts op action) (live_view self.old) (live_view self.new) now) }
         ensures outs { OnErr result (outs.new.items ≡ outs.old.items) }
         ensures err { OnErr result (live_view self.new ≡ live_view self.old) }
         ensures fault { IsReported result (act_fault op action (slice_get (live_view self.old).books op)) }
     {
-        // For the proof: what always holds of `self`.
-        self.always();
-        if op >= self.desks.len() {
-            return Err(CoreFault::UnknownOperator { op });
+        let act = self.plan_act(alloc, op, action)?;
+        match self.commit_act(act, outs) {
+            Ok(()) => Ok(()),
+            Err(AllocError) => Err(CoreFault::NoMemory),
         }
-        self.desks[op].act_into(alloc, op, action, outs)
     }
 
     /// Puts what was received of a modem into the inbox of the operator that has this modem.
@@ -59,7 +58,7 @@ impl LiveCore {
         ensures err { OnErr result (live_view self.new ≡ live_view self.old) }
         ensures fault { IsReported result (step_fault (live_view self.old) (steps.Arrive modem heard)) }
     {
-        match self.routes.place_of(modem) {
+        match self.place_of(modem) {
             None => Err(CoreFault::UnknownModem { modem }),
             Some(op) => self.act_if(alloc, op, Action::Arrive { modem, heard }, outs),
         }
@@ -68,7 +67,7 @@ impl LiveCore {
     /// Puts the oldest waiting frame of the operator at this place into the assembly, if there is
     /// one.
     #[inline(always)]
-    fn collect(&mut self, alloc: Global, op: Op, outs: &mut Vec<Out>) -> Result<(), CoreFault>
+    pub fn collect(&mut self, alloc: Global, op: Op, outs: &mut Vec<Out>) -> Result<(), CoreFault>
         ensures ok { OnOk result ((now : List Out) × (outs.new.items ≡ outs.old.items ++ now)
             × GoesOn (Collects op) (live_view self.old) (live_view self.new) now) }
         ensures outs { OnErr result (outs.new.items ≡ outs.old.items) }

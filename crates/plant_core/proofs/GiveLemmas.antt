@@ -1,95 +1,74 @@
--- Other slices, given desk by desk.
-use Rattle.std.proofs.Common.{◌≡◌, ℕ, ◌+◌, ◌<◌, ◌≤◌, List, ◌++◌, length, map, get_or, append-nil, Option, Some, option_map, ◌⊎◌, inl, inr, refl, sym, ap, ◌∙◌, arith}
-use Rattle.std.specs.Prelude.{slice_get, slice_set}
+-- Histories, one by one.
+use Rattle.std.proofs.Common.{◌≡◌, ℕ, zero, suc, ◌+◌, ◌<◌, ◌≤◌, List, [], ◌∷◌, ◌++◌, length, map, take, get_or, slice_set, Some, option_map, sym, refl, ap, ap₂, ◌∙◌, arith}
+use Rattle.std.specs.Prelude.{slice_get}
 use Rattle.std.specs.List.{AllWithin}
-use Rattle.std.proofs.lemmas.List.{length-map, length-set}
-use Rattle.std.proofs.lemmas.Bool.{cases_eq}
+use Rattle.std.proofs.lemmas.List.{length-set, map-set, take_all}
 use Rattle.std.proofs.lemmas.List.Elements.{AllWithin-more_set}
-use Rattle.std.proofs.lemmas.Option.{slice_get-map, slice_get_read, same_Some, slice_get_within}
-use Rattle.slice_scheduler.specs.declared.elements.ElementsFields.{ElementsFields}
+use Rattle.std.proofs.lemmas.Option.{slice_get-map, slice_get_read, same_Some}
 use Rattle.operator_model.specs.declared.action.SliceRow.{SliceRow}
 use Rattle.operator_model.specs.declared.action.Action.TheVariants as actions
-use Rattle.operator_model.specs.Replay.{BookView, book_after_action}
-use Rattle.run_model.specs.IsStateAfter.{frames_of}
-use Rattle.run_model.proofs.Entries.{get_same, get_other}
-use Rattle.run_model.proofs.Moving.{silent}
-use Rattle.plant_core.specs.Waiting.{waiting_in}
-use Rattle.plant_core.specs.Giving.{HaveTakenAs}
-use Rattle.plant_core.proofs.PlaceLemmas.{seen_at, set_alike}
-use Rattle.plant_core.proofs.WaitingLemmas.{waiting_acted}
+use Rattle.operator_model.specs.declared.action.Entry.{Entry}
+use Rattle.operator_model.specs.declared.output.Output.{Output}
+use Rattle.operator_book.specs.Kept.{HeldHistory}
+use Rattle.run_model.proofs.Entries.{get_other}
+use Rattle.live_core.proofs.PlaceLemmas.{seen_at, set_alike}
+use Rattle.plant_core.specs.Recorded.{histories_after_reslice}
 
--- a re-slicing puts out no frame
-pub waits_still : (book new : BookView) (from : ℕ) (row : SliceRow) (place : ℕ) → place ≤ length book.history → new ≡ book_after_action book (actions.Reslice from row) → waiting_in new.history place ≡ waiting_in book.history place
-waits_still book new from row place within is =
-    ap (λ (b : BookView). waiting_in b.history place) is
-    ∙ (waiting_acted book (actions.Reslice from row) place within
-    ∙ (ap (λ outputs. waiting_in book.history place ++ frames_of outputs) (silent book.consts book.row book.state from row) ∙ append-nil (waiting_in book.history place)))
-
--- ---- so far
-
--- the operators before this place have taken their rows, the others are as they were
-pub record HaveTakenSoFar {X : Type 0} (book : X → BookView) (waits : X → List (ℕ × ElementsFields)) (after : BookView → SliceRow → BookView) (rows : List SliceRow) (old now : List X) (op : ℕ) : Type 0 where
-  pub one_each : length now ≡ length old
-  pub taken : (i : ℕ) (row : SliceRow) (b : BookView) → i < op → slice_get rows i ≡ Some row → slice_get (map book old) i ≡ Some b → slice_get (map book now) i ≡ Some (after b row)
-  pub others : (i : ℕ) → op ≤ i → slice_get now i ≡ slice_get old i
-  pub waiting : map waits now ≡ map waits old
-
-module _ {X : Type 0} (book : X → BookView) (waits : X → List (ℕ × ElementsFields)) (after : BookView → SliceRow → BookView) (rows : List SliceRow) (old : List X) where
-  pub none_taken : HaveTakenSoFar book waits after rows old old 0
-  none_taken = record { one_each = refl; taken = λ i row b lt e f. absurd (omega arith); others = λ i le. refl; waiting = refl }
-
-  pub one_more_taken : (now : List X) (n op : ℕ) (x y : X) (row : SliceRow) → n ≡ length now → op < n → x ≡ get_or now op x → slice_get rows op ≡ Some row
-      → book y ≡ after (book x) row → waits y ≡ waits x → HaveTakenSoFar book waits after rows old now op → HaveTakenSoFar book waits after rows old (slice_set now op y) (op + 1)
-  one_more_taken now n op x y row long within is here took waited so_far = record {
-    one_each = length-set now op y ∙ so_far.one_each;
-    taken = λ i r b lt e f. by i r b (cases_eq i op) lt e f;
-    others = λ i le. get_other now op i y (λ same. omega (arith, le, same)) ∙ so_far.others i (omega (arith, le));
-    waiting = set_alike waits now op y (waits x) (seen_at waits now n op x long within is) waited ∙ so_far.waiting;
-  }
-    where
-      there : slice_get now op ≡ Some x
-      there = slice_get_read now n op x long within is
-
-      by : (i : ℕ) (r : SliceRow) (b : BookView) → (i ≡ op) ⊎ (i ≡ op → ⊥) → i < op + 1 → slice_get rows i ≡ Some r → slice_get (map book old) i ≡ Some b → slice_get (map book (slice_set now op y)) i ≡ Some (after b r)
-      by i r b (inl same) lt e f =
-          let old_is : slice_get old op ≡ Some x = sym (so_far.others op (omega arith)) ∙ there in
-          let b_is : book x ≡ b = same_Some (book x) b (sym (slice_get-map book old op ∙ ap (option_map book) old_is) ∙ (ap (slice_get (map book old)) (sym same) ∙ f)) in
-          let r_is : row ≡ r = same_Some row r (sym here ∙ (ap (slice_get rows) (sym same) ∙ e)) in
-          ap (slice_get (map book (slice_set now op y))) same
-          ∙ (slice_get-map book (slice_set now op y) op
-          ∙ (ap (option_map book) (get_same now op y (omega (arith, long, within)))
-          ∙ ap (λ (v : BookView). let o : Option BookView = Some v in o) (took ∙ (λ k. after (b_is k) (r_is k)))))
-      by i r b (inr other) lt e f =
-          slice_get-map book (slice_set now op y) i
-          ∙ (ap (option_map book) (get_other now op i y other)
-          ∙ (sym (slice_get-map book now i) ∙ so_far.taken i r b (omega (arith, lt, other)) e f))
-
-  pub all_taken : (now : List X) (op : ℕ) → length rows ≤ op → HaveTakenSoFar book waits after rows old now op → HaveTakenAs after rows (map book old) (map book now)
-  all_taken now op past so_far = record {
-    one_each = length-map now book ∙ (so_far.one_each ∙ sym (length-map old book));
-    taken = λ i row b e f. so_far.taken i row b (omega (arith, past, slice_get_within rows i row e)) e f;
-  }
+abbrev pub entries_of : HeldHistory → List Entry
+entries_of history = history.entries
 
 -- ---- room so far
 
-pub record HaveRoomSoFar {X : Type 0} (book : X → BookView) (waits : X → List (ℕ × ElementsFields)) (room : X → ℕ) (old now : List X) (op : ℕ) : Type 0 where
+pub record HaveRoomSoFar (old now : List HeldHistory) (op : ℕ) : Type 0 where
   pub one_each : length now ≡ length old
-  pub room_is : AllWithin (λ x. 0 < room x) now 0 op
-  pub books : map book now ≡ map book old
-  pub waiting : map waits now ≡ map waits old
+  pub room : AllWithin (λ (history : HeldHistory). 0 < history.spare) now 0 op
+  pub entries : map entries_of now ≡ map entries_of old
 
-module _ {X : Type 0} (book : X → BookView) (waits : X → List (ℕ × ElementsFields)) (room : X → ℕ) (old now : List X) (n op : ℕ) (x y : X) (long : n ≡ length now) (within : op < n) (is : x ≡ get_or now op x)
-    (same_book : book y ≡ book x) (same_waits : waits y ≡ waits x) (so_far : HaveRoomSoFar book waits room old now op) where
-  pub books_alike : map book (slice_set now op y) ≡ map book old
-  books_alike = set_alike book now op y (book x) (seen_at book now n op x long within is) same_book ∙ so_far.books
+module _ (old now : List HeldHistory) (n op : ℕ) (x y : HeldHistory) (long : n ≡ length now) (within : op < n) (is : x ≡ get_or now op x) (same : y.entries ≡ x.entries) (so_far : HaveRoomSoFar old now op) where
+  pub entries_alike : map entries_of (slice_set now op y) ≡ map entries_of old
+  entries_alike = set_alike entries_of now op y x.entries (seen_at entries_of now n op x long within is) same ∙ so_far.entries
 
-  pub waiting_alike : map waits (slice_set now op y) ≡ map waits old
-  waiting_alike = set_alike waits now op y (waits x) (seen_at waits now n op x long within is) same_waits ∙ so_far.waiting
-
-  pub one_more_room : 0 < room y → HaveRoomSoFar book waits room old (slice_set now op y) (op + 1)
+  pub one_more_room : 0 < y.spare → HaveRoomSoFar old (slice_set now op y) (op + 1)
   one_more_room some = record {
     one_each = length-set now op y ∙ so_far.one_each;
-    room_is = AllWithin-more_set now op y (omega (arith, long, within)) (λ z. 0 < room z) so_far.room_is some;
-    books = books_alike;
-    waiting = waiting_alike;
+    room = AllWithin-more_set now op y (omega (arith, long, within)) (λ (history : HeldHistory). 0 < history.spare) so_far.room some;
+    entries = entries_alike;
   }
+
+-- ---- recorded so far
+
+pub record HaveRecordedSoFar (from : ℕ) (rows : List SliceRow) (old now : List HeldHistory) (op : ℕ) : Type 0 where
+  pub one_each : length now ≡ length old
+  pub entries : map entries_of now ≡ histories_after_reslice from (take op rows) (map entries_of old)
+  pub others : (i : ℕ) → op ≤ i → slice_get now i ≡ slice_get old i
+
+pub none_recorded : (from : ℕ) (rows : List SliceRow) (old : List HeldHistory) → HaveRecordedSoFar from rows old old 0
+none_recorded from rows old = record { one_each = refl; entries = refl; others = λ i le. refl }
+
+one_more : (from : ℕ) (rows : List SliceRow) (histories : List (List Entry)) (op : ℕ) (row : SliceRow) (history : List Entry) → slice_get rows op ≡ Some row → slice_get histories op ≡ Some history
+    → slice_set (histories_after_reslice from (take op rows) histories) op (history ++ record { action = actions.Reslice from row; outputs = [] } ∷ []) ≡ histories_after_reslice from (take (op + 1) rows) histories
+one_more from [] histories op row history e f = absurd (cc)
+one_more from (r ∷ rows) [] op row history e f = absurd (cc)
+one_more from (r ∷ rows) (h ∷ histories) zero row history e f = λ k. (sym (same_Some h history f) k ++ record { action = actions.Reslice from (sym (same_Some r row e) k); outputs = [] } ∷ []) ∷ histories
+one_more from (r ∷ rows) (h ∷ histories) (suc op) row history e f =
+    let more : suc (op + 1) ≡ suc op + 1 = omega arith in
+    ap (λ (hs : List (List Entry)). (h ++ record { action = actions.Reslice from r; outputs = [] } ∷ []) ∷ hs) (one_more from rows histories op row history e f)
+    ∙ ap (λ (k : ℕ). histories_after_reslice from (take k (r ∷ rows)) (h ∷ histories)) more
+
+module _ (from : ℕ) (rows : List SliceRow) (old now : List HeldHistory) (n op : ℕ) (x : HeldHistory) (long : n ≡ length now) (within : op < n) (is : x ≡ get_or now op x) (so_far : HaveRecordedSoFar from rows old now op) where
+  there : slice_get now op ≡ Some x
+  there = slice_get_read now n op x long within is
+
+  pub one_more_recorded : (y : HeldHistory) (row : SliceRow) (outputs : List Output) → slice_get rows op ≡ Some row → y.entries ≡ x.entries ++ record { action = actions.Reslice from row; outputs = outputs } ∷ []
+      → outputs ≡ [] → HaveRecordedSoFar from rows old (slice_set now op y) (op + 1)
+  one_more_recorded y row outputs here put none = record {
+    one_each = length-set now op y ∙ so_far.one_each;
+    entries = map-set entries_of now op y ∙ (ap₂ (λ (hs : List (List Entry)) (h : List Entry). slice_set hs op h) so_far.entries (put ∙ ap (λ (os : List Output). x.entries ++ record { action = actions.Reslice from row; outputs = os } ∷ []) none)
+        ∙ one_more from rows (map entries_of old) op row x.entries here
+        (slice_get-map entries_of old op ∙ ap (option_map entries_of) (sym (so_far.others op (omega arith)) ∙ there)));
+    others = λ i le. get_other now op i y (λ same. omega (arith, le, same)) ∙ so_far.others i (omega (arith, le));
+  }
+
+pub all_recorded : (from : ℕ) (rows : List SliceRow) (old now : List HeldHistory) (op : ℕ) → length rows ≤ op → HaveRecordedSoFar from rows old now op
+    → map entries_of now ≡ histories_after_reslice from rows (map entries_of old)
+all_recorded from rows old now op past so_far = so_far.entries ∙ ap (λ (rs : List SliceRow). histories_after_reslice from rs (map entries_of old)) (take_all op rows past)

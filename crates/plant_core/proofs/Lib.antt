@@ -1,12 +1,7 @@
-pub mod CachedLemmas
 pub mod WaitingLemmas
-pub mod PlaceLemmas
+pub mod RecordLemmas
 pub mod StepLemmas
+pub mod GiveLemmas
+pub mod OpenLemmas
 pub mod ReachLemmas
 pub mod RunLemmas
-pub mod OpenLemmas
-pub mod DeskPlaces
-pub mod OfferLemmas
-pub mod FreeLemmas
-pub mod GiveLemmas
-pub mod ResliceLemmas

@@ -11,8 +11,8 @@ use Rattle.run_model.specs.IsStateAfter.{CoreView, IsStateAfter}
 use Rattle.run_model.specs.Steps.{Steps}
 use Rattle.run_model.proofs.OneStep.{step_reached}
 use Rattle.run_model.proofs.Runs.{reached_more}
-use Rattle.plant_core.specs.declared.core_fault.CoreFault.{CoreFault}
-use Rattle.plant_core.specs.Faults.{step_fault, IsReported}
+use Rattle.live_core.specs.declared.core_fault.CoreFault.{CoreFault}
+use Rattle.live_core.specs.Faults.{step_fault, IsReported}
 
 pub step_more : (plant : PlantFields) (before : List Step) (step : Step) (told made now outs : List Out) (old new : CoreView) → IsPlant plant → IsGathering old.gathering
     → Steps step old new now → outs ≡ made ++ now → made ≡ [] → IsStateAfter plant before told old → IsStateAfter plant (before ++ step ∷ []) (told ++ outs) new

@@ -1,7 +1,7 @@
 -- Frames that wait.
-use Rattle.std.proofs.Common.{◌≡◌, ℕ, zero, suc, ◌+◌, ◌<◌, ◌≤◌, List, [], ◌∷◌, ◌++◌, length, get_or, drop, All, Result, Ok, Err, OnErr, Option, Some, None, IsSome, refl, sym, ap, subst, ◌∙◌, append-nil, arith}
-use Rattle.std.specs.Prelude.{filter_map, slice_get, slice_index_or, count_by}
-use Rattle.std.specs.List.{flat_map, range_with_len}
+use Rattle.std.proofs.Common.{◌≡◌, ℕ, zero, suc, ◌+◌, ◌<◌, ◌≤◌, List, [], ◌∷◌, ◌++◌, length, get_or, drop, All, Result, Ok, Err, OnErr, Some, None, IsSome, refl, sym, ap, subst, ◌∙◌, append-nil, arith}
+use Rattle.std.specs.Prelude.{slice_get, slice_index_or}
+use Rattle.std.specs.List.{flat_map}
 use Rattle.std.proofs.lemmas.List.{drop-append-le, drop_more}
 use Rattle.std.proofs.lemmas.List.Elements.{filter_map-append}
 use Rattle.std.proofs.lemmas.List.Concat.{flat_map-append}
@@ -9,18 +9,14 @@ use Rattle.slice_scheduler.specs.declared.elements.ElementsFields.{ElementsField
 use Rattle.plant.specs.declared.consts.ConstsFields.{ConstsFields}
 use Rattle.plant.specs.declared.operator_row.RowFields.{RowFields}
 use Rattle.operator_model.specs.declared.action.Action.{Action}
-use Rattle.operator_model.specs.declared.action.Action.TheVariants.{Arrive, Work, Tick, Reslice}
 use Rattle.operator_model.specs.declared.action.Entry.{Entry}
 use Rattle.operator_model.specs.declared.output.Output.{Output}
-use Rattle.operator_model.specs.declared.output.Output.TheVariants.{Reply, Silent, Frame}
 use Rattle.operator_model.specs.State.{OperatorState, operator}
 use Rattle.operator_model.specs.Machine.{own_step}
 use Rattle.operator_model.specs.Replay.{BookView, AreTold, IsReplay, book_after_action}
-use Rattle.operator_model.specs.Frames.{frame_number, is_tick}
-use Rattle.operator_model.proofs.FrameLemmas.{run_puts}
 use Rattle.run_model.specs.IsStateAfter.{frame_with_number, frames_of}
-use Rattle.plant_core.specs.Waiting.{frames_in, waiting_in, IsOneFrame, IsOldest}
-use Rattle.plant_core.specs.declared.collecting.Oldest.{Oldest}
+use Rattle.live_core.proofs.FrameLemmas.{first_none, first_alone, one_frame}
+use Rattle.plant_core.specs.Waiting.{frames_in, waiting_in, IsOneFrame}
 
 frames_append : (xs ys : List Entry) → frames_in (xs ++ ys) ≡ frames_in xs ++ frames_in ys
 frames_append xs ys =
@@ -45,15 +41,6 @@ pub waiting_more : (history : List Entry) (place : ℕ) (d : Entry) → place < 
 waiting_more history place d lt =
     ap frames_in (drop_more history place d lt)
     ∙ filter_map-append frame_with_number (get_or history place d).outputs (flat_map (λ (entry : Entry). entry.outputs) (drop (place + 1) history))
-
-pub first_none : {X : Type 0} (xs : List X) → slice_get xs 0 ≡ None → xs ≡ []
-first_none [] h = refl
-first_none (x ∷ xs) h = cc
-
-pub first_alone : {X : Type 0} (xs : List X) (x : X) → slice_get xs 0 ≡ Some x → length xs ≤ 1 → xs ≡ x ∷ []
-first_alone [] x h few = cc
-first_alone (y ∷ []) x h few = let same : y ≡ x = cc in ap (λ z. z ∷ []) same
-first_alone (y ∷ z ∷ xs) x h few = absurd (omega (arith, few))
 
 pub none_here : (history : List Entry) (place : ℕ) (d : Entry) → place < length history → slice_get (frames_of (get_or history place d).outputs) 0 ≡ None
     → waiting_in history (place + 1) ≡ waiting_in history place
@@ -80,40 +67,6 @@ some_here history place d from outputs lt here is some =
 pub on_err : {T E : Type 0} {P : Type 0} (r : Result T E) → P → OnErr r P
 on_err (Ok x) p = tt
 on_err (Err y) p = p
-
-pub oldest_front : (history : List Entry) (place : ℕ) (o : Option Oldest) (oldest : Oldest) → o ≡ Some oldest → IsOldest history place o
-    → waiting_in history place ≡ (oldest.number, oldest.elements) ∷ waiting_in history oldest.behind
-oldest_front history place o oldest is waits = (subst (λ (x : Option Oldest). IsOldest history place x) is waits).0
-
--- ---- an action puts out one frame at most
-
-as_many : (outputs : List Output) → length (frames_of outputs) ≡ length (filter_map frame_number outputs)
-as_many [] = refl
-as_many (Reply modem bytes ∷ outputs) = as_many outputs
-as_many (Silent modem cause ∷ outputs) = as_many outputs
-as_many (Frame number elements ∷ outputs) = ap suc (as_many outputs)
-
-ticks : (action : Action) → count_by is_tick (action ∷ []) ≤ 1
-ticks (Arrive modem heard) = omega arith
-ticks Work = omega arith
-ticks Tick = omega arith
-ticks (Reslice from row) = omega arith
-
-long : (n count : ℕ) → length (range_with_len n count) ≡ count
-long n zero = refl
-long n (suc count) = ap suc (long (n + 1) count)
-
--- as many frames as the action is a tick
-pub frames_are : (consts : ConstsFields) (row : RowFields) (state : OperatorState) (action : Action) → length (frames_of (own_step (operator consts row state) action).outputs) ≡ count_by is_tick (action ∷ [])
-frames_are consts row state action =
-    let puts = run_puts consts row state (action ∷ []) in
-    let plain : (own_step (operator consts row state) action).outputs ++ [] ≡ (own_step (operator consts row state) action).outputs = append-nil (own_step (operator consts row state) action).outputs in
-    as_many (own_step (operator consts row state) action).outputs
-    ∙ (ap (λ (outputs : List Output). length (filter_map frame_number outputs)) (sym plain)
-    ∙ (ap (λ (ns : List ℕ). length ns) puts.numbers ∙ long state.frame (count_by is_tick (action ∷ []))))
-
-pub one_frame : (consts : ConstsFields) (row : RowFields) (state : OperatorState) (action : Action) → length (frames_of (own_step (operator consts row state) action).outputs) ≤ 1
-one_frame consts row state action = omega (arith, frames_are consts row state action, ticks action)
 
 all_more : (entry : Entry) (history : List Entry) → IsOneFrame entry → All IsOneFrame history → (k : ℕ) (d : Entry) → k < length (entry ∷ history)
     → IsOneFrame (slice_index_or (entry ∷ history) k d)

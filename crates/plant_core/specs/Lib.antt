@@ -1,9 +1,4 @@
-pub mod Cached
 pub mod Waiting
-pub mod Putting
-pub mod DeskView
-pub mod Reachable
-pub mod Reslicing
-pub mod Giving
-pub mod Faults
+pub mod Recorded
+pub mod RecordView
 pub mod CoreView

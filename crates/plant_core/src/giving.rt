@@ -1,101 +1,89 @@
-//! Giving new slices to all operators.
+//! Giving new slices to all operators, and recording them.
 
-ghost use Rattle.std.specs.Prelude.{◌≡◌, ◌<◌, ◌≤◌, ◌^◌, [], map, length, vec_len, All, None, IfOk, OnOk, OnErr};
-ghost use Rattle.operator_model.specs.declared.action.Action.TheVariants as actions;
-ghost use Rattle.operator_model.specs.Machine.{unfit_from};
-ghost use Rattle.operator_model.specs.Replay.{operator_of_book, book_after_action};
-ghost use Rattle.run_model.specs.OwnSteps.{slice_of};
-ghost use Rattle.run_model.specs.Steps.{Reslices, NoneRefuses};
-ghost use Rattle.plant_core.specs.Reslicing.{reslice_fault};
-ghost use Rattle.plant_core.specs.Giving.{IsOfASlice, HaveTaken};
-ghost use Rattle.plant_core.specs.DeskView.{book_at, waiting_at, room_at};
-ghost use Rattle.plant_core.specs.CoreView.{core_view};
+ghost use Rattle.std.specs.Prelude.{◌≡◌, ◌<◌, [], map, length, vec_len, All, option_map, None, OnOk, OnErr};
+ghost use Rattle.run_model.specs.Steps.{Reslices};
+ghost use Rattle.live_core.specs.declared.core_fault.CoreFault.TheVariants as faults;
+ghost use Rattle.live_core.specs.Faults.{IsReported};
+ghost use Rattle.live_core.specs.Reslicing.{reslice_fault};
+ghost use Rattle.plant_core.specs.Recorded.{histories_after_reslice};
+ghost use Rattle.plant_core.specs.RecordView.{record_view};
 
-use crate::desk::OperatorSlot;
-use crate::held::PlantCore;
-use operator_model::SliceRow;
-use slice_scheduler::Slice;
+use crate::recorded::RecordedCore;
+use crate::slice_change::SliceChange;
+use live_core::CoreFault;
+use operator_book::History;
+use operator_model::{Action, Entry, Outputs, SliceRow};
+use run_model::SliceRows;
 use std::alloc::{AllocError, Global};
 
-impl OperatorSlot {
-    /// Makes room for one more entry in the history.
-    fn make_room(&mut self) -> Result<(), AllocError>
-        requires within { self.old.collected ≤ length (book_at self.old).history }
-        ensures room { OnOk result (0 < room_at self.new) }
-        ensures book { book_at self.new ≡ book_at self.old }
-        ensures waiting { waiting_at self.new ≡ waiting_at self.old }
-    {
-        self.book.make_room()
-    }
-
-    /// Takes a row from a later frame on. Takes no memory.
-    fn reslice(&mut self, from: u32, row: SliceRow)
-        requires fit { unfit_from (operator_of_book (book_at self.old)) from row ≡ None }
-        requires room { 0 < room_at self.old }
-        ensures book { book_at self.new ≡ book_after_action (book_at self.old) (actions.Reslice from row) }
-        ensures waiting { waiting_at self.new ≡ waiting_at self.old }
-    {
-        self.book.reslice(from, row);
-    }
-}
-
 /// Makes room for one more entry in each history.
-fn make_room(desks: &mut Vec<OperatorSlot>) -> Result<(), AllocError>
-    requires { vec_len desks.old < 2 ^ 64 }
-    ensures room { OnOk result (All (λ desk. 0 < room_at desk) desks.new.items) }
-    ensures books { map book_at desks.new.items ≡ map book_at desks.old.items }
-    ensures waiting { map waiting_at desks.new.items ≡ map waiting_at desks.old.items }
+fn make_room(histories: &mut Vec<History>) -> Result<(), AllocError>
+    ensures room { OnOk result (All (λ history. 0 < history.spare) histories.new.items) }
+    ensures entries { map (λ history. history.entries) histories.new.items ≡ map (λ history. history.entries) histories.old.items }
 {
-    for op in 0..desks.len() {
-        desks[op].make_room()?;
+    for op in 0..histories.len() {
+        histories[op].make_room()?;
     }
     Ok(())
 }
 
-/// Gives each operator its row of a slice change. Takes no memory.
-fn give(desks: &mut Vec<OperatorSlot>, from: u32, rows: &[SliceRow])
-    requires one_each { length rows.now ≡ vec_len desks.old }
-    requires fit { NoneRefuses from (map book_at desks.old.items) rows.now }
-    requires room { All (λ desk. 0 < room_at desk) desks.old.items }
-    ensures books { HaveTaken from rows.now (map book_at desks.old.items) (map book_at desks.new.items) }
-    ensures waiting { map waiting_at desks.new.items ≡ map waiting_at desks.old.items }
+/// Puts into each history the entry of its row of a slice change. Takes no memory.
+fn record_rows(histories: &mut Vec<History>, from: u32, rows: &[SliceRow])
+    requires one_each { length rows.now ≡ vec_len histories.old }
+    requires room { All (λ history. 0 < history.spare) histories.old.items }
+    ensures { map (λ history. history.entries) histories.new.items
+        ≡ histories_after_reslice from rows.now (map (λ history. history.entries) histories.old.items) }
 {
     for (op, row) in rows.iter().enumerate() {
-        desks[op].reslice(from, *row);
+        let history = &mut histories[op];
+        let outputs = Outputs::new(history.allocator());
+        history.push(Entry {
+            action: Action::Reslice { from, row: *row },
+            outputs,
+        });
     }
 }
 
-/// Returns the slices of rows.
-pub fn slices_of(alloc: Global, rows: &[SliceRow]) -> Result<Vec<Slice>, AllocError>
-    requires { All IsOfASlice rows.now }
-    ensures { IfOk result (λ slices. slices.items ≡ map slice_of rows.now) }
-{
-    let mut slices = Vec::with_capacity(alloc, rows.len())?;
-    for row in rows {
-        slices.push(Slice::new(row.start, row.length))?;
+impl RecordedCore {
+    /// Gives each operator its row, and the assembly all slices, from a later frame on, and records them. All memory is taken
+    /// first.
+    fn give(&mut self, alloc: Global, from: u32, rows: &SliceRows) -> Result<(), AllocError>
+        requires { reslice_fault from (record_view self.old).books rows.now ≡ None }
+        ensures ok { OnOk result (Reslices from rows.now (record_view self.old) (record_view self.new) []) }
+        ensures err { OnErr result (record_view self.new ≡ record_view self.old) }
+    {
+        // For the proof: what always holds of `self.live`.
+        self.live.always();
+        let copy = rows.copy(alloc)?;
+        self.changes.reserve(1)?;
+        make_room(&mut self.histories)?;
+        let given = rows.as_slice();
+        self.live.give(alloc, from, given)?;
+        record_rows(&mut self.histories, from, given);
+        self.changes.push_reserved(SliceChange { from, rows: copy });
+        Ok(())
     }
-    Ok(slices)
-}
 
-impl PlantCore {
-    /// Gives each operator its row, and the assembly all slices, from a later frame on. All memory
-    /// is taken first.
-    pub(crate) fn give(
+    /// Gives all operators new slices from a later frame on, if these have no fault.
+    pub(crate) fn reslice(
         &mut self,
         alloc: Global,
         from: u32,
-        rows: &[SliceRow],
-    ) -> Result<(), AllocError>
-        requires { reslice_fault from (core_view self.old).books rows.now ≡ None }
-        ensures ok { OnOk result (Reslices from rows.now (core_view self.old) (core_view self.new) []) }
-        ensures err { OnErr result (core_view self.new ≡ core_view self.old) }
+        rows: &SliceRows,
+    ) -> Result<(), CoreFault>
+        ensures ok { OnOk result (Reslices from rows.now (record_view self.old) (record_view self.new) []) }
+        ensures err { OnErr result (record_view self.new ≡ record_view self.old) }
+        ensures fault { IsReported result (option_map
+            (λ fault. faults.Reslice fault) (reslice_fault from (record_view self.old).books rows.now)) }
     {
-        // For the proof: what always holds of `self`.
-        self.always();
-        make_room(&mut self.desks)?;
-        let slices = slices_of(alloc, rows)?;
-        self.gather.reslice(alloc, from, slices)?;
-        give(&mut self.desks, from, rows);
-        Ok(())
+        // For the proof: what always holds of `self.live`.
+        self.live.always();
+        if let Some(fault) = self.live.reslice_fault(from, rows.as_slice()) {
+            return Err(CoreFault::Reslice(fault));
+        }
+        match self.give(alloc, from, rows) {
+            Ok(()) => Ok(()),
+            Err(AllocError) => Err(CoreFault::NoMemory),
+        }
     }
 }

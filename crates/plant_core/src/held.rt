@@ -1,29 +1,20 @@
 //! What a plant's core holds.
 
-ghost use Rattle.std.specs.Prelude.{map};
-ghost use Rattle.plant_core.specs.DeskView.{book_at, waiting_at};
-ghost use Rattle.plant_core.specs.Reachable.{core_of, IsReachable};
+ghost use Rattle.live_core.specs.Reachable.{IsReachable};
+ghost use Rattle.plant_core.specs.RecordView.{record_view};
 
-use crate::desk::OperatorSlot;
-use crate::routes::Routes;
-use map_assembly::Gather;
+use crate::recorded::RecordedCore;
 
-/// A plant's core: the plant, each operator's book with its frames that wait to be collected, and what is gathered. Contracts
-/// speak of `core_view` of it. The type keeps that it is what some steps make of the plant's core as it is opened.
+/// A plant's core: the operators' machines, the frames that wait to be collected, what is gathered, and the record of its run.
+/// Contracts speak of `core_view` of it. The type keeps that it is what some steps make of the plant's core as it is opened.
 pub struct PlantCore {
-    pub(crate) routes: Routes,
-    pub(crate) desks: Vec<OperatorSlot>,
-    pub(crate) gather: Gather,
-    ghost reached: { ∥ IsReachable (core_of routes (map book_at desks.items) (map waiting_at desks.items) gather) ∥₁ },
+    pub(crate) recorded: RecordedCore,
+    ghost reached: { ∥ IsReachable (record_view recorded) ∥₁ },
 }
 
 /// Written out, so that the crates above prove nothing of how the parts of a core are dropped.
 impl Drop for PlantCore {
     fn drop(self) {
-        let PlantCore {
-            routes: _,
-            desks: _,
-            gather: _,
-        } = self;
+        let PlantCore { recorded: _ } = self;
     }
 }

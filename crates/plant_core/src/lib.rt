@@ -1,30 +1,26 @@
-//! The core of a plant, with histories: the operators' books, the frames that are not yet collected, and the assembly of MAPs.
+//! The core of a plant with a record of its run: each operator's history, and the slices that were given.
 #![tactic(auto)]
 
 mod acting;
-mod collecting;
-mod core_fault;
-mod desk;
 mod giving;
 mod held;
+mod keeping;
 mod laws_of_core;
 mod opening;
-mod reslicing;
-mod routes;
+mod recorded;
 mod running;
+mod slice_change;
 mod stepping;
 
-pub use collecting::Oldest;
-pub use core_fault::{CoreFault, CoreOpenFault, ResliceFault, Unfits};
-pub use desk::OperatorSlot;
-pub use giving::slices_of;
 pub use held::PlantCore;
-pub use opening::follow;
-pub use reslicing::{first_fault, is_refused, is_same, least_meeting};
-pub use routes::Routes;
+pub use live_core::{
+    CoreFault, CoreOpenFault, ResliceFault, Routes, Unfits, first_fault, follow, is_same,
+    least_meeting,
+};
+pub use recorded::RecordedCore;
 pub use run_model::{
     equal_books_answer_alike, maps_are_shared_out, non_interference, opened_is_reached,
     run_is_reached, step_is_reached, two_cores,
 };
 pub use running::RunStop;
-pub use stepping::{append, append_map, core_fault_of};
+pub use slice_change::SliceChange;

@@ -1,18 +1,14 @@
 //! Steps one after the other.
 
-ghost use Rattle.std.specs.Prelude.{◌≡◌, ◌<◌, [], ◌∷◌, ◌++◌, List, take, length, slice_get, Some, Err, IfOk, IfErr, OnOk, OnErr};
+ghost use Rattle.std.specs.Prelude.{◌≡◌, ◌<◌, [], ◌∷◌, take, length, slice_get, Some, Err, IfOk, IfErr, OnOk, OnErr};
 ghost use Rattle.run_model.specs.declared.step.Step.{Step};
-ghost use Rattle.run_model.specs.declared.step.Out.{Out};
-ghost use Rattle.run_model.specs.declared.step.Step.TheVariants as steps;
 ghost use Rattle.run_model.specs.Steps.{Steps};
-ghost use Rattle.plant_core.specs.Faults.{step_fault, IsReported};
-ghost use Rattle.plant_core.specs.Reachable.{LeadsOn};
+ghost use Rattle.live_core.specs.Faults.{step_fault, IsReported};
+ghost use Rattle.live_core.specs.Reachable.{LeadsOn};
 ghost use Rattle.plant_core.specs.CoreView.{core_view};
 
-use crate::core_fault::CoreFault;
 use crate::held::PlantCore;
-use dsx_messages::Modem;
-use operator_model::{Action, Heard};
+use live_core::CoreFault;
 use run_model::{Out, Step};
 use std::alloc::Global;
 
@@ -42,7 +38,7 @@ impl PlantCore {
         // For the proof: what always holds of `self`.
         self.always();
         outs.clear();
-        self.step_into(alloc, step, outs)?;
+        self.step_into(alloc, &step, outs)?;
         Ok(())
     }
 
@@ -60,59 +56,10 @@ impl PlantCore {
         for (at, step) in steps.iter().enumerate() {
             // For the proof: what always holds of `self`.
             self.always();
-            if let Err(fault) = self.step_copied(alloc, step, &mut outs) {
+            if let Err(fault) = self.step_into(alloc, step, &mut outs) {
                 return Err(RunStop { at, fault, outs });
             }
         }
         Ok(outs)
-    }
-
-    /// Performs a step that the caller keeps.
-    fn step_copied(
-        &mut self,
-        alloc: Global,
-        step: &Step,
-        outs: &mut Vec<Out>,
-    ) -> Result<(), CoreFault>
-        ensures ok { OnOk result ((now : List Out) × (outs.new.items ≡ outs.old.items ++ now)
-            × Steps step.now (core_view self.old) (core_view self.new) now) }
-        ensures outs { OnErr result (outs.new.items ≡ outs.old.items) }
-        ensures err { OnErr result (core_view self.new ≡ core_view self.old) }
-        ensures fault { IsReported result (step_fault (core_view self.old) step.now) }
-    {
-        match step {
-            Step::Arrive { modem, heard } => self.arrive_copied(alloc, *modem, heard, outs),
-            Step::Work { op } => self.act_if(alloc, *op, Action::Work, outs),
-            Step::Tick { op } => self.act_if(alloc, *op, Action::Tick, outs),
-            Step::Collect { op } => self.collect(alloc, *op, outs),
-            Step::Reslice { from, rows } => self.reslice(alloc, *from, rows.as_slice()),
-        }
-    }
-
-    /// Puts a copy of what was received of a modem into the inbox of the operator that has this
-    /// modem.
-    fn arrive_copied(
-        &mut self,
-        alloc: Global,
-        modem: Modem,
-        heard: &Heard,
-        outs: &mut Vec<Out>,
-    ) -> Result<(), CoreFault>
-        ensures ok { OnOk result ((now : List Out) × (outs.new.items ≡ outs.old.items ++ now)
-            × Steps (steps.Arrive modem heard.now) (core_view self.old) (core_view self.new) now) }
-        ensures outs { OnErr result (outs.new.items ≡ outs.old.items) }
-        ensures err { OnErr result (core_view self.new ≡ core_view self.old) }
-        ensures fault { IsReported result (step_fault (core_view self.old) (steps.Arrive modem heard.now)) }
-    {
-        let Some(op) = self.routes.place_of(modem) else {
-            return Err(CoreFault::UnknownModem { modem });
-        };
-        if op >= self.desks.len() {
-            return Err(CoreFault::UnknownOperator { op });
-        }
-        match heard.copy(alloc) {
-            Ok(heard) => self.act_if(alloc, op, Action::Arrive { modem, heard }, outs),
-            Err(_) => Err(CoreFault::NoMemory),
-        }
     }
 }

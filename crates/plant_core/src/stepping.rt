@@ -1,146 +1,110 @@
 //! One step of a plant.
 
-ghost use Rattle.std.specs.Prelude.{◌≡◌, ◌+◌, ◌<◌, ◌≤◌, [], ◌∷◌, ◌++◌, List, slice_get, vec_len, vec_capacity, Option, Some, None, Err, IfOk, OnOk, OnErr};
-ghost use Rattle.map_assembly.specs.declared.refused.GatherFault.{GatherFault};
+ghost use Rattle.std.specs.Prelude.{◌≡◌, [], ◌∷◌, ◌++◌, List, slice_get, IfOk, OnOk, OnErr};
+ghost use Rattle.plant.specs.Plant.{IsPlant};
 ghost use Rattle.run_model.specs.declared.step.Out.{Out};
-ghost use Rattle.run_model.specs.declared.step.Step.{Step};
 ghost use Rattle.run_model.specs.declared.step.Step.TheVariants as steps;
-ghost use Rattle.run_model.specs.OwnSteps.{outputs_under};
-ghost use Rattle.run_model.specs.Steps.{Acts, Collects, Steps, told_map};
-ghost use Rattle.plant_core.specs.Faults.{act_fault, collect_fault, step_fault, IsReported, core_fault_of};
-ghost use Rattle.plant_core.specs.Reachable.{IsOfAStep, LeadsOn};
+ghost use Rattle.run_model.specs.Steps.{Collects, Steps};
+ghost use Rattle.live_core.specs.Faults.{collect_fault, step_fault, IsReported};
+ghost use Rattle.live_core.specs.Reachable.{LeadsOn};
 ghost use Rattle.plant_core.specs.CoreView.{core_view};
+ghost use Rattle.plant_core.specs.RecordView.{record_view};
 
-use crate::core_fault::CoreFault;
 use crate::held::PlantCore;
+use crate::recorded::RecordedCore;
 use dsx_messages::Modem;
-use map_assembly::{GatherFault, MapBytes};
-use operator_model::{Action, Heard, Output};
+use live_core::CoreFault;
+use operator_model::{Action, Heard};
 use plant::Op;
 use run_model::{Out, Step};
 use std::alloc::Global;
 
-/// Adds an operator's outputs, for which there is room.
-#[inline(always)]
-pub fn append(outs: &mut Vec<Out>, op: Op, told: Vec<Output>)
-    requires { vec_len outs.old + vec_len told ≤ vec_capacity outs.old }
-    ensures { outs.new.items ≡ outs.old.items ++ outputs_under op told.items }
-{
-    if told.is_empty() {
-        return;
-    }
-    for output in told {
-        outs.push_reserved(Out::Of { op, output });
-    }
-}
-
-/// Adds a MAP that is made, for which there is room.
-pub fn append_map(outs: &mut Vec<Out>, made: Option<MapBytes>)
-    requires { vec_len outs.old < vec_capacity outs.old }
-    ensures { outs.new.items ≡ outs.old.items ++ told_map made }
-{
-    if let Some(made) = made {
-        outs.push_reserved(Out::Map(made));
-    }
-}
-
-/// Returns what the core answers where the assembly refuses a frame.
-pub fn core_fault_of(fault: GatherFault) -> CoreFault
-    ensures { result ≡ core_fault_of fault }
-{
-    match fault {
-        GatherFault::NoMemory => CoreFault::NoMemory,
-        _ => CoreFault::Gather(fault),
-    }
-}
-
-impl PlantCore {
-    /// Performs an action of the operator at this place, if there is one.
-    pub(crate) fn act_if(
-        &mut self,
-        alloc: Global,
-        op: Op,
-        action: Action,
-        outs: &mut Vec<Out>,
-    ) -> Result<(), CoreFault>
-        requires { IsOfAStep self.old.routes op action }
-        ensures ok { OnOk result ((now : List Out) × (outs.new.items ≡ outs.old.items ++ now)
-            × Acts op action (core_view self.old) (core_view self.new) now) }
-        ensures outs { OnErr result (outs.new.items ≡ outs.old.items) }
-        ensures err { OnErr result (core_view self.new ≡ core_view self.old) }
-        ensures fault { IsReported result (act_fault op action (slice_get (core_view self.old).books op)) }
-    {
-        // For the proof: what always holds of `self`.
-        self.always();
-        if op >= self.desks.len() {
-            return Err(CoreFault::UnknownOperator { op });
-        }
-        self.desks[op].act_into(alloc, op, action, outs)
-    }
-
-    /// Puts what was received of a modem into the inbox of the operator that has this modem.
+impl RecordedCore {
+    /// Puts a copy of what was received of a modem into the inbox of the operator that has this
+    /// modem.
     fn arrive(
         &mut self,
         alloc: Global,
         modem: Modem,
-        heard: Heard,
+        heard: &Heard,
         outs: &mut Vec<Out>,
     ) -> Result<(), CoreFault>
+        requires { IsPlant (record_view self.old).plant }
         ensures ok { OnOk result ((now : List Out) × (outs.new.items ≡ outs.old.items ++ now)
-            × Steps (steps.Arrive modem heard) (core_view self.old) (core_view self.new) now) }
+            × Steps (steps.Arrive modem heard.now) (record_view self.old) (record_view self.new) now) }
         ensures outs { OnErr result (outs.new.items ≡ outs.old.items) }
-        ensures err { OnErr result (core_view self.new ≡ core_view self.old) }
-        ensures fault { IsReported result (step_fault (core_view self.old) (steps.Arrive modem heard)) }
+        ensures err { OnErr result (record_view self.new ≡ record_view self.old) }
+        ensures fault { IsReported result (step_fault (record_view self.old) (steps.Arrive modem heard.now)) }
     {
-        match self.routes.place_of(modem) {
-            None => Err(CoreFault::UnknownModem { modem }),
-            Some(op) => self.act_if(alloc, op, Action::Arrive { modem, heard }, outs),
+        // For the proof: what always holds of `self.live`, and that there is an operator for each row.
+        self.live.always();
+        self.live.always_one_each();
+        let Some(op) = self.live.place_of(modem) else {
+            return Err(CoreFault::UnknownModem { modem });
+        };
+        match heard.copy(alloc) {
+            Ok(heard) => self.act_if(alloc, op, Action::Arrive { modem, heard }, outs),
+            Err(_) => Err(CoreFault::NoMemory),
         }
     }
 
     /// Puts the oldest waiting frame of the operator at this place into the assembly, if there is
     /// one.
-    pub(crate) fn collect(
-        &mut self,
-        alloc: Global,
-        op: Op,
-        outs: &mut Vec<Out>,
-    ) -> Result<(), CoreFault>
+    fn collect(&mut self, alloc: Global, op: Op, outs: &mut Vec<Out>) -> Result<(), CoreFault>
+        requires { IsPlant (record_view self.old).plant }
         ensures ok { OnOk result ((now : List Out) × (outs.new.items ≡ outs.old.items ++ now)
-            × Collects op (core_view self.old) (core_view self.new) now) }
+            × Collects op (record_view self.old) (record_view self.new) now) }
         ensures outs { OnErr result (outs.new.items ≡ outs.old.items) }
-        ensures err { OnErr result (core_view self.new ≡ core_view self.old) }
-        ensures fault { IsReported result (collect_fault op (slice_get (core_view self.old).queues op)) }
+        ensures err { OnErr result (record_view self.new ≡ record_view self.old) }
+        ensures fault { IsReported result (collect_fault op (slice_get (record_view self.old).queues op)) }
     {
-        // For the proof: what always holds of `self`.
-        self.always();
-        if op >= self.desks.len() {
-            return Err(CoreFault::UnknownOperator { op });
-        }
-        let gather = &mut self.gather;
-        self.desks[op].collect_into(alloc, op, gather, outs)
+        // For the proof: what always holds of `self.live`.
+        self.live.always();
+        self.live.collect(alloc, op, outs)
     }
 
-    /// Performs a step, and appends its outputs.
+    /// Performs a step that the caller keeps, appends its outputs, and records it.
     pub(crate) fn step_into(
         &mut self,
         alloc: Global,
-        step: Step,
+        step: &Step,
+        outs: &mut Vec<Out>,
+    ) -> Result<(), CoreFault>
+        requires { IsPlant (record_view self.old).plant }
+        ensures ok { OnOk result ((now : List Out) × (outs.new.items ≡ outs.old.items ++ now)
+            × Steps step.now (record_view self.old) (record_view self.new) now) }
+        ensures outs { OnErr result (outs.new.items ≡ outs.old.items) }
+        ensures err { OnErr result (record_view self.new ≡ record_view self.old) }
+        ensures fault { IsReported result (step_fault (record_view self.old) step.now) }
+    {
+        match step {
+            Step::Arrive { modem, heard } => self.arrive(alloc, *modem, heard, outs),
+            Step::Work { op } => self.act_if(alloc, *op, Action::Work, outs),
+            Step::Tick { op } => self.act_if(alloc, *op, Action::Tick, outs),
+            Step::Collect { op } => self.collect(alloc, *op, outs),
+            Step::Reslice { from, rows } => self.reslice(alloc, *from, rows),
+        }
+    }
+}
+
+impl PlantCore {
+    /// Performs a step that the caller keeps, and appends its outputs. A refused step changes
+    /// nothing, and appends nothing.
+    pub(crate) fn step_into(
+        &mut self,
+        alloc: Global,
+        step: &Step,
         outs: &mut Vec<Out>,
     ) -> Result<(), CoreFault>
         ensures ok { OnOk result ((now : List Out) × (outs.new.items ≡ outs.old.items ++ now)
-            × Steps step (core_view self.old) (core_view self.new) now) }
+            × Steps step.now (core_view self.old) (core_view self.new) now) }
         ensures outs { OnErr result (outs.new.items ≡ outs.old.items) }
         ensures err { OnErr result (core_view self.new ≡ core_view self.old) }
-        ensures fault { IsReported result (step_fault (core_view self.old) step) }
+        ensures fault { IsReported result (step_fault (core_view self.old) step.now) }
     {
-        match step {
-            Step::Arrive { modem, heard } => self.arrive(alloc, modem, heard, outs),
-            Step::Work { op } => self.act_if(alloc, op, Action::Work, outs),
-            Step::Tick { op } => self.act_if(alloc, op, Action::Tick, outs),
-            Step::Collect { op } => self.collect(alloc, op, outs),
-            Step::Reslice { from, rows } => self.reslice(alloc, from, rows.as_slice()),
-        }
+        // For the proof: what always holds of `self.recorded`.
+        self.recorded.always();
+        self.recorded.step_into(alloc, step, outs)
     }
 
     /// Performs a step, and returns its outputs. A refused step changes nothing.
@@ -153,7 +117,7 @@ impl PlantCore {
         // For the proof: what always holds of `self`.
         self.always();
         let mut outs = Vec::new(alloc);
-        self.step_into(alloc, step, &mut outs)?;
+        self.step_into(alloc, &step, &mut outs)?;
         Ok(outs)
     }
 }

@@ -15,11 +15,10 @@ ghost use Rattle.plant_restart.specs.Restarted.{IsFaultOfState, IsRowFault, IsRo
 use crate::copying::state_to_resume;
 use crate::fault::RestartFault;
 use grant_policy::Ranking;
-use live_core::{LiveCore, ResumeFault};
+use live_core::{LiveCore, ResumeFault, follow};
 use operator_book::{Machine, StateFault, StateView};
 use plant::{Consts, Op, OperatorName, OperatorRow, Plant};
 use plant_comparison::is_same_name;
-use plant_core::follow;
 use snapshot_format::SavedOperator;
 use std::alloc::{AllocError, Global};
 

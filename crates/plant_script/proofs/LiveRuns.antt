@@ -6,8 +6,8 @@ use Rattle.std.proofs.KnownBytes.{Appends-trans}
 use Rattle.plant.specs.declared.plant.PlantFields.{PlantFields}
 use Rattle.run_model.specs.Starts.{first_start}
 use Rattle.run_model.specs.IsStateAfter.{CoreView}
-use Rattle.plant_core.specs.declared.core_fault.CoreFault.{CoreFault}
-use Rattle.plant_core.specs.Faults.{step_fault}
+use Rattle.live_core.specs.declared.core_fault.CoreFault.{CoreFault}
+use Rattle.live_core.specs.Faults.{step_fault}
 use Rattle.live_core.specs.GoingOn.{IsOf}
 use Rattle.live_core.proofs.FaultLemmas.{same_step_fault}
 use Rattle.script_format.specs.declared.script.LineStep.{LineStep}

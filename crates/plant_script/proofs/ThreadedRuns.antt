@@ -5,8 +5,8 @@ use Rattle.operator_model.specs.Replay.{BookView}
 use Rattle.operator_book.specs.declared.book.BookFault.TheVariants.{FramesSpent}
 use Rattle.map_assembly.specs.declared.map_bytes.MapBytes.{MapBytes}
 use Rattle.run_model.specs.declared.step.Step.{Step}
-use Rattle.plant_core.specs.declared.core_fault.CoreFault.{CoreFault}
-use Rattle.plant_core.specs.declared.core_fault.CoreFault.TheVariants.{Book}
+use Rattle.live_core.specs.declared.core_fault.CoreFault.{CoreFault}
+use Rattle.live_core.specs.declared.core_fault.CoreFault.TheVariants.{Book}
 use Rattle.run_receipts.specs.declared.receipt.Receipt.{Receipt}
 use Rattle.run_receipts.specs.declared.run_fault.RunFault.{RunFault}
 use Rattle.run_receipts.specs.declared.run_fault.RunFault.TheVariants.{Core}

@@ -4,8 +4,8 @@ use Rattle.std.specs.Fmt.{decimal}
 use Rattle.plant.specs.declared.plant.PlantFields.{PlantFields}
 use Rattle.operator_model.specs.Replay.{BookView}
 use Rattle.map_assembly.specs.declared.map_bytes.MapBytes.{MapBytes}
-use Rattle.plant_core.specs.declared.core_fault.CoreFault.{CoreFault}
-use Rattle.plant_core.specs.declared.core_fault.ResliceFault.{ResliceFault}
+use Rattle.live_core.specs.declared.core_fault.CoreFault.{CoreFault}
+use Rattle.live_core.specs.declared.core_fault.ResliceFault.{ResliceFault}
 use Rattle.run_receipts.specs.declared.receipt.Receipt.{Receipt}
 use Rattle.run_receipts.specs.declared.run_fault.RunFault.{RunFault}
 use Rattle.run_receipts.specs.declared.run_fault.RunFault.TheVariants as faults

@@ -2,10 +2,10 @@
 use Rattle.std.proofs.Common.{◌≡◌, ◌⊎◌, inl, inr, refl, List, Option, Some, None, option_map, Result, Ok, Err}
 use Rattle.std.specs.Prelude.{IfErr}
 use Rattle.std.proofs.lemmas.Option.{none-some}
-use Rattle.plant_core.specs.declared.core_fault.CoreFault.{CoreFault}
-use Rattle.plant_core.specs.declared.core_fault.CoreFault.TheVariants as core_faults
-use Rattle.plant_core.specs.declared.core_fault.ResliceFault.{ResliceFault}
-use Rattle.plant_core.specs.Faults.{IsReported}
+use Rattle.live_core.specs.declared.core_fault.CoreFault.{CoreFault}
+use Rattle.live_core.specs.declared.core_fault.CoreFault.TheVariants as core_faults
+use Rattle.live_core.specs.declared.core_fault.ResliceFault.{ResliceFault}
+use Rattle.live_core.specs.Faults.{IsReported}
 use Rattle.plant.specs.declared.plant.PlantFields.{PlantFields}
 use Rattle.run_model.specs.declared.step.Step.{Step}
 use Rattle.run_receipts.specs.declared.run_fault.RunFault.{RunFault}

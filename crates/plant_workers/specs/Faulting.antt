@@ -7,10 +7,10 @@ use Rattle.operator_book.specs.declared.book.BookFault.TheVariants as book_fault
 use Rattle.map_assembly.specs.declared.refused.GatherFault.TheVariants as gather_faults
 use Rattle.run_model.specs.declared.step.Step.{Step}
 use Rattle.run_model.specs.declared.step.Step.TheVariants as steps
-use Rattle.plant_core.specs.declared.core_fault.CoreFault.{CoreFault}
-use Rattle.plant_core.specs.declared.core_fault.CoreFault.TheVariants.{Book, Gather, Reslice}
-use Rattle.plant_core.specs.declared.core_fault.ResliceFault.{ResliceFault}
-use Rattle.plant_core.specs.Reslicing.{reslice_fault}
+use Rattle.live_core.specs.declared.core_fault.CoreFault.{CoreFault}
+use Rattle.live_core.specs.declared.core_fault.CoreFault.TheVariants.{Book, Gather, Reslice}
+use Rattle.live_core.specs.declared.core_fault.ResliceFault.{ResliceFault}
+use Rattle.live_core.specs.Reslicing.{reslice_fault}
 use Rattle.run_receipts.specs.declared.run_fault.RunFault.{RunFault}
 use Rattle.run_receipts.specs.declared.run_fault.RunFault.TheVariants.{Core, Strayed, ResliceRefused}
 use Rattle.run_audit.specs.Straying.{AreOwnRuns, IsStrayHistory}

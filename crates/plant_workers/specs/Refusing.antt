@@ -4,7 +4,7 @@ use Rattle.std.specs.List.{list_any}
 use Rattle.operator_book.specs.declared.book.BookFault.TheVariants as book_faults
 use Rattle.map_assembly.specs.declared.refused.GatherFault.{GatherFault}
 use Rattle.map_assembly.specs.declared.refused.GatherFault.TheVariants as gather_faults
-use Rattle.plant_core.specs.declared.core_fault.CoreFault.TheVariants as core_faults
+use Rattle.live_core.specs.declared.core_fault.CoreFault.TheVariants as core_faults
 use Rattle.run_receipts.specs.declared.run_fault.RunFault.{RunFault}
 use Rattle.run_receipts.specs.declared.run_fault.RunFault.TheVariants.{Strayed, Core, NoMemory}
 use Rattle.cell_state.specs.declared.cell_fault.CellFault.{CellFault}

@@ -3,12 +3,12 @@
 ghost use Rattle.std.specs.Prelude.{◌≡◌, length, map, take, MatchOption};
 ghost use Rattle.run_audit.specs.Straying.{AreOwnRuns, IsStrayHistory};
 ghost use Rattle.cell_state.specs.HeldView.{cell_book};
-ghost use Rattle.plant_core.specs.declared.core_fault.ResliceFault.{ResliceFault};
+ghost use Rattle.live_core.specs.declared.core_fault.ResliceFault.{ResliceFault};
 ghost use Rattle.plant_workers.specs.Faulting.{IsToldAt, IsOfReslice, IsRunFault};
 
 use cell_state::Held;
+use live_core::CoreFault;
 use plant::{Op, Plant};
-use plant_core::CoreFault;
 use run_audit::stray_at;
 use run_model::Step;
 use run_receipts::RunFault;
@@ -20,7 +20,7 @@ fn first_stray(plant: &Plant, helds: &[Held], steps: &[Step]) -> Option<(Op, usi
         (λ stray. IsStrayHistory plant.now steps.now (map cell_book helds.now) stray.0 stray.1) }
 {
     for (op, held) in helds.iter().enumerate() {
-        if let Some(index) = stray_at(plant, op, &held.desk.book, steps) {
+        if let Some(index) = stray_at(plant, op, &held.book, steps) {
             return Some((op, index));
         }
     }

@@ -4,8 +4,8 @@ ghost use Rattle.std.specs.Prelude.{◌≡◌, List, Some, length, map, slice_ge
 ghost use Rattle.plant.specs.declared.plant.PlantFields.{PlantFields};
 ghost use Rattle.run_model.specs.declared.step.Step.{Step};
 ghost use Rattle.run_model.specs.declared.step.Step.TheVariants as steps_of;
-ghost use Rattle.plant_core.specs.declared.core_fault.ResliceFault.{ResliceFault};
-ghost use Rattle.plant_core.specs.Reslicing.{reslice_fault};
+ghost use Rattle.live_core.specs.declared.core_fault.ResliceFault.{ResliceFault};
+ghost use Rattle.live_core.specs.Reslicing.{reslice_fault};
 ghost use Rattle.cell_state.specs.HeldView.{cell_book};
 ghost use Rattle.plant_workers.specs.Faulting.{IsOfReslice, IsRunFault};
 

@@ -10,10 +10,10 @@ ghost use Rattle.plant_workers.specs.Refusing.{fault_of_turn, fault_of_assembly,
 ghost use Rattle.plant_workers.specs.Refusing.{IsEndWithoutTurn, IsEndOfRun};
 
 use cell_state::{CellFault, Told};
+use live_core::CoreFault;
 use map_assembly::GatherFault;
 use operator_book::BookFault;
 use plant::Op;
-use plant_core::CoreFault;
 use run_receipts::RunFault;
 
 /// Why a thread ended before its last job.

@@ -6,7 +6,7 @@ use Rattle.std.proofs.lemmas.Option.{none-some, same_Some, slice_get_within}
 use Rattle.plant.specs.declared.plant.PlantFields.{PlantFields}
 use Rattle.run_model.specs.declared.step.Step.{Step}
 use Rattle.run_model.proofs.Entries.{same_at}
-use Rattle.plant_core.specs.declared.core_fault.CoreFault.{CoreFault}
+use Rattle.live_core.specs.declared.core_fault.CoreFault.{CoreFault}
 use Rattle.run_plan.specs.Serving.{unserved_by, AreServed, IsServable, IsFirstUnserved}
 
 module _ (plant : PlantFields) (all : List Step) where

@@ -10,8 +10,8 @@ use Rattle.run_model.specs.declared.step.Step.{Step}
 use Rattle.run_model.specs.declared.step.Step.TheVariants as steps
 use Rattle.run_model.specs.OwnSteps.{is_collect, collects_of}
 use Rattle.run_audit.specs.Outcome.{is_tick_of, ticks_of}
-use Rattle.plant_core.specs.declared.core_fault.CoreFault.{CoreFault}
-use Rattle.plant_core.specs.declared.core_fault.CoreFault.TheVariants.{UnknownOperator, NothingToCollect}
+use Rattle.live_core.specs.declared.core_fault.CoreFault.{CoreFault}
+use Rattle.live_core.specs.declared.core_fault.CoreFault.TheVariants.{UnknownOperator, NothingToCollect}
 use Rattle.run_plan.specs.Serving.{AreWaiting, past, all_collected}
 use Rattle.run_plan.proofs.Counts.{one_more, no_more}
 

@@ -6,8 +6,8 @@ use Rattle.plant.specs.Roster.{holder}
 use Rattle.run_model.specs.declared.step.Step.{Step}
 use Rattle.run_model.specs.declared.step.Step.TheVariants as steps
 use Rattle.run_model.specs.OwnSteps.{collects_of}
-use Rattle.plant_core.specs.declared.core_fault.CoreFault.{CoreFault}
-use Rattle.plant_core.specs.declared.core_fault.CoreFault.TheVariants.{UnknownModem, UnknownOperator, NothingToCollect}
+use Rattle.live_core.specs.declared.core_fault.CoreFault.{CoreFault}
+use Rattle.live_core.specs.declared.core_fault.CoreFault.TheVariants.{UnknownModem, UnknownOperator, NothingToCollect}
 use Rattle.run_audit.specs.Outcome.{ticks_of}
 
 -- no operator lists the modem

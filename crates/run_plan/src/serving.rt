@@ -1,13 +1,13 @@
 //! The first step that does not find what it asks for.
 
 ghost use Rattle.std.specs.Prelude.{◌≡◌, ◌↔◌, ◌+◌, ◌<◌, [], length, take, slice_get, Some, None, IfSome, IfNone};
-ghost use Rattle.plant_core.specs.declared.core_fault.CoreFault.{CoreFault};
+ghost use Rattle.live_core.specs.declared.core_fault.CoreFault.{CoreFault};
 ghost use Rattle.run_model.specs.declared.step.Step.{Step};
 ghost use Rattle.run_audit.specs.Outcome.{AreTicked};
 ghost use Rattle.run_plan.specs.Serving.{unserved_by, IsServable, IsFirstUnserved, AreWaiting};
 
+use live_core::CoreFault;
 use plant::Plant;
-use plant_core::CoreFault;
 use run_model::Step;
 
 /// The most operators that a plant has.

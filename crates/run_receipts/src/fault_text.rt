@@ -1,7 +1,7 @@
 //! What faults of layers below say to a plant's owner.
 
+use live_core::{CoreFault, ResliceFault};
 use operator_book::BookFault;
-use plant_core::{CoreFault, ResliceFault};
 use std::fmt::{self, Display};
 
 /// Why a book refused an action, as it is shown.

@@ -4,8 +4,8 @@ ghost use Rattle.std.specs.Prelude.{◌≡◌};
 ghost use Rattle.run_receipts.specs.declared.run_fault.RunFault.TheVariants.{NoMemory};
 
 use crate::fault_text::{CoreText, ResliceText};
+use live_core::{CoreFault, ResliceFault};
 use plant::Op;
-use plant_core::{CoreFault, ResliceFault};
 use std::alloc::{AllocError, AllocFailed};
 use thiserror::Error;
 

@@ -2,10 +2,9 @@
 
 use crate::opening::strict;
 use grant_policy::Ranking;
-use live_core::LiveCore;
+use live_core::{CoreFault, LiveCore};
 use operator_book::Output;
 use plant::Op;
-use plant_core::CoreFault;
 use run_model::{Out, Step};
 use slice_table::read_plant;
 use std::alloc::{AllocError, Global};

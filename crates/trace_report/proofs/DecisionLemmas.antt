@@ -1,6 +1,7 @@
 -- What decides a message, by what it was read as, and a step, by whose message it handles.
-use Rattle.std.proofs.Common.{◌≡◌, ◌≢◌, ℕ, Option, Some, None, Result, Ok, Err, IfOk, refl, sym, ap, ◌∙◌, subst}
+use Rattle.std.proofs.Common.{◌≡◌, ◌≢◌, ℕ, List, Option, Some, None, option_map, Result, Ok, Err, IfOk, refl, sym, ap, ◌∙◌, subst}
 use Rattle.std.specs.Prelude.{slice_get}
+use Rattle.std.proofs.lemmas.Option.{slice_get-map}
 use Rattle.std.specs.declared.alloc.AllocError.{AllocError}
 use Rattle.dsx_messages.specs.declared.message.Message.{Message}
 use Rattle.dsx_messages.specs.declared.message.Message.TheVariants as messages
@@ -15,6 +16,7 @@ use Rattle.operator_model.specs.State.{Operator, operator}
 use Rattle.run_model.specs.declared.step.Step.{Step}
 use Rattle.run_model.specs.declared.step.Step.TheVariants as steps
 use Rattle.run_model.specs.IsStateAfter.{CoreView}
+use Rattle.live_core.specs.GoingOn.{forgotten, IsOf}
 use Rattle.trace_report.specs.declared.decision.Decision.{Decision}
 use Rattle.trace_report.specs.declared.seen.StepReport.{StepReport}
 use Rattle.trace_report.specs.Decision.{AtHand, IsAck, IsDecision, IsDecisionOf, first_message, message_of_step, message_at_hand}
@@ -62,3 +64,22 @@ module _ (core : CoreView) (op : ℕ) (step : Step) (is : step ≡ steps.Work op
       subst (λ (at : Option AtHand). IfOk r (λ seen. IsDecisionOf at seen.decision))
       (ap (λ (x : Operator). first_message x x.state.inbox) same ∙ sym (handled (Some book) there))
       decided
+
+-- ---- a core, and what is held of it
+
+forgotten_message : (book : Option BookView) → message_at_hand (option_map forgotten book) ≡ message_at_hand book
+forgotten_message None = refl
+forgotten_message (Some book) = refl
+
+same_message : (live core : CoreView) (step : Step) → IsOf live core → message_of_step live step ≡ message_of_step core step
+same_message live core (steps.Work op) is =
+    ap (λ (books : List BookView). message_at_hand (slice_get books op)) (sym is.books_are)
+    ∙ (ap message_at_hand (slice_get-map forgotten core.books op) ∙ forgotten_message (slice_get core.books op))
+same_message live core (steps.Arrive modem heard) is = refl
+same_message live core (steps.Tick op) is = refl
+same_message live core (steps.Collect op) is = refl
+same_message live core (steps.Reslice from rows) is = refl
+
+-- what decides a step of what is held of a core decides the step of that core
+pub same_decision : (live core : CoreView) (step : Step) (decision : Option Decision) → IsOf live core → IsDecision live step decision → IsDecision core step decision
+same_decision live core step decision is decided = subst (λ (at : Option AtHand). IsDecisionOf at decision) (same_message live core step is) decided

@@ -2,7 +2,7 @@
 
 ghost use Rattle.std.specs.Prelude.{◌≡◌, None, IfOk, OnErr};
 ghost use Rattle.plant_core.specs.CoreView.{core_view};
-ghost use Rattle.plant_core.specs.Faults.{step_fault};
+ghost use Rattle.live_core.specs.Faults.{step_fault};
 ghost use Rattle.live_core.specs.LiveView.{live_view};
 ghost use Rattle.trace_report.specs.Decision.{first_message, IsDecisionOf, IsDecision};
 
@@ -103,27 +103,9 @@ fn report_at(alloc: Global, operator_snapshot: &OperatorSnapshot) -> Result<Step
     })
 }
 
-/// Returns what is seen of a step of the core before it is done: the check that decides what it will answer, which is that of the
-/// message that it handles, and the numbers that the check compares. No check decides a step that handles no message or an
-/// acknowledgement. A step that handles a message needs memory for a copy of the operator's state; no other does.
-pub fn decision_of(alloc: Global, core: &PlantCore, step: &Step) -> Result<StepReport, AllocError>
-    ensures decision { IfOk result (λ seen. IsDecision (core_view core.now) step.now seen.decision) }
-    // Only a step that the core does not refuse needs memory.
-    ensures memory { OnErr result (step_fault (core_view core.now) step.now ≡ None) }
-{
-    let Step::Work { op } = step else {
-        return Ok(StepReport::without_decision(about_other(step)));
-    };
-    match core.book(*op) {
-        None => Ok(StepReport::without_decision(About::Nothing)),
-        Some(book) => {
-            let operator_snapshot = OperatorSnapshot::of_book(alloc, book)?;
-            report_at(alloc, &operator_snapshot)
-        }
-    }
-}
-
-/// Returns the same of a step of a core without histories, as `decision_of` does of a core with them.
+/// Returns what is seen of a step of a core without histories before it is done: the check that decides what it will answer, which
+/// is that of the message that it handles, and the numbers that the check compares. No check decides a step that handles no message
+/// or an acknowledgement. A step that handles a message needs memory for a copy of the operator's state; no other does.
 pub fn live_decision_of(
     alloc: Global,
     core: &LiveCore,
@@ -143,4 +125,13 @@ pub fn live_decision_of(
             report_at(alloc, &operator_snapshot)
         }
     }
+}
+
+/// Returns the same of a step of a core with histories, as `live_decision_of` does of a core without them.
+pub fn decision_of(alloc: Global, core: &PlantCore, step: &Step) -> Result<StepReport, AllocError>
+    ensures decision { IfOk result (λ seen. IsDecision (core_view core.now) step.now seen.decision) }
+    // Only a step that the core does not refuse needs memory.
+    ensures memory { OnErr result (step_fault (core_view core.now) step.now ≡ None) }
+{
+    live_decision_of(alloc, core.live(), step)
 }

@@ -117,11 +117,11 @@ fn put_flow(
     op: Op,
     sfid: u32,
 ) -> Result<(), AllocError> {
-    let Some(book) = core.book(op) else {
+    let Some(machine) = core.live().machine(op) else {
         return Ok(());
     };
-    let state = book.state_view(alloc)?;
-    let units = book.consts().get_fields().units;
+    let state = machine.state_view(alloc)?;
+    let units = machine.consts().get_fields().units;
     if let Some((_sfid, flow)) = state.flows().iter().find(|entry| entry.0 == sfid) {
         put_sets(text, units, sfid, flow)?;
     }

@@ -1,6 +1,6 @@
 use Rattle.std.proofs.Common.{arith, ◌+◌, List, map, option_map, refl, sym, ap, subst, ◌∙◌}
 use Rattle.std.proofs.lemmas.Option.{slice_get-get_or, slice_get-map, slice_get_read}
-use Rattle.plant_core.proofs.GiveLemmas.{one_more_taken, all_taken}
+use Rattle.live_core.proofs.GiveLemmas.{one_more_taken, all_taken}
 use Rattle.operator_model.specs.declared.action.Action.TheVariants as actions
 use Rattle.operator_model.specs.Replay.{book_after_action}
 use Rattle.cell_state.specs.declared.told.Told.{Told}

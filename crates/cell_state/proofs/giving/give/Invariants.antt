@@ -1,6 +1,6 @@
 use Rattle.std.proofs.Common.{◌≡◌}
 use Rattle.std.specs.Prelude.{map, vec_len, vec_capacity}
-use Rattle.plant_core.proofs.GiveLemmas.{HaveTakenSoFar}
+use Rattle.live_core.proofs.GiveLemmas.{HaveTakenSoFar}
 use Rattle.operator_model.specs.declared.action.Action.TheVariants as actions
 use Rattle.operator_model.specs.Replay.{book_after_action}
 use Rattle.cell_state.specs.HeldView.{cell_book, waiting_of}

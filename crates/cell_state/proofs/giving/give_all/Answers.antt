@@ -1,7 +1,7 @@
 use Rattle.std.proofs.Common.{List, sym, subst}
 use Rattle.operator_model.specs.Replay.{BookView}
 use Rattle.run_model.specs.Steps.{NoneRefuses}
-use Rattle.plant_core.proofs.FreeLemmas.{are_free}
+use Rattle.live_core.proofs.FreeLemmas.{are_free}
 use Rattle.cell_state.proofs.giving.give_all.Goals as goal
 
 pub give-requires-clause-fit : goal.give-requires-clause-fit

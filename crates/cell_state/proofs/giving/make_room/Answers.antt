@@ -1,6 +1,6 @@
 use Rattle.std.proofs.Common.{arith}
 use Rattle.cell_state.specs.HeldView.{cell_book, waiting_of, history_room}
-use Rattle.plant_core.proofs.GiveLemmas.{books_alike, waiting_alike, one_more_room}
+use Rattle.cell_state.proofs.RoomLemmas.{books_alike, waiting_alike, one_more_room}
 use Rattle.cell_state.proofs.giving.make_room.Goals as goal
 
 pub loop-op-preserved : goal.loop-op-preserved

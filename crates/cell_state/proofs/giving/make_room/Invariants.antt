@@ -1,5 +1,5 @@
 use Rattle.cell_state.specs.HeldView.{cell_book, waiting_of, history_room}
-use Rattle.plant_core.proofs.GiveLemmas.{HaveRoomSoFar}
+use Rattle.cell_state.proofs.RoomLemmas.{HaveRoomSoFar}
 use Rattle.cell_state.proofs.giving.make_room.Given as goal
 
 abbrev pub invariant-loop-op : goal.invariant-loop-op

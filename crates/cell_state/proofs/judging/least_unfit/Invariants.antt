@@ -1,5 +1,5 @@
 use Rattle.std.proofs.Common.{◌≡◌, drop, map}
-use Rattle.plant_core.specs.Reslicing.{least_unfit}
+use Rattle.live_core.specs.Reslicing.{least_unfit}
 use Rattle.cell_state.specs.HeldView.{cell_book}
 use Rattle.cell_state.proofs.judging.least_unfit.Given as goal
 

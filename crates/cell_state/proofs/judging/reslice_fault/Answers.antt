@@ -1,5 +1,5 @@
 use Rattle.std.proofs.Common.{ap, map, ◌∙◌}
-use Rattle.plant_core.specs.Reslicing.{reslice_fault}
+use Rattle.live_core.specs.Reslicing.{reslice_fault}
 use Rattle.cell_state.specs.HeldView.{cell_book}
 use Rattle.cell_state.proofs.judging.reslice_fault.Goals as goal
 

@@ -1,8 +1,8 @@
 use Rattle.std.proofs.Common.{◌≡◌, None, [], ◌∷◌, length, ap, refl, sym, ◌∙◌}
 use Rattle.std.specs.Vec.Iter.{into_iter_items, into_iter_len}
 use Rattle.std.proofs.lemmas.List.{nil_from_length}
-use Rattle.plant_core.specs.declared.core_fault.CoreFault.TheVariants as faults
-use Rattle.plant_core.specs.Faults.{step_fault}
+use Rattle.live_core.specs.declared.core_fault.CoreFault.TheVariants as faults
+use Rattle.live_core.specs.Faults.{step_fault}
 use Rattle.live_core.specs.LiveView.{live_view}
 use Rattle.line_service.specs.declared.steps_end.StepsEnd.TheVariants as ends
 use Rattle.line_service.proofs.LeftLemmas.{count_next}

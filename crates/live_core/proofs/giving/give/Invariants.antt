@@ -1,5 +1,5 @@
 use Rattle.live_core.specs.DeskView.{slot_book, slot_waiting}
-use Rattle.plant_core.proofs.GiveLemmas.{HaveTakenSoFar}
+use Rattle.live_core.proofs.GiveLemmas.{HaveTakenSoFar}
 use Rattle.operator_model.specs.declared.action.Action.TheVariants as actions
 use Rattle.live_core.specs.GoingOn.{went}
 use Rattle.live_core.proofs.giving.give.Given as goal

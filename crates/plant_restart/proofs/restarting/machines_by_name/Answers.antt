@@ -4,7 +4,7 @@ use Rattle.std.proofs.lemmas.List.{length-map}
 use Rattle.std.proofs.lemmas.Option.{slice_get_read}
 use Rattle.plant.specs.declared.operator_row.RowFields.{RowFields}
 use Rattle.operator_book.specs.ViewOf.{policy_of}
-use Rattle.plant_core.proofs.OpenLemmas.{map_more}
+use Rattle.live_core.proofs.FollowLemmas.{map_more}
 use Rattle.live_core.specs.LiveOperator.{sound_of}
 use Rattle.live_core.proofs.ResumeFaultLemmas.{handed_on}
 use Rattle.plant_restart.specs.ByName.{operator_by_name}

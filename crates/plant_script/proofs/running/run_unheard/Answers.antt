@@ -4,7 +4,7 @@ use Rattle.std.specs.Vec.Iter.{into_iter_items, into_iter_len}
 use Rattle.std.specs.Global.{Vec}
 use Rattle.run_model.specs.declared.step.Out.{Out}
 use Rattle.plant_core.specs.CoreView.{core_view}
-use Rattle.plant_core.specs.Faults.{step_fault}
+use Rattle.live_core.specs.Faults.{step_fault}
 use Rattle.script_format.proofs.Outcomes.{if_ok}
 use Rattle.line_service.proofs.LeftLemmas.{count_next}
 use Rattle.line_service.proofs.StepLemmas.{fault_is_told}

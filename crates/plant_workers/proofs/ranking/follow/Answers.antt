@@ -1,5 +1,5 @@
 use Rattle.std.proofs.Common.{arith}
-use Rattle.plant_core.proofs.OpenLemmas.{do_differ}
+use Rattle.live_core.proofs.FollowLemmas.{do_differ}
 use Rattle.plant_workers.proofs.ranking.follow.Goals as goal
 
 pub returns-then-not-follows : goal.returns-then-not-follows

@@ -1,20 +1,20 @@
-use Rattle.std.proofs.Common.{◌∙◌, ap, sym, option_map}
-use Rattle.operator_book.specs.ViewOf.{view_of}
+use Rattle.std.proofs.Common.{◌∙◌}
+use Rattle.std.proofs.lemmas.Result.{IfOk-weaker, on_err_weaker}
+use Rattle.live_core.specs.LiveView.{live_view}
+use Rattle.live_core.proofs.FaultLemmas.{same_step_fault}
 use Rattle.plant_core.specs.CoreView.{core_view}
-use Rattle.trace_report.proofs.DecisionLemmas.{no_work, nobody_works, one_works}
+use Rattle.trace_report.specs.Decision.{IsDecision}
+use Rattle.trace_report.proofs.DecisionLemmas.{same_decision}
 use Rattle.trace_report.proofs.seen.decision_of.Goals as goal
 
-pub returns-in_default-clause-decision : goal.returns-in_default-clause-decision
-returns-in_default-clause-decision g c = rw c.without_decision.ensures (no_work (core_view c.args.core.now) c.args.step.now c.in_default.not-Work)
+pub returns-clause-decision : goal.returns-clause-decision
+returns-clause-decision g c =
+    let live = live_view c.live.result.now in
+    let core = core_view c.args.core.now in
+    IfOk-weaker c.live_decision_of.result (λ seen. IsDecision live c.args.step.now seen.decision) (λ seen. IsDecision core c.args.step.now seen.decision)
+    (λ seen decided. same_decision live core c.args.step.now seen.decision c.live.ensures decided) c.live_decision_of.ensures.decision
 
-pub returns-in-None-clause-decision : goal.returns-in-None-clause-decision
-returns-in-None-clause-decision g c =
-    rw c.without_decision-in-None.ensures
-    (nobody_works (core_view c.args.core.now) c.in-Work.op c.args.step.now c.in-Work.is
-    (sym c.book.ensures ∙ ap (option_map (λ book. view_of book.now)) c.in-None.is))
-
-pub returns-in_ok-operator_snapshot-in-Some-clause-decision : goal.returns-in_ok-operator_snapshot-in-Some-clause-decision
-returns-in_ok-operator_snapshot-in-Some-clause-decision g c =
-    one_works (core_view c.args.core.now) c.in-Work.op c.args.step.now c.in-Work.is
-    _ _ c.report_at.result (sym c.book.ensures ∙ ap (option_map (λ book. view_of book.now)) c.in-Some.is)
-    c.in_ok-operator_snapshot-in-Some.ensures c.report_at.ensures
+pub returns-clause-memory : goal.returns-clause-memory
+returns-clause-memory g c =
+    on_err_weaker c.live_decision_of.result
+    (λ none. same_step_fault (live_view c.live.result.now) (core_view c.args.core.now) c.args.step.now c.live.ensures ∙ none) c.live_decision_of.ensures.memory

@@ -8,12 +8,12 @@ use Rattle.cell_state.proofs.held.Held.into_parts.Goals as goal
 
 pub returns-clause-within : goal.returns-clause-within
 returns-clause-within g c =
-    let book = c.args.self.desk.book.kept.book in
-    (collected book.history c.args.self.desk.collected c.entries_with_frame-taken.result (replay_one book c.always_replayed.ensures)
-    (c.entries_with_frame-taken.ensures ∙ ap (λ (es : List Entry). count_by has_frame (take c.args.self.desk.collected es)) c.history.ensures)).0
+    let book = c.args.self.book.kept.book in
+    (collected book.history c.args.self.collected c.entries_with_frame-taken.result (replay_one book c.always_replayed.ensures)
+    (c.entries_with_frame-taken.ensures ∙ ap (λ (es : List Entry). count_by has_frame (take c.args.self.collected es)) c.history.ensures)).0
 
 pub returns-clause-taken : goal.returns-clause-taken
 returns-clause-taken g c =
-    let book = c.args.self.desk.book.kept.book in
-    (collected book.history c.args.self.desk.collected c.entries_with_frame-taken.result (replay_one book c.always_replayed.ensures)
-    (c.entries_with_frame-taken.ensures ∙ ap (λ (es : List Entry). count_by has_frame (take c.args.self.desk.collected es)) c.history.ensures)).1
+    let book = c.args.self.book.kept.book in
+    (collected book.history c.args.self.collected c.entries_with_frame-taken.result (replay_one book c.always_replayed.ensures)
+    (c.entries_with_frame-taken.ensures ∙ ap (λ (es : List Entry). count_by has_frame (take c.args.self.collected es)) c.history.ensures)).1

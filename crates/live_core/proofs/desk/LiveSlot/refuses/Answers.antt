@@ -1,7 +1,7 @@
 use Rattle.std.proofs.Common.{◌∙◌, refl, sym, ap, Option}
 use Rattle.operator_model.specs.declared.action.Unfit.{Unfit}
-use Rattle.plant_core.specs.Reslicing.{is_unfit}
-use Rattle.plant_core.proofs.OfferLemmas.{taken}
+use Rattle.live_core.specs.Reslicing.{is_unfit}
+use Rattle.live_core.proofs.OfferLemmas.{taken}
 use Rattle.live_core.proofs.desk.LiveSlot.refuses.Goals as goal
 
 pub returns-in-Ok : goal.returns-in-Ok

@@ -3,8 +3,8 @@ use Rattle.slice_scheduler.specs.Minislots.{Minislots}
 use Rattle.map_assembly.specs.Gathering.{Gathering, MayReslice, gathering_after_reslice}
 use Rattle.map_assembly.specs.LettingGo.{GoesOnAlike}
 use Rattle.run_model.specs.declared.step.Step.TheVariants as steps
-use Rattle.plant_core.proofs.FreeLemmas.{are_free}
-use Rattle.plant_core.proofs.ResliceLemmas.{are_slices}
+use Rattle.live_core.proofs.FreeLemmas.{are_free}
+use Rattle.live_core.proofs.ResliceLemmas.{are_slices}
 use Rattle.live_core.proofs.GoLemmas.{may_take, reslices_on, stepped_on}
 use Rattle.live_core.proofs.PartLemmas.{same_begun, same_gathering}
 use Rattle.live_core.proofs.held.LiveCore.give.Goals as goal

@@ -1,5 +1,5 @@
 use Rattle.std.proofs.Common.{◌≡◌, drop, map}
-use Rattle.plant_core.specs.Reslicing.{least_unfit}
+use Rattle.live_core.specs.Reslicing.{least_unfit}
 use Rattle.live_core.specs.DeskView.{slot_book}
 use Rattle.live_core.proofs.held.LiveCore.least_unfit.Given as goal
 

@@ -1,5 +1,5 @@
 use Rattle.std.proofs.Common.{map, take}
-use Rattle.plant_core.specs.Reachable.{core_of}
+use Rattle.live_core.specs.Reachable.{core_of}
 use Rattle.live_core.specs.DeskView.{slot_book, slot_waiting}
 use Rattle.live_core.specs.Resting.{Rests}
 use Rattle.live_core.proofs.held.LiveCore.resting_frame.Given as goal

@@ -1,3 +1,4 @@
+use Rattle.plant_core.specs.CoreView.{core_view}
 use Rattle.plant_core.proofs.RunLemmas.{run_more, stop_told}
 use Rattle.plant_core.proofs.held.PlantCore.run.Goals as goal
 
@@ -8,5 +9,5 @@ returns-in-Err-clause-fault g c = λ step there.
 pub loop-at-preserved : goal.loop-at-preserved
 loop-at-preserved g c = λ before told reached.
     let done = c.in_default.ensures.ok in
-    run_more c.args.self.now.routes before c.args.steps.now c.loop-at.at c.index-steps-at.result told c.loop-at.outs.items done.0 c.step_copied.new.outs.items _ _
+    run_more (core_view c.args.self.now).plant before c.args.steps.now c.loop-at.at c.index-steps-at.result told c.loop-at.outs.items done.0 c.step_into.new.outs.items _ _
     c.always.ensures.plant c.always.ensures.gathering c.loop-at-test.true c.index-steps-at.is done.2 done.1 (c.loop-at.invariant before told reached)

@@ -1,9 +1,7 @@
-use Rattle.std.proofs.Common.{refl}
-use Rattle.run_model.specs.declared.step.Step.TheVariants as steps
+use Rattle.plant_core.proofs.ReachLemmas.{still_reachable}
 use Rattle.plant_core.proofs.held.PlantCore.step_into.Goals as goal
 
-pub act_if-requires : goal.act_if-requires
-act_if-requires g c = (steps.Work c.in-Work.op, refl)
-
-pub act_if-requires-in-Tick : goal.act_if-requires-in-Tick
-act_if-requires-in-Tick g c = (steps.Tick c.in-Tick.op, refl)
+pub invariant_of-self : goal.invariant_of-self
+invariant_of-self g c = record {
+  reached = still_reachable c.step_into.result c.args.step.now _ _ c.args.outs.now.items c.step_into.new.outs.items c.always.ensures.plant c.always.ensures.gathering c.step_into.ensures.ok c.step_into.ensures.err c.args.self.now.reached;
+}

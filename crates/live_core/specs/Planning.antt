@@ -1,0 +1,25 @@
+-- The plan of an operator's action (implementation-specific).
+use Rattle.std.specs.Prelude.{◌≡◌, ℕ, slice_get, Some}
+use Rattle.operator_model.specs.declared.action.Action.{Action}
+use Rattle.operator_model.specs.Machine.{IsAllowed}
+use Rattle.operator_model.specs.Replay.{BookView, operator_of_book}
+use Rattle.operator_book.specs.Planned.{IsPlanOf, IsCommittable}
+use Rattle.run_model.specs.IsStateAfter.{CoreView, frames_of}
+use Rattle.live_core.specs.declared.act_plan.ActPlan.{ActPlan}
+use Rattle.live_core.specs.Reachable.{IsOfAStep}
+
+-- it is the plan of this action of the operator at this place: of its machine's outputs and its state after it, and of the frame
+-- that is among the outputs
+pub record IsActPlan (core : CoreView) (op : ℕ) (action : Action) (act : ActPlan) : Type 0 where
+  pub of_step : IsOfAStep core.plant op action
+  pub op_is : act.op ≡ op
+  pub book : BookView
+  pub book_is : slice_get core.books op ≡ Some book
+  pub allowed : IsAllowed (operator_of_book book) action
+  pub plan_is : IsPlanOf (operator_of_book book) action act.plan
+  pub committable : IsCommittable (operator_of_book book) act.plan
+  pub frame_is : act.frame ≡ slice_get (frames_of act.plan.outputs.items) 0
+
+-- it is the plan of some action
+abbrev pub IsSomeActPlan : CoreView → ActPlan → Type 0
+IsSomeActPlan core act = (op : ℕ) × (action : Action) × IsActPlan core op action act

@@ -1,8 +1,0 @@
-use Rattle.plant_core.proofs.ReachLemmas.{same_plant, arrives}
-use Rattle.plant_core.proofs.held.PlantCore.arrive.Goals as goal
-
-pub invariant_of-self : goal.invariant_of-self
-invariant_of-self g c = record { reached = same_plant _ _ _ _ _ c.place_of.ensures.plant c.args.self.now.reached }
-
-pub act_if-requires : goal.act_if-requires
-act_if-requires g c = arrives _ _ c.args.modem c.args.heard c.in-Some.op c.place_of.ensures.plant c.in-Some.ensures.value

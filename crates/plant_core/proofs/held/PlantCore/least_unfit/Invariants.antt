@@ -1,7 +1,0 @@
-use Rattle.std.proofs.Common.{◌≡◌, drop, map}
-use Rattle.plant_core.specs.DeskView.{book_at}
-use Rattle.plant_core.specs.Reslicing.{least_unfit}
-use Rattle.plant_core.proofs.held.PlantCore.least_unfit.Given as goal
-
-abbrev pub invariant-loop-op : goal.invariant-loop-op
-invariant-loop-op g l = least_unfit l.unfit l.from l.op (map book_at (drop l.op l.self.desks.items)) (drop l.op l.rows) ≡ least_unfit l.unfit l.from 0 (map book_at l.self.desks.items) l.rows

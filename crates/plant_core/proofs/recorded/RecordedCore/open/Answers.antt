@@ -1,0 +1,22 @@
+use Rattle.std.proofs.Common.{List, [], length, ap, ◌∙◌}
+use Rattle.std.specs.Prelude.{replicate}
+use Rattle.plant.specs.declared.operator_row.RowFields.{RowFields}
+use Rattle.plant.specs.declared.plant.PlantFields.{PlantFields}
+use Rattle.run_model.specs.IsStateAfter.{CoreView}
+use Rattle.plant_core.proofs.OpenLemmas.{opened_belongs, opened_view}
+use Rattle.plant_core.proofs.recorded.RecordedCore.open.Goals as goal
+
+pub invariant_of-result : goal.invariant_of-result
+invariant_of-result g c = record {
+  belongs = opened_belongs c.args.plant _ _ _ c.in_ok-live.ensures.ok
+      (c.in_ok-histories.ensures
+      ∙ ap (λ (rows : List RowFields). replicate (length rows) []) (c.rows.ensures.value ∙ ap (λ (plant : PlantFields). plant.rows) (c.plant.ensures ∙ ap (λ (core : CoreView). core.plant) c.in_ok-live.ensures.ok)))
+      c.new.ensures.items c.always.ensures.gathering;
+}
+
+pub returns-clause-ok : goal.returns-clause-ok
+returns-clause-ok g c =
+    opened_view c.args.plant _ _ _ c.in_ok-live.ensures.ok
+    (c.in_ok-histories.ensures
+    ∙ ap (λ (rows : List RowFields). replicate (length rows) []) (c.rows.ensures.value ∙ ap (λ (plant : PlantFields). plant.rows) (c.plant.ensures ∙ ap (λ (core : CoreView). core.plant) c.in_ok-live.ensures.ok)))
+    c.new.ensures.items

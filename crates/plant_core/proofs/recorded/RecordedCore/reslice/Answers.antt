@@ -1,0 +1,37 @@
+use Rattle.std.proofs.Common.{List, option_map, sym, ap, ◌∙◌}
+use Rattle.operator_model.specs.declared.action.SliceRow.{SliceRow}
+use Rattle.live_core.specs.declared.core_fault.CoreFault.TheVariants as faults
+use Rattle.live_core.specs.declared.core_fault.ResliceFault.{ResliceFault}
+use Rattle.live_core.specs.LiveView.{live_view}
+use Rattle.live_core.specs.Reslicing.{reslice_fault}
+use Rattle.plant_core.specs.RecordView.{record_view}
+use Rattle.plant_core.proofs.RecordLemmas.{is_of}
+use Rattle.plant_core.proofs.StepLemmas.{same_reslice_fault}
+use Rattle.plant_core.proofs.recorded.RecordedCore.reslice.Goals as goal
+
+pub returns-in-Some-clause-fault : goal.returns-in-Some-clause-fault
+returns-in-Some-clause-fault g c =
+    let core = c.args.self.now in
+    ap (option_map (λ (fault : ResliceFault). faults.Reslice fault))
+    (same_reslice_fault (live_view core.live) (record_view core) (is_of _ _ _ c.always.ensures.gathering core.belongs) c.args.from c.args.rows.now
+    ∙ (ap (λ (rows : List SliceRow). reslice_fault c.args.from (live_view core.live).books rows) (sym c.as_slice.ensures) ∙ sym c.in-Some.ensures))
+
+pub give-requires : goal.give-requires
+give-requires g c =
+    let core = c.args.self.now in
+    same_reslice_fault (live_view core.live) (record_view core) (is_of _ _ _ c.always.ensures.gathering core.belongs) c.args.from c.args.rows.now
+    ∙ (ap (λ (rows : List SliceRow). reslice_fault c.args.from (live_view core.live).books rows) (sym c.as_slice.ensures) ∙ (sym c.reslice_fault.ensures ∙ c.in_default.is))
+
+pub returns-in-Ok-clause-fault : goal.returns-in-Ok-clause-fault
+returns-in-Ok-clause-fault g c =
+    let core = c.args.self.now in
+    ap (option_map (λ (fault : ResliceFault). faults.Reslice fault))
+    (same_reslice_fault (live_view core.live) (record_view core) (is_of _ _ _ c.always.ensures.gathering core.belongs) c.args.from c.args.rows.now
+    ∙ (ap (λ (rows : List SliceRow). reslice_fault c.args.from (live_view core.live).books rows) (sym c.as_slice.ensures) ∙ (sym c.reslice_fault.ensures ∙ c.in_default.is)))
+
+pub returns-in-Err-clause-fault : goal.returns-in-Err-clause-fault
+returns-in-Err-clause-fault g c =
+    let core = c.args.self.now in
+    ap (option_map (λ (fault : ResliceFault). faults.Reslice fault))
+    (same_reslice_fault (live_view core.live) (record_view core) (is_of _ _ _ c.always.ensures.gathering core.belongs) c.args.from c.args.rows.now
+    ∙ (ap (λ (rows : List SliceRow). reslice_fault c.args.from (live_view core.live).books rows) (sym c.as_slice.ensures) ∙ (sym c.reslice_fault.ensures ∙ c.in_default.is)))

@@ -1,0 +1,9 @@
+use Rattle.std.proofs.Common.{refl}
+use Rattle.run_model.specs.declared.step.Step.TheVariants as steps
+use Rattle.plant_core.proofs.recorded.RecordedCore.step_into.Goals as goal
+
+pub act_if-requires : goal.act_if-requires
+act_if-requires g c = (steps.Work c.in-Work.op, refl)
+
+pub act_if-requires-in-Tick : goal.act_if-requires-in-Tick
+act_if-requires-in-Tick g c = (steps.Tick c.in-Tick.op, refl)
