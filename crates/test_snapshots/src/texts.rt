@@ -2,15 +2,14 @@
 
 use dsx_messages::{Kind, Modem};
 use flow_table::Flow;
-use operator_model::Heard;
+use operator_model::{Arrival, Heard};
 use param_sets::{ParamFields, ParamSet, Scheduling};
 use snapshot_format::{
     SavedFlow, SavedOperator, Snapshot, SnapshotFault, Wrong, read_snapshot, write_snapshot,
 };
 use std::alloc::Global;
-use std::process::Abort;
 use std::test::Fail;
-use transactions::ResponseState;
+use transactions::{KeptEntry, ResponseState};
 
 /// A snapshot of two operators.
 const SNAPSHOT: &str = "melfjits-snapshot 1 21\n\
@@ -34,7 +33,7 @@ request 0A0B0C0D0E0F 16383 65535\n\
 end 18 3745741436\n";
 
 /// What is wrong with each text, the text, and the line at which it is refused for what.
-const REFUSED: [(&str, &str, u64, Wrong); 20] = [
+const REFUSED: &[(&str, &str, u64, Wrong)] = &[
     (
         "a foreign version",
         "melfjits-snapshot 2 0\n---\nframe 7 0\nend 3 0\n",
@@ -162,89 +161,134 @@ fn read(alloc: Global, text: &str) -> Result<Snapshot, SnapshotFault> {
     read_snapshot(alloc, text.as_bytes())
 }
 
-/// Checks a flow that was read against one that is typed by hand.
-fn check_flow(rt: &impl Abort, read: &SavedFlow) {
-    assert_eq!(rt; read.sfid, 3);
-    let flow: &Flow = &read.flow;
-    assert_eq!(rt; flow.modem, Modem([2, 0, 0, 0, 0, 1]));
-    assert_eq!(rt; flow.sid, Some(5));
-    let set = ParamSet::new(ParamFields {
-        scheduling: Scheduling::BestEffort,
-        priority: 1,
-        max_sustained_rate: 64_000,
-        max_burst: 3044,
-        min_reserved_rate: 0,
-        request_policy: 0,
-        polling_interval: 0,
-        poll_jitter: 0,
-        grant_size: 0,
-        grant_interval: 0,
-        grant_jitter: 0,
-        grants_per_interval: 0,
-    });
-    assert_eq!(rt; flow.sets.get_provisioned(), Some(set));
-    assert_eq!(rt; flow.sets.get_admitted(), Some(set));
-    assert_eq!(rt; flow.sets.get_active(), None);
-    assert_eq!(rt; flow.pending, None);
-    assert_eq!(rt; (flow.start, flow.backlog, flow.since), (9, 0, 9));
-}
-
-/// Checks the other records of the first operator.
-fn check_records(rt: &impl Abort, read: &SavedOperator) {
-    if let [_, flow] = read.flows.as_slice() {
-        assert_eq!(rt;
-            (flow.sfid, flow.flow.backlog, flow.flow.since),
-            (8, 30, 15)
-        );
-        assert!(rt; flow.flow.pending.is_some_and(|pending| pending.sid_is_new));
-    }
-    if let [waiting, held] = read.kept.as_slice() {
-        assert_eq!(rt; waiting.kind, Kind::Dsa);
-        assert_eq!(rt;
-            (waiting.tid, waiting.sfid, waiting.ticks_left),
-            (258, 8, 3)
-        );
-        assert_eq!(rt; waiting.reply.as_slice(), [0x10, 1, 2, 0].as_slice());
-        assert_eq!(rt; held.standing, ResponseState::Held);
-        assert_eq!(rt; (held.ticks_left, held.resends_left), (40, 0));
-    }
-    if let [message, empty] = read.inbox.as_slice() {
-        assert!(rt; matches!(&message.heard, Heard::Message(bytes) if bytes.len() == 10));
-        assert!(rt; matches!(&empty.heard, Heard::Message(bytes) if bytes.is_empty()));
+/// Returns whether a text is refused at a line for this.
+fn is_refused(alloc: Global, text: &str, number: u64, wrong: Wrong) -> bool {
+    match read(alloc, text) {
+        Ok(_saved) => false,
+        Err(fault) => fault == SnapshotFault::Line { number, wrong },
     }
 }
 
-/// Checks what was read of the typed text.
-fn check_read(rt: &impl Abort, read: &Snapshot) {
-    assert_eq!(rt;
-        read.plant.as_slice(),
-        b"[plant]\nack_wait = 2\n".as_slice()
-    );
-    assert_eq!(rt; read.frame, 17);
-    let [first, second] = read.operators.as_slice() else {
-        panic!(rt; "two operators are expected");
-    };
-    assert_eq!(rt; first.name.as_slice(), b"Alfa".as_slice());
-    assert_eq!(rt;
-        (
-            first.share.slice.get_start(),
-            first.share.slice.get_length()
-        ),
-        (0, 72)
-    );
-    assert_eq!(rt; first.share.budget, 24);
-    assert_eq!(rt; first.next.map(|next| next.from), Some(20));
-    assert_eq!(rt;
-        (first.flows.len(), first.kept.len(), first.inbox.len()),
-        (2, 2, 2)
-    );
-    if let [flow, _] = first.flows.as_slice() {
-        check_flow(rt, flow);
+/// Returns what is wrong with the first text that is not refused as it must be.
+fn first_not_refused(alloc: Global) -> Option<&'static str> {
+    for (name, text, number, wrong) in REFUSED {
+        if !is_refused(alloc, text, *number, *wrong) {
+            return Some(*name);
+        }
     }
-    check_records(rt, first);
-    assert_eq!(rt; second.name.as_slice(), b"B".as_slice());
-    assert_eq!(rt; second.next, None);
-    assert_eq!(rt; second.inbox.len(), 1);
+    None
+}
+
+/// The parameter set of the first flow.
+const SET: ParamFields = ParamFields {
+    scheduling: Scheduling::BestEffort,
+    priority: 1,
+    max_sustained_rate: 64_000,
+    max_burst: 3044,
+    min_reserved_rate: 0,
+    request_policy: 0,
+    polling_interval: 0,
+    poll_jitter: 0,
+    grant_size: 0,
+    grant_interval: 0,
+    grant_jitter: 0,
+    grants_per_interval: 0,
+};
+
+/// Returns whether the sets of the first flow are as they are typed.
+fn has_sets(flow: &Flow) -> bool {
+    let set = Some(ParamSet::new(SET));
+    flow.sets.get_provisioned() == set
+        && flow.sets.get_admitted() == set
+        && flow.sets.get_active().is_none()
+        && flow.pending.is_none()
+}
+
+/// Returns whether a saved flow is the first one that is typed.
+fn is_first_flow(read: &SavedFlow) -> bool {
+    let flow = &read.flow;
+    read.sfid == 3
+        && flow.modem == Modem([2, 0, 0, 0, 0, 1])
+        && flow.sid == Some(5)
+        && (flow.start, flow.backlog, flow.since) == (9, 0, 9)
+        && has_sets(flow)
+}
+
+/// Returns whether a saved flow is the second one that is typed.
+fn is_second_flow(read: &SavedFlow) -> bool {
+    let flow = &read.flow;
+    (read.sfid, flow.backlog, flow.since) == (8, 30, 15)
+        && matches!(flow.pending, Some(pending) if pending.sid_is_new)
+}
+
+/// Returns whether a cached response is the typed one that waits.
+fn is_waiting_response(read: &KeptEntry) -> bool {
+    read.kind == Kind::Dsa
+        && (read.tid, read.sfid, read.ticks_left) == (258, 8, 3)
+        && read.reply.as_slice() == [0x10, 1, 2, 0].as_slice()
+}
+
+/// Returns whether a cached response is the typed one that is held.
+fn is_held_response(read: &KeptEntry) -> bool {
+    read.standing == ResponseState::Held && (read.ticks_left, read.resends_left) == (40, 0)
+}
+
+/// Returns whether what was received is a message of so many bytes.
+fn has_length(read: &Arrival, length: usize) -> bool {
+    matches!(&read.heard, Heard::Message(bytes) if bytes.len() == length)
+}
+
+/// Returns whether an operator has this slice and budget, and a slice change from this frame on.
+fn has_share(read: &SavedOperator, share: (u16, u16, u16), from: Option<u32>) -> bool {
+    let slice = &read.share.slice;
+    (slice.get_start(), slice.get_length(), read.share.budget) == share
+        && read.next.map(|next| next.from) == from
+}
+
+/// Returns which records of the first operator are not as they are typed.
+fn wrong_in_first(read: &SavedOperator) -> Option<&'static str> {
+    if read.name.as_slice() != b"Alfa".as_slice() || !has_share(read, (0, 72, 24), Some(20)) {
+        return Some("the first operator");
+    }
+    match read.flows.as_slice() {
+        [first, second] if is_first_flow(first) && is_second_flow(second) => {}
+        _ => return Some("the flows"),
+    }
+    match read.kept.as_slice() {
+        [waiting, held] if is_waiting_response(waiting) && is_held_response(held) => {}
+        _ => return Some("the responses"),
+    }
+    match read.inbox.as_slice() {
+        [message, empty] if has_length(message, 10) && has_length(empty, 0) => None,
+        _ => Some("the messages"),
+    }
+}
+
+/// Returns which records of the second operator are not as they are typed.
+fn wrong_in_second(read: &SavedOperator) -> Option<&'static str> {
+    if read.name.as_slice() == b"B".as_slice() && read.next.is_none() && read.inbox.len() == 1 {
+        None
+    } else {
+        Some("the second operator")
+    }
+}
+
+/// Returns which records were not read as they are typed.
+fn first_wrong(read: &Snapshot) -> Option<&'static str> {
+    if read.plant.as_slice() != b"[plant]\nack_wait = 2\n".as_slice() || read.frame != 17 {
+        return Some("the plant file or the frame");
+    }
+    match read.operators.as_slice() {
+        [first, second] => wrong_in_first(first).or(wrong_in_second(second)),
+        _ => Some("the number of operators"),
+    }
+}
+
+/// Returns whether a snapshot is written as the typed text.
+fn is_written(alloc: Global, saved: &Snapshot) -> Result<bool, Fail> {
+    let mut written = Vec::new(alloc);
+    write_snapshot(alloc, &mut written, saved)?;
+    Ok(written.as_slice() == SNAPSHOT.as_bytes())
 }
 
 /// The typed text says the typed values and is written of them, and each spoilt text is refused at
@@ -252,16 +296,8 @@ fn check_read(rt: &impl Abort, read: &Snapshot) {
 #[test]
 fn snapshots(rt: HostRuntime) -> Result<(), Fail> {
     let saved = read(rt.alloc(), SNAPSHOT)?;
-    check_read(&rt, &saved);
-    let mut written = Vec::new(rt.alloc());
-    write_snapshot(rt.alloc(), &mut written, &saved)?;
-    assert_eq!(rt; written.as_slice(), SNAPSHOT.as_bytes());
-    for (name, text, number, wrong) in REFUSED {
-        assert_eq!(rt;
-            read(rt.alloc(), text).err(),
-            Some(SnapshotFault::Line { number, wrong }),
-            "{name}"
-        );
-    }
+    assert_eq!(rt; first_wrong(&saved), None);
+    assert!(rt; is_written(rt.alloc(), &saved)?);
+    assert_eq!(rt; first_not_refused(rt.alloc()), None);
     Ok(())
 }
