@@ -146,19 +146,48 @@ const AFTER: &[CoreStep] = &[
     (StepCall::Collect(1), StepOutput::Map(1)),
 ];
 
+/// Opens the core of operators A and B, in which a flow is added and the first frame has its MAP.
+fn begun(alloc: Global, first: Ranking, second: Ranking) -> Result<LiveCore, Fail> {
+    let mut core = open(alloc, first, second)?;
+    if does_all(alloc, &mut core, BEFORE)? {
+        Ok(core)
+    } else {
+        Err(Fail::from("a step of the core has another output"))
+    }
+}
+
+/// Saves a core, and restores a core of the same plant from the text.
+fn restored(
+    alloc: Global,
+    core: &LiveCore,
+    first: Ranking,
+    second: Ranking,
+) -> Result<LiveCore, Fail> {
+    let rankings = Vec::from_array(alloc, [first, second])?;
+    let saved = save_as_text(alloc, core)?;
+    Ok(restore_plant(alloc, PLANT, &saved, rankings)??)
+}
+
+/// Changes the plant of a core to the same plant.
+fn changed(
+    alloc: Global,
+    core: &LiveCore,
+    first: Ranking,
+    second: Ranking,
+) -> Result<LiveCore, Fail> {
+    let rankings = Vec::from_array(alloc, [first, second])?;
+    Ok(change_plant(alloc, PLANT, core, rankings)??)
+}
+
 #[test]
 fn a_restored_core_goes_on_as_the_one_that_was_saved(rt: HostRuntime) -> Result<(), Fail> {
     let alloc = rt.alloc();
-    let mut core = open(alloc, strict!(alloc), strict!(alloc))?;
-    assert!(rt; does_all(alloc, &mut core, BEFORE)?);
-    let saved = save_as_text(alloc, &core)?;
-    let rankings = Vec::from_array(alloc, [strict!(alloc), strict!(alloc)])?;
-    let mut restored = restore_plant(alloc, PLANT, &saved, rankings)??;
-    let rankings = Vec::from_array(alloc, [strict!(alloc), strict!(alloc)])?;
-    let mut changed = change_plant(alloc, PLANT, &core, rankings)??;
+    let mut core = begun(alloc, strict!(alloc), strict!(alloc))?;
+    let mut other = restored(alloc, &core, strict!(alloc), strict!(alloc))?;
+    assert!(rt; does_all(alloc, &mut other, AFTER)?);
+    other = changed(alloc, &core, strict!(alloc), strict!(alloc))?;
+    assert!(rt; does_all(alloc, &mut other, AFTER)?);
     assert!(rt; does_all(alloc, &mut core, AFTER)?);
-    assert!(rt; does_all(alloc, &mut restored, AFTER)?);
-    assert!(rt; does_all(alloc, &mut changed, AFTER)?);
     Ok(())
 }
 
@@ -186,25 +215,41 @@ const NOT_RESTORED: &[(&str, &str, RestartFault)] = &[
     ),
 ];
 
+/// Restores a core of the plant with a change of the plant file.
+fn restored_with(
+    alloc: Global,
+    saved: &Snapshot,
+    change: (&str, &str),
+    first: Ranking,
+    second: Ranking,
+) -> Result<Result<LiveCore, RestoreFault>, Fail> {
+    let rankings = Vec::from_array(alloc, [first, second])?;
+    let text = replace_first(alloc, PLANT, change.0, change.1)?;
+    restore_plant(alloc, text.as_str(), saved, rankings)
+}
+
+/// Returns whether no core was restored, for this reason.
+fn is_not_restored(restored: &Result<LiveCore, RestoreFault>, why: RestoreFault) -> bool {
+    match restored {
+        Ok(_core) => false,
+        Err(fault) => *fault == why,
+    }
+}
+
 #[test]
 fn a_snapshot_that_does_not_fit_the_plant_is_refused(rt: HostRuntime) -> Result<(), Fail> {
     let alloc = rt.alloc();
-    let mut core = open(alloc, strict!(alloc), strict!(alloc))?;
-    assert!(rt; does_all(alloc, &mut core, BEFORE)?);
+    let core = begun(alloc, strict!(alloc), strict!(alloc))?;
     let saved = save_as_text(alloc, &core)?;
     for (old, new, why) in NOT_RESTORED {
-        let text = replace_first(alloc, PLANT, old, new)?;
-        let rankings = Vec::from_array(alloc, [strict!(alloc), strict!(alloc)])?;
-        let restored = restore_plant(alloc, text.as_str(), &saved, rankings)?;
-        assert_eq!(rt; restored.err(), Some(RestoreFault::Restart { why: *why }));
+        let why = RestoreFault::Restart { why: *why };
+        let restored = restored_with(alloc, &saved, (old, new), strict!(alloc), strict!(alloc))?;
+        assert!(rt; is_not_restored(&restored, why));
     }
     let name = OperatorName::new(b"B").ok_or("a name")?;
     let rankings = Vec::from_array(alloc, [strict!(alloc)])?;
     let restored = restore_plant(alloc, ALONE, &saved, rankings)?;
-    assert_eq!(rt;
-        restored.err(),
-        Some(RestoreFault::UnknownOperator { name })
-    );
+    assert!(rt; is_not_restored(&restored, RestoreFault::UnknownOperator { name }));
     Ok(())
 }
 
@@ -227,18 +272,42 @@ const NOT_CHANGED: &[(&str, &str, ChangeFault)] = &[
     ),
 ];
 
+/// Changes the plant of a core to the one with a change of the plant file.
+fn changed_with(
+    alloc: Global,
+    core: &LiveCore,
+    change: (&str, &str),
+    first: Ranking,
+    second: Ranking,
+) -> Result<Result<LiveCore, ChangeFault>, Fail> {
+    let rankings = Vec::from_array(alloc, [first, second])?;
+    let text = replace_first(alloc, PLANT, change.0, change.1)?;
+    change_plant(alloc, text.as_str(), core, rankings)
+}
+
+/// Returns whether a core was not changed, for this reason.
+fn is_not_changed(changed: &Result<LiveCore, ChangeFault>, why: ChangeFault) -> bool {
+    match changed {
+        Ok(_core) => false,
+        Err(fault) => *fault == why,
+    }
+}
+
 #[test]
 fn a_core_is_not_changed_to_a_plant_that_does_not_fit(rt: HostRuntime) -> Result<(), Fail> {
     let alloc = rt.alloc();
-    let mut core = open(alloc, strict!(alloc), strict!(alloc))?;
-    assert!(rt; does_all(alloc, &mut core, BEFORE)?);
+    let core = begun(alloc, strict!(alloc), strict!(alloc))?;
     for (old, new, why) in NOT_CHANGED {
-        let text = replace_first(alloc, PLANT, old, new)?;
-        let rankings = Vec::from_array(alloc, [strict!(alloc), strict!(alloc)])?;
-        let changed = change_plant(alloc, text.as_str(), &core, rankings)?;
-        assert_eq!(rt; changed.err(), Some(*why));
+        let changed = changed_with(alloc, &core, (old, new), strict!(alloc), strict!(alloc))?;
+        assert!(rt; is_not_changed(&changed, *why));
     }
     Ok(())
+}
+
+/// Returns whether a core is not saved, for this reason.
+fn is_not_saved(alloc: Global, core: &LiveCore, why: SaveFault) -> Result<bool, Fail> {
+    let text = Bytes::from_slice(alloc, PLANT.as_bytes())?;
+    Ok(save(alloc, core, text).err() == Some(why))
 }
 
 #[test]
@@ -248,14 +317,10 @@ fn a_core_of_which_a_frame_waits_is_not_saved_nor_changed(rt: HostRuntime) -> Re
     let ticked = &[(StepCall::Tick(0), StepOutput::Frame(0, 0))];
     assert!(rt; does_all(alloc, &mut core, ticked)?);
     let why = RestFault::FrameWaits { op: 0 };
-    let text = Bytes::from_slice(alloc, PLANT.as_bytes())?;
-    assert_eq!(rt;
-        save(alloc, &core, text).err(),
-        Some(SaveFault::Unfinished { why })
-    );
+    assert!(rt; is_not_saved(alloc, &core, SaveFault::Unfinished { why })?);
     let rankings = Vec::from_array(alloc, [strict!(alloc), strict!(alloc)])?;
     let changed = change_plant(alloc, PLANT, &core, rankings)?;
-    assert_eq!(rt; changed.err(), Some(ChangeFault::Unfinished { why }));
+    assert!(rt; is_not_changed(&changed, ChangeFault::Unfinished { why }));
     Ok(())
 }
 
@@ -263,8 +328,7 @@ fn a_core_of_which_a_frame_waits_is_not_saved_nor_changed(rt: HostRuntime) -> Re
 #[test]
 fn an_operator_without_a_row_leaves(rt: HostRuntime) -> Result<(), Fail> {
     let alloc = rt.alloc();
-    let mut core = open(alloc, strict!(alloc), strict!(alloc))?;
-    assert!(rt; does_all(alloc, &mut core, BEFORE)?);
+    let core = begun(alloc, strict!(alloc), strict!(alloc))?;
     let rankings = Vec::from_array(alloc, [strict!(alloc)])?;
     let mut alone = change_plant(alloc, ALONE, &core, rankings)??;
     let rows = &[
