@@ -141,7 +141,7 @@ fn one_letter() -> FlowFields {
 }
 
 /// Invalid encodings, the first fault of each, and the reference before it. None has an SFID.
-const FAULTS: [(&[u8], TlvFault, Option<u16>); 6] = [
+const FAULTS: &[(&[u8], TlvFault, Option<u16>)] = &[
     (
         &[0x01, 0x02, 0x00, 0x00],
         TlvFault::Range { subtype: 1 },
@@ -190,21 +190,33 @@ fn is_at_fault(bytes: &[u8], fault: TlvFault, reference: Option<u16>) -> bool {
 #[test]
 fn an_invalid_encoding_returns_its_first_fault(rt: HostRuntime) {
     for (bytes, fault, reference) in FAULTS {
-        assert!(rt; is_at_fault(bytes, fault, reference));
+        assert!(rt; is_at_fault(bytes, *fault, *reference));
     }
 }
 
+/// Returns whether each encoding says its fields.
+fn all_say() -> bool {
+    says(b"", FlowFields::NONE)
+        && says(TURNED, turned_fields())
+        && says(WHOLE, whole_fields())
+        && says(REFERENCE_AND_SET, reference_and_set())
+        && says(UPPER_SID, sid_alone())
+        && says(ONE_LETTER, one_letter())
+}
+
+/// Encodings, and how what they say is written.
+const WRITTEN: &[(&[u8], &[u8])] = &[
+    (TURNED, ASCENDING),
+    (WHOLE, WHOLE),
+    (REFERENCE_AND_SET, REFERENCE_AND_SET),
+    (UPPER_SID, LOWER_SID),
+];
+
 #[test]
 fn encodings_are_read_and_written(rt: HostRuntime) -> Result<(), AllocError> {
-    assert!(rt; says(b"", FlowFields::NONE));
-    assert!(rt; says(TURNED, turned_fields()));
-    assert!(rt; says(WHOLE, whole_fields()));
-    assert!(rt; says(REFERENCE_AND_SET, reference_and_set()));
-    assert!(rt; says(UPPER_SID, sid_alone()));
-    assert!(rt; says(ONE_LETTER, one_letter()));
-    assert!(rt; are_written(rt.alloc(), TURNED, ASCENDING)?);
-    assert!(rt; are_written(rt.alloc(), WHOLE, WHOLE)?);
-    assert!(rt; are_written(rt.alloc(), REFERENCE_AND_SET, REFERENCE_AND_SET)?);
-    assert!(rt; are_written(rt.alloc(), UPPER_SID, LOWER_SID)?);
+    assert!(rt; all_say());
+    for (bytes, wanted) in WRITTEN {
+        assert!(rt; are_written(rt.alloc(), bytes, wanted)?);
+    }
     Ok(())
 }

@@ -98,7 +98,7 @@ const PENDING_SPANS: &[MapSpan] = spans![
 ];
 
 /// MAPs, their spans, and the SIDs that wait.
-const MAPS: [(&[u8], &[MapSpan], &[u16]); 3] = [
+const MAPS: &[(&[u8], &[MapSpan], &[u16])] = &[
     (&ONE_GRANT, ONE_SPANS, &[]),
     (&TWO_GRANTS, TWO_SPANS, &[]),
     (&PENDING, PENDING_SPANS, &[258]),
@@ -151,7 +151,7 @@ fn a_map_says_its_header_its_spans_and_who_waits(rt: HostRuntime) {
 }
 
 /// Bytes that are not a MAP, and what is wrong with them.
-const FAULTS: [(&[u8], MapFault); 8] = [
+const FAULTS: &[(&[u8], MapFault)] = &[
     (&CUT, MapFault::Short),
     (&ONE_GRANT_15, MapFault::Short),
     (&ONE_GRANT_16, MapFault::Count),
@@ -173,6 +173,6 @@ fn is_wrong_by(alloc: Global, bytes: &[u8], wanted: MapFault) -> bool {
 #[test]
 fn other_bytes_say_what_is_wrong(rt: HostRuntime) {
     for (bytes, wanted) in FAULTS {
-        assert!(rt; is_wrong_by(rt.alloc(), bytes, wanted));
+        assert!(rt; is_wrong_by(rt.alloc(), bytes, *wanted));
     }
 }

@@ -3,7 +3,7 @@
 use frame_numbers::{RenumberFault, renumber};
 use param_sets::Units;
 use plant::{Backoffs, Channel, Classes, Consts, ConstsFields};
-use snapshot_format::{read_snapshot, write_snapshot};
+use snapshot_format::{Snapshot, read_snapshot, write_snapshot};
 use std::alloc::Global;
 use std::test::Fail;
 use transactions::Timers;
@@ -58,28 +58,41 @@ fn channel_of_long_frames(alloc: Global) -> Consts {
     })
 }
 
+/// Returns whether the typed snapshot becomes the other one.
+fn becomes_the_other(alloc: Global, consts: &Consts, saved: &Snapshot) -> Result<bool, Fail> {
+    let other = renumber(alloc, consts, saved, 1_048_280)?;
+    let mut written = Vec::new(alloc);
+    write_snapshot(alloc, &mut written, &other)?;
+    Ok(written.as_slice() == AFTER.as_bytes())
+}
+
+/// Returns whether a snapshot does not get a number, for this cause.
+fn is_refused(
+    alloc: Global,
+    consts: &Consts,
+    saved: &Snapshot,
+    number: u32,
+    cause: RenumberFault,
+) -> bool {
+    renumber(alloc, consts, saved, number).err() == Some(cause)
+}
+
+/// Frame numbers of the typed snapshot, those that it cannot get, and their causes.
+const REFUSED: &[(u32, u32, RenumberFault)] = &[
+    (4_294_967_000, 1_048_281, RenumberFault::TimeSteps),
+    (1_048_476, 4_294_967_196, RenumberFault::TooHigh),
+    (1_048_578, 2, RenumberFault::TooLow),
+];
+
 /// The typed snapshot becomes the other one, and each number that cannot be is refused for its cause.
 #[test]
 fn frames_get_other_numbers(rt: HostRuntime) -> Result<(), Fail> {
     let consts = channel_of_long_frames(rt.alloc());
     let mut saved = read_snapshot(rt.alloc(), BEFORE.as_bytes())?;
-    let other = renumber(rt.alloc(), &consts, &saved, 1_048_280)?;
-    let mut written = Vec::new(rt.alloc());
-    write_snapshot(rt.alloc(), &mut written, &other)?;
-    assert_eq!(rt; written.as_slice(), AFTER.as_bytes());
-    assert_eq!(rt;
-        renumber(rt.alloc(), &consts, &saved, 1_048_281).err(),
-        Some(RenumberFault::TimeSteps)
-    );
-    saved.frame = 1_048_476;
-    assert_eq!(rt;
-        renumber(rt.alloc(), &consts, &saved, 4_294_967_196).err(),
-        Some(RenumberFault::TooHigh)
-    );
-    saved.frame = 1_048_578;
-    assert_eq!(rt;
-        renumber(rt.alloc(), &consts, &saved, 2).err(),
-        Some(RenumberFault::TooLow)
-    );
+    assert!(rt; becomes_the_other(rt.alloc(), &consts, &saved)?);
+    for (frame, number, cause) in REFUSED {
+        saved.frame = *frame;
+        assert!(rt; is_refused(rt.alloc(), &consts, &saved, *number, *cause));
+    }
     Ok(())
 }
