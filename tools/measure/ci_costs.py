@@ -125,11 +125,14 @@ def table(checks):
 
 
 def main():
-    parser = argparse.ArgumentParser(description=__doc__, formatter_class=argparse.RawDescriptionHelpFormatter, allow_abbrev=False)
+    parser = argparse.ArgumentParser(prog="ci_costs", description=__doc__, formatter_class=argparse.RawDescriptionHelpFormatter, allow_abbrev=False)
     parser.add_argument("command", nargs=argparse.REMAINDER, metavar="COMMAND")
     command = parser.parse_args().command or ["rt", "ci"]
     begun = time.monotonic()
-    status, checks = watch(command)
+    try:
+        status, checks = watch(command)
+    except FileNotFoundError:
+        sys.exit(f"ci_costs: there is no command {command[0]}")
     print(*table(checks), sep="\n")
     taken = os.times()
     processor = taken.children_user + taken.children_system
