@@ -207,7 +207,7 @@ impl Flows {
         let mut all = Vec::with_capacity(alloc, self.by_sfid.len())?;
         for (sfid, flow) in &self.by_sfid {
             if let Some(flowing) = flowing_of(*sfid, flow) {
-                all.push(flowing)?;
+                all.push_reserved(flowing);
             }
         }
         Ok(all)

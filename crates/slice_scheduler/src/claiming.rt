@@ -99,6 +99,11 @@ fn always_within(flow: &Flowing, at: &At)
     let _units = at.get_units();
 }
 
+/// Returns how many flows ask.
+fn asking_count(flows: &[Flowing]) -> usize {
+    flows.iter().filter(|flow| 0 < flow.backlog).count()
+}
+
 /// Returns what each flow that asks claims, in the flows' order. Takes no memory if none asks.
 pub(crate) fn claims(
     alloc: Global,
@@ -112,7 +117,7 @@ pub(crate) fn claims(
     ensures all_sound { IfOk result (λ _. All IsClaim (claims_of ranking.now.policy at.now flows.now)) }
     ensures fits { IfOk result (λ _. sum_by (taken_of at.now) flows.now ≤ total_need at.now flows.now) }
 {
-    let mut claims = Vec::new(alloc);
+    let mut claims = Vec::with_capacity(alloc, asking_count(flows))?;
     for flow in flows {
         // For the proof: what this flow claims has the numbers of a claim, and its base is needed.
         always_claims(flow, at, ranking);

@@ -104,7 +104,8 @@ pub(crate) fn all_due(alloc: Global, flows: &[Flowing], at: &At) -> Result<Vec<P
     ensures items { IfOk result (λ pieces. pieces.items ≡ flat_map (due_pieces at.now) flows.now) }
     ensures some { IfOk result (λ pieces. All HasMinislots pieces.items) }
 {
-    let mut pieces = Vec::with_capacity(alloc, flows.len())?;
+    // Room for what is due, and for the awards that are added.
+    let mut pieces = Vec::with_capacity(alloc, flows.len().saturating_mul(2))?;
     for flow in flows {
         push_due(&mut pieces, flow, at)?;
     }

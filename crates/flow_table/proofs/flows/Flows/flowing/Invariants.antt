@@ -1,7 +1,11 @@
-use Rattle.std.proofs.Common.{◌≡◌, ◌++◌}
+use Rattle.std.proofs.Common.{◌≡◌, ◌+◌, ◌≤◌, ◌++◌, length}
+use Rattle.std.specs.Prelude.{vec_len, vec_capacity}
 use Rattle.flow_table.specs.Table.{flowing_in}
 use Rattle.flow_table.specs.Index.{flows_of}
 use Rattle.flow_table.proofs.flows.Flows.flowing.Given as goal
 
 abbrev pub invariant-loop-sfid : goal.invariant-loop-sfid
-invariant-loop-sfid l = l.all.items ++ flowing_in (flows_of l.sfid-iterator) ≡ flowing_in l.self.flows
+invariant-loop-sfid l = record {
+  items : l.all.items ++ flowing_in (flows_of l.sfid-iterator) ≡ flowing_in l.self.flows;
+  room : vec_len l.all + length l.sfid-iterator ≤ vec_capacity l.all;
+}
