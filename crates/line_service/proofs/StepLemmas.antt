@@ -40,6 +40,10 @@ none_done plant start before shown steps live known after = record {
   left_are = refl;
 }
 
+-- a step that puts out nothing writes nothing
+pub none_written : (plant : PlantFields) (known : Option (List ℕ)) (now : List Out) → now ≡ [] → Appends known known (outs_text plant now)
+none_written plant known now none = subst (λ (o : List Out). Appends known known (outs_text plant o)) (sym none) (Appends-nil known)
+
 module _ (plant : PlantFields) (start : Start) (before : List Step) (shown : List Out) (steps : List LineStep) (old new : CoreView) (w0 w1 w2 : Option (List ℕ)) (line : LineStep) (rest : List LineStep) (now : List Out)
     (half : IsHalfDone plant start before shown steps old w0 w1 (line ∷ rest))
     (reached : (b : List Step) (t : List Out) → IsAfterFrom old.plant start b t old → IsAfterFrom old.plant start (b ++ line.step ∷ []) (t ++ now) new) where

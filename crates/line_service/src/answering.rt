@@ -60,6 +60,7 @@ pub fn run_steps<W: Write>(
     let mut outs = Vec::new(alloc);
     for LineStep { number, step } in steps {
         match core.step_over(alloc, step, &mut outs) {
+            Ok(()) if outs.is_empty() => {}
             Ok(()) => write_outs(writer, core.plant(), outs.as_slice())?,
             Err(fault) => return Ok(end_of(number, fault)),
         }

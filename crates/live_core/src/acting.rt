@@ -1,6 +1,7 @@
 //! Actions of an operator, and the collection of its oldest frame.
 
-ghost use Rattle.std.specs.Prelude.{◌≡◌, ◌+◌, ◌<◌, ◌≤◌, ◌++◌, length, vec_len, vec_capacity, slice_get, option_to_list, Some, None, IfOk, OnOk, OnErr};
+ghost use Rattle.std.specs.Prelude.{◌≡◌, ◌+◌, ◌<◌, ◌≤◌, ◌++◌, length, vec_len, vec_capacity, slice_get, option_to_list, Some, None, IfOk, IfSome, OnOk, OnErr};
+ghost use Rattle.std.specs.VecDeque.{deque_len, deque_capacity};
 ghost use Rattle.operator_model.specs.Machine.{stranger_of, unfit_of, IsAllowed};
 ghost use Rattle.operator_book.specs.Planned.{IsPlanOf, IsCommittable, after_effect};
 ghost use Rattle.run_model.specs.OwnSteps.{outputs_under};
@@ -20,6 +21,7 @@ use plant::Op;
 use run_model::Out;
 use slice_scheduler::Elements;
 use std::alloc::{AllocError, Global};
+use std::collections::VecDeque;
 
 /// Adds an operator's outputs, for which there is room.
 #[inline(always)]
@@ -42,6 +44,21 @@ fn append_map(outs: &mut Vec<Out>, made: Option<MapBytes>)
 {
     if let Some(made) = made {
         outs.push_reserved(Out::Map(made));
+    }
+}
+
+/// Reserves room for a frame that will wait, if there is one.
+#[inline(always)]
+fn reserve_for(
+    waiting: &mut VecDeque<(u32, Elements)>,
+    frame: &Option<(u32, Elements)>,
+) -> Result<(), AllocError>
+    ensures room { OnOk result (IfSome frame.now (λ _. deque_len waiting.new < deque_capacity waiting.new)) }
+    ensures same { waiting.new.items ≡ waiting.old.items }
+{
+    match frame {
+        Some(_frame) => waiting.reserve(1),
+        None => Ok(()),
     }
 }
 
@@ -111,7 +128,7 @@ impl LiveSlot {
         ensures same_book { OnErr result (slot_book self.new ≡ slot_book self.old) }
         ensures same_waiting { OnErr result (slot_waiting self.new ≡ slot_waiting self.old) }
     {
-        self.waiting.reserve(1)?;
+        reserve_for(&mut self.waiting, &frame)?;
         outs.reserve(plan.outputs().len())?;
         let outputs = self.live.commit(plan)?;
         append(outs, op, outputs);

@@ -68,6 +68,7 @@ impl Routes {
     }
 
     /// Puts the operator of an address into the cache, where the cache lacked it the last time too.
+    #[inline(always)]
     fn remember(&mut self, modem: Modem, place: Op)
         requires { holder self.old.rows modem ≡ Some place }
         ensures { self.new ≡ self.old }

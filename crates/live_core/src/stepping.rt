@@ -19,6 +19,16 @@ use plant::Op;
 use run_model::{Out, Step};
 use std::alloc::{AllocError, Global};
 
+/// Takes all outputs out of a list, which has none after most steps.
+#[inline(always)]
+fn empty(outs: &mut Vec<Out>)
+    ensures { outs.new.items ≡ [] }
+{
+    if !outs.is_empty() {
+        outs.clear();
+    }
+}
+
 impl LiveCore {
     /// Performs an action of the operator at this place, if there is one.
     #[inline(always)]
@@ -131,7 +141,7 @@ impl LiveCore {
     {
         // For the proof: what always holds of `self`.
         self.always();
-        outs.clear();
+        empty(outs);
         self.step_into(alloc, step, outs)?;
         Ok(())
     }

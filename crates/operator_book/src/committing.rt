@@ -39,7 +39,11 @@ impl MachineState {
     {
         match effect {
             Effect::Nothing => Ok(()),
-            Effect::Received(arrival) => Ok(self.inbox.push_back(arrival)?),
+            Effect::Received(arrival) => {
+                self.inbox.reserve(1)?;
+                self.inbox.push_back_reserved(arrival);
+                Ok(())
+            }
             Effect::Handled(effect) => {
                 self.commit_handled(effect)?;
                 self.take_first();

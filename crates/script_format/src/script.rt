@@ -373,17 +373,15 @@ fn put_word<'a>(
         (behind steps.old.items (steps_in plant.now number (word.now ∷ line_fields line.now))) }
     ensures unsaid { (error : FieldError) → result ≡ Err (Invalid error) → steps.new.items ≡ steps.old.items }
 {
-    if word == b"M".as_slice() {
-        put_message(alloc, plant, number, line, steps)
-    } else if word == b"Q".as_slice() {
-        put_request(plant, number, line, steps)
-    } else if word == b"T".as_slice() {
-        put_ticked(plant, number, line, steps)
-    } else if word == b"Z".as_slice() {
-        put_parts(b' ', line, fields)?;
-        put_resliced(alloc, plant, number, fields.as_slice(), steps)
-    } else {
-        Err(FieldFault::Invalid(FieldError::UnknownCommand))
+    match word {
+        [b'M'] => put_message(alloc, plant, number, line, steps),
+        [b'Q'] => put_request(plant, number, line, steps),
+        [b'T'] => put_ticked(plant, number, line, steps),
+        [b'Z'] => {
+            put_parts(b' ', line, fields)?;
+            put_resliced(alloc, plant, number, fields.as_slice(), steps)
+        }
+        _ => Err(FieldFault::Invalid(FieldError::UnknownCommand)),
     }
 }
 

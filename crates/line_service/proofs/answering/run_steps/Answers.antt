@@ -1,9 +1,10 @@
-use Rattle.std.proofs.Common.{◌≡◌, [], ◌∷◌, length, ap, sym, ◌∙◌}
+use Rattle.std.proofs.Common.{◌≡◌, [], ◌∷◌, length, ap, sym, ◌∙◌, arith}
+use Rattle.std.proofs.lemmas.Bool.Decides.{nat_tests}
 use Rattle.std.specs.Vec.Iter.{into_iter_items, into_iter_len}
 use Rattle.std.proofs.lemmas.List.{nil_from_length}
 use Rattle.live_core.specs.LiveView.{live_view}
 use Rattle.line_service.proofs.LeftLemmas.{count_next}
-use Rattle.line_service.proofs.StepLemmas.{none_done, half_more, all_are_done, step_not_done}
+use Rattle.line_service.proofs.StepLemmas.{none_done, none_written, half_more, all_are_done, step_not_done}
 use Rattle.line_service.proofs.answering.run_steps.Goals as goal
 
 pub loop-number-init : goal.loop-number-init
@@ -14,6 +15,23 @@ loop-number-init g c =
       finite = tt;
       count = gives.1 ∙ c.args.steps.ok.0 ∙ ap length (sym gives.0);
       half = λ plant start before shown after. rw gives.0 (none_done plant start before shown c.args.steps.items (live_view c.args.core.now) (g.W.Write.contents c.args.writer.now) after);
+    }
+
+pub loop-number-preserved-then-is_empty : goal.loop-number-preserved-then-is_empty
+loop-number-preserved-then-is_empty g c =
+    let at = c.loop-number in
+    let line = c.in-Some.field-0 in
+    let left : into_iter_items at.number-iterator ≡ line ∷ into_iter_items c.next.new.self = c.in-Some.ensures.steps.0 in
+    let w = g.W.Write.contents at.writer in
+    let none : length c.step_over.new.outs.items ≡ 0 = grind (arith, nat_tests, c.if-is_empty.ensures, c.step_over.new.outs.ok.0) in
+    record {
+      next = tt;
+      finite = tt;
+      count = count_next (into_iter_items at.number-iterator) line (into_iter_items c.next.new.self) (into_iter_len at.number-iterator) (into_iter_len c.next.new.self) left c.in-Some.ensures.steps.1 at.invariant.count;
+      half = λ plant start before shown after.
+          half_more plant start before shown c.args.steps.items (live_view at.core) (live_view c.step_over.new.self) (g.W.Write.contents c.args.writer.now) w w line (into_iter_items c.next.new.self) c.step_over.new.outs.items
+          (rw left at (at.invariant.half plant start before shown after)) (c.in-Ok.ensures.reached start)
+          (none_written (live_view c.step_over.new.self).plant w c.step_over.new.outs.items (nil_from_length c.step_over.new.outs.items none));
     }
 
 pub loop-number-preserved : goal.loop-number-preserved
@@ -27,8 +45,8 @@ loop-number-preserved g c =
       count = count_next (into_iter_items at.number-iterator) line (into_iter_items c.next.new.self) (into_iter_len at.number-iterator) (into_iter_len c.next.new.self) left c.in-Some.ensures.steps.1 at.invariant.count;
       half = λ plant start before shown after.
           half_more plant start before shown c.args.steps.items (live_view at.core) (live_view c.step_over.new.self) (g.W.Write.contents c.args.writer.now) (g.W.Write.contents at.writer) (g.W.Write.contents c.write_outs.new.writer) line (into_iter_items c.next.new.self) c.step_over.new.outs.items
-          (rw left at (at.invariant.half plant start before shown after)) (c.in-Ok.ensures.reached start)
-          (rw (← c.plant.ensures, ← c.as_slice.ensures.value) c.in_ok-write_outs-in-Ok.ensures);
+          (rw left at (at.invariant.half plant start before shown after)) (c.in-Ok-2.ensures.reached start)
+          (rw (← c.plant.ensures, ← c.as_slice.ensures.value) c.in_ok-write_outs-in-Ok-2.ensures);
     }
 
 pub returns-in-Err : goal.returns-in-Err

@@ -4,9 +4,9 @@ use Rattle.live_core.proofs.held.LiveCore.step_over.Goals as goal
 pub returns-clause-ok : goal.returns-clause-ok
 returns-clause-ok g c =
     let done = c.in_ok-step_into.ensures.ok in
-    step_same c.args.step c.clear.new.self.items done.0 c.step_into.new.outs.items _ _ done.2 done.1 c.clear.ensures.items
+    step_same c.args.step c.empty.new.outs.items done.0 c.step_into.new.outs.items _ _ done.2 done.1 c.empty.ensures
 
 pub returns-clause-reached : goal.returns-clause-reached
 returns-clause-reached g c = λ start before told after.
     let done = c.in_ok-step_into.ensures.ok in
-    step_more c.args.self.now.routes start before told c.args.step c.clear.new.self.items done.0 c.step_into.new.outs.items _ _ c.always.ensures.plant done.2 done.1 c.clear.ensures.items after
+    step_more c.args.self.now.routes start before told c.args.step c.empty.new.outs.items done.0 c.step_into.new.outs.items _ _ c.always.ensures.plant done.2 done.1 c.empty.ensures after
