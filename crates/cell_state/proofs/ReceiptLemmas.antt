@@ -28,9 +28,6 @@ module _ {X : Type 0} where
   get_last (y ∷ xs) x (suc i) is = get_last xs x i (omega arith)
 
 module _ (from : ℕ) (rows : List SliceRow) (books : List BookView) where
-  pub no_receipt : ReceiptsSoFar from rows books [] 0
-  no_receipt = record { many = refl; each = λ i row book lt e f. absurd (omega arith) }
-
   pub one_more_receipt : (told : List Told) (op : ℕ) (row : SliceRow) (book : BookView) (one : Told) → slice_get rows op ≡ Some row → slice_get books op ≡ Some book
       → IsOwnersReceipt from op row book one → ReceiptsSoFar from rows books told op → ReceiptsSoFar from rows books (told ++ one ∷ []) (op + 1)
   one_more_receipt told op row book one row_is book_is owners so_far = record {

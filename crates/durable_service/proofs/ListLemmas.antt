@@ -1,12 +1,10 @@
 -- Lines in memory, one more at a time.
-use Rattle.std.proofs.Common.{◌≡◌, ℕ, suc, ◌+◌, ◌<◌, ◌≤◌, List, [], ◌∷◌, ◌++◌, length, take, Vec, sym, ap, ◌∙◌, arith, append_assoc, append-nil}
+use Rattle.std.proofs.Common.{◌≡◌, ℕ, suc, ◌+◌, ◌<◌, ◌≤◌, List, [], ◌∷◌, ◌++◌, length, take, Vec, ap, ◌∙◌, arith}
 use Rattle.std.specs.Prelude.{slice_index_or}
 use Rattle.std.specs.declared.alloc.Global.{Global}
 use Rattle.std.proofs.Math.Seq.{take-suc}
 use Rattle.std.proofs.lemmas.List.{map-append, length-map, length-take-le, take_all}
-use Rattle.std.proofs.lemmas.Grind.{flat_map-append}
 use Rattle.line_journal.specs.Found.{texts}
-use Rattle.durable_service.specs.Durable.{joined_text}
 
 pub texts_more : (lines : List (Vec ℕ Global)) (i : ℕ) (line : Vec ℕ Global) → i < length lines → slice_index_or lines i line ≡ line
     → texts (take (i + 1) lines) ≡ texts (take i lines) ++ line.items ∷ []
@@ -15,11 +13,6 @@ texts_more lines i line inside is =
     ap (λ (n : ℕ). texts (take n lines)) next
     ∙ ap (λ (ls : List (Vec ℕ Global)). texts ls) (take-suc lines i line inside ∙ ap (λ (x : Vec ℕ Global). take i lines ++ x ∷ []) is)
     ∙ map-append (λ (v : Vec ℕ Global). v.items) (take i lines) (line ∷ [])
-
-pub joined_more : (lines : List (List ℕ)) (line : List ℕ) → joined_text (lines ++ line ∷ []) ≡ (joined_text lines ++ line) ++ 10 ∷ []
-joined_more lines line =
-    flat_map-append (λ (l : List ℕ). l ++ 10 ∷ []) lines (line ∷ []) ∙ ap (λ (t : List ℕ). joined_text lines ++ t) (append-nil (line ++ 10 ∷ []))
-    ∙ sym (append_assoc (joined_text lines) line (10 ∷ []))
 
 pub taken_length : (lines : List (Vec ℕ Global)) (i : ℕ) → i ≤ length lines → length (texts (take i lines)) ≡ i
 taken_length lines i le = length-map (take i lines) (λ (v : Vec ℕ Global). v.items) ∙ length-take-le i lines le

@@ -152,10 +152,6 @@ no_bar_read input text line new other is so_far =
 
 -- ---- where the reader's bytes are known
 
-pub known_begun : (known : Option (List ℕ)) → WhereKnown known known (λ input rest. IsReadSoFar input rest [] [])
-known_begun None = tt
-known_begun (Some input) = begun input
-
 pub known_on : (a b c : Option (List ℕ)) (byte : ℕ) (P Q : List ℕ → List ℕ → Type 0) → ((input rest : List ℕ) → P input (byte ∷ rest) → Q input rest)
     → WhereKnown a b P → Takes b c (Some byte) → WhereKnown a c Q
 known_on None b c byte P Q on h took = tt

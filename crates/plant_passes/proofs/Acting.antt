@@ -1,14 +1,12 @@
 -- A turn from its ticket to its end.
-use Rattle.std.proofs.Common.{◌≡◌, ℕ, ◌<◌, true, List, [], ◌∷◌, ◌++◌, length, Some, None, Option, option_map, Result, Ok, Err, OnOk, IfOk, OnErr, sym, refl, ap, ◌∙◌, subst}
+use Rattle.std.proofs.Common.{◌≡◌, ℕ, ◌<◌, List, [], ◌∷◌, ◌++◌, length, Some, None, Option, Result, Ok, Err, OnOk, IfOk, OnErr, sym, refl, ap, ◌∙◌, subst}
 use Rattle.std.proofs.lemmas.List.{append_cancel_left}
 use Rattle.atomic_table.specs.Seated.{TableId}
 use Rattle.atomic_table.specs.Table.{rest}
-use Rattle.grant_policy.specs.declared.policy.Policy.{Policy}
 use Rattle.operator_model.specs.declared.action.Action.{Action}
 use Rattle.operator_model.specs.declared.action.Entry.{Entry}
 use Rattle.operator_model.specs.declared.output.Output.{Output}
-use Rattle.operator_model.specs.State.{OperatorState}
-use Rattle.operator_model.specs.Machine.{own_step, stranger_of, is_spent, unfit_of}
+use Rattle.operator_model.specs.Machine.{own_step, stranger_of, unfit_of}
 use Rattle.operator_model.specs.Replay.{BookView, operator_of_book, book_after_action}
 use Rattle.operator_model.specs.declared.action.Unfit.{Unfit}
 use Rattle.dsx_messages.specs.declared.modem.Modem.{Modem}
@@ -16,7 +14,7 @@ use Rattle.plant_passes.specs.declared.view.MarkedEntry.{MarkedEntry}
 use Rattle.plant_passes.specs.declared.view.Origin.{Origin}
 use Rattle.plant_passes.specs.declared.view.Knowledge.{Knowledge}
 use Rattle.plant_passes.specs.declared.view.BookParts.{BookParts}
-use Rattle.plant_passes.specs.Runs.{origin_of, IsOwnRun, state_after}
+use Rattle.plant_passes.specs.Runs.{origin_of, IsOwnRun}
 use Rattle.plant_passes.specs.Histories.{history_entry, mark_entry, entries, places}
 use Rattle.plant_passes.specs.Seats.{SeatNow}
 use Rattle.plant_passes.specs.Steps.{with_ticket, SeesHistory, HasBookInHand, with_entry, history_in_hand, after_closing}
@@ -48,10 +46,6 @@ taken_out {X} m r book h e is =
       origin = ap (λ (x : BookParts X). origin_of x.kept.book) found ∙ h.origin;
       ranking = h.ranking ∙ ap (λ (x : BookParts X). Some x.ranking) (sym found);
     }
-
--- nothing else is in hand
-pub empty_hand : {X : Type 0} (m m' : SeatNow X) → HasBookInHand m [] → m' ≡ (m.0, (0, None) ∷ rest m.1) → m'.1 ≡ (0, None) ∷ []
-empty_hand {X} m m' h e = ap (λ (x : SeatNow X). x.1) e ∙ ap (λ l. (0, None) ∷ rest l) h.hand_is
 
 -- what holds of a value that was answered
 pub if_ok : {A E : Type 0} (P : Type 0) (Q R : A → Type 0) (r : Result A E) → OnOk r P → IfOk r Q → ((a : A) → P → Q a → R a) → IfOk r R
@@ -104,13 +98,6 @@ unchanged_in_hand {X} v book b m ours put is same run = record {
   run = run;
 }
 
--- the book's state is that after the history that was seen
-pub state_is_seen : {X : Type 0} (v : Knowledge X) (book : BookParts X) (action : Action) → IsOurs v book
-    → book.kept.book.state ≡ state_after (origin_of book.kept.book) book.kept.book.history
-    → is_spent book.kept.book.state action ≡ true → is_spent (state_after v.origin (entries v.seen)) action ≡ true
-state_is_seen v book action ours is spent =
-    subst (λ (s : OperatorState). is_spent s action ≡ true) (is ∙ (λ i. state_after (ours.origin i) (ours.history i))) spent
-
 pub acts_now : {X : Type 0} (cell : TableId) (u : Knowledge X) (t index : ℕ) (action : Action) (outputs : List Output) (m1 m3 : SeatNow X) (w : Knowledge X)
     → SeesHistory (with_ticket u t) m1.0 → IsInTurn t m1 → m3.0 ≡ m1.0 → 0 < u.number
     → HasBookWith (entries m1.0.seen ++ history_entry action outputs ∷ []) m3
@@ -158,14 +145,3 @@ ends_now {X} cell u t v m w looks same here end cell' same_cell =
       refl,
     ) in
     subst (λ (x : Knowledge X). EndsCell (seat_view cell u) (seat_view cell' x)) (sym (end ∙ ap after_closing same)) good
-
--- the ranking of the book in hand follows the policy of the book's row
-pub in_hand_follows : {X : Type 0} (policy : X → Policy) (v : Knowledge X) (b : BookParts X) → option_map policy v.ranking ≡ Some v.origin.row.policy
-    → IsOurs v b → policy b.ranking ≡ b.kept.book.row.policy
-in_hand_follows policy v b follows ours =
-    let e : Some (policy b.ranking) ≡ Some v.origin.row.policy = ap (option_map policy) (sym ours.ranking) ∙ follows in
-    let f : policy b.ranking ≡ v.origin.row.policy = cc e in f ∙ ap (λ (o : Origin). o.row.policy) (sym ours.origin)
-
-pub has_ranking : {X : Type 0} (policy : X → Policy) (o : Option X) (p : Policy) → option_map policy o ≡ Some p → (x : X) × (o ≡ Some x)
-has_ranking policy None p e = absurd (cc e)
-has_ranking policy (Some x) p e = (x, refl)

@@ -1,12 +1,11 @@
 -- One look after another.
-use Rattle.std.proofs.Common.{◌≡◌, ◌≢◌, ℕ, ◌<◌, true, List, ◌++◌, Some, sym, refl, ap, ◌∙◌, subst, append_assoc}
+use Rattle.std.proofs.Common.{◌≡◌, ◌≢◌, ℕ, ◌<◌, true, List, ◌++◌, Some, sym, ap, ◌∙◌, subst, append_assoc}
 use Rattle.plant_passes.specs.declared.view.MarkedEntry.{MarkedEntry}
 use Rattle.plant_passes.specs.declared.view.Knowledge.{Knowledge}
 use Rattle.plant_passes.specs.Histories.{StartsWith, StartsWithAll}
 use Rattle.plant_passes.specs.Seats.{closing_mark, SeatNow, knowledge}
 use Rattle.plant_passes.specs.Steps.{SeesHistory, FindsServing, HasBookInHand}
-use Rattle.plant_passes.specs.Turns.{WaitsForTurn, IsInTurn, HasFoundClosed}
-use Rattle.plant_passes.proofs.Logs.{begins_self}
+use Rattle.plant_passes.specs.Turns.{WaitsForTurn, IsInTurn}
 
 pub begins_again : (a b c : List MarkedEntry) → StartsWith b a → StartsWith c b → StartsWith c a
 begins_again a b c p q = (p.0 ++ q.0, q.1 ∙ (ap (λ l. l ++ q.0) p.1 ∙ append_assoc a p.0 q.0))
@@ -23,20 +22,6 @@ pub record Stays {X : Type 0} (v w : Knowledge X) : Type 0 where
   pub same_reports : w.reported ≡ v.reported
   pub seen : StartsWith w.seen v.seen
   pub closed : v.closed ≡ true → w.closed ≡ true
-
-pub stays_here : {X : Type 0} (v : Knowledge X) → Stays v v
-stays_here v = record {
-  number = refl;
-  passes = refl;
-  opens = refl;
-  ended_cell = refl;
-  origin = refl;
-  ranking = refl;
-  made = refl;
-  same_reports = refl;
-  seen = begins_self v.seen;
-  closed = λ h. h;
-}
 
 pub stays_on : {X : Type 0} (u v w : Knowledge X) (r : ℕ) → Stays u v → SeesHistory v w → (v.closed ≡ true → w.closed ≡ true) → Stays u w
 stays_on u v w r a b closed = record {
@@ -88,7 +73,3 @@ mine_now t r m m' waits finds going is =
       place = sym is ∙ o.place;
       book = subst (λ below. HasBookInHand m' below) waits.hand_is o.book;
     }
-
-pub shut_now : {X : Type 0} (t r : ℕ) (m m' : SeatNow X) → WaitsForTurn t m → FindsServing r m m' → r ≡ closing_mark → HasFoundClosed m'
-shut_now t r m m' waits finds is =
-    let o = finds.closed is in record { ticket = o.ticket; holds_book = o.holds_book; closed = o.closed; hand_is = o.hand_is ∙ waits.hand_is }

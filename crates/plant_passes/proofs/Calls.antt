@@ -1,5 +1,5 @@
 -- What a call of a cell answers, of what its steps answered.
-use Rattle.std.proofs.Common.{◌≡◌, ◌≢◌, inl, inr, true, false, [], ◌∷◌, ◌++◌, length, Result, Ok, Err, IfErr, IsErrAnd, sym, subst, ap, ◌∙◌, append_assoc, arith}
+use Rattle.std.proofs.Common.{◌≡◌, ◌≢◌, inl, inr, true, [], ◌∷◌, ◌++◌, length, Result, Ok, Err, IfErr, IsErrAnd, sym, subst, ap, ◌∙◌, append_assoc, arith}
 use Rattle.std.proofs.lemmas.Bool.Decides.{nat_tests}
 use Rattle.dsx_messages.specs.declared.modem.Modem.{Modem}
 use Rattle.operator_model.specs.declared.action.Action.{Action}
@@ -89,7 +89,3 @@ refuses_turn p q action r (NotMine modem) is ended mine fits spent = absurd (min
 refuses_turn p q action r FramesSpent is ended mine fits spent = (ended, spent_frame (state_seen q) action (spent is))
 refuses_turn p q action r (Unfit why) is ended mine fits spent = absurd (fits why is)
 refuses_turn p q action r NoMemory is ended mine fits spent = ended
-
--- a tick that was refused memory was not one past the last frame
-pub not_last_frame : (s : OperatorState) → is_spent s Tick ≡ false → s.frame ≢ 4294967295
-not_last_frame s h e = grind (arith, nat_tests)

@@ -18,12 +18,8 @@ use Rattle.plant_passes.specs.declared.view.MarkedEntry.{MarkedEntry}
 use Rattle.plant_passes.specs.declared.view.Knowledge.{Knowledge}
 use Rattle.plant_passes.specs.Histories.{StartsWith}
 use Rattle.plant_passes.specs.Seats.{Knows, joint}
-use Rattle.plant_passes.specs.Passes.{CellView, PassView, IsOfCell, first_pass, first_passes, IsLongest}
+use Rattle.plant_passes.specs.Passes.{CellView, PassView, IsOfCell, first_passes, IsLongest}
 use Rattle.plant_passes.specs.Turns.{Gathers}
-
-pub first_passes-step : (cell : TableId) (origin : Origin) (past : List MarkedEntry) (n : ℕ) → 0 < n → first_passes cell origin past n ≡ first_pass cell origin past n ∷ first_passes cell origin past (n - 1)
-first_passes-step cell origin past zero h = absurd (omega arith)
-first_passes-step cell origin past (suc n) h = ap (λ (k : ℕ). first_pass cell origin past (suc n) ∷ first_passes cell origin past k) (let e : n ≡ suc n - 1 = omega arith in e)
 
 abbrev head_of : {A : Type 0} → A → List A → A
 head_of d [] = d

@@ -98,11 +98,6 @@ at_end [] a b (suc j) e = absurd (some-ne-none b (sym e))
 at_end (x ∷ xs) a b zero e = inl e
 at_end (x ∷ xs) a b (suc j) e = ⊎_elim (λ t. inl t) (λ t. inr (ap suc t.0, t.1)) (at_end xs a b j e)
 
-pub at_below : {A : Type 0} (l : List A) (i : ℕ) (a : A) → get_elem? l i ≡ some a → i < length l
-at_below [] i a e = absurd (some-ne-none a (sym e))
-at_below (x ∷ xs) zero a e = omega arith
-at_below (x ∷ xs) (suc i) a e = let h = at_below xs i a e in omega arith
-
 -- two seats count for no more passes than all
 pub passes_two : {X : Type 0} (vs : List (Knowledge X)) (j k : ℕ) (v w : Knowledge X) → j ≢ k → get_elem? vs j ≡ some v → get_elem? vs k ≡ some w → v.passes + w.passes ≤ passes_of vs
 passes_two vs j k v w ne p q = let h = passes_set vs j v no_pass p in let o : w.passes ≤ passes_of (set vs j no_pass) = passes_one (set vs j no_pass) k w (set_else vs j k no_pass (λ e. ne (sym e)) ∙ q) in omega arith

@@ -2,8 +2,7 @@
 use Rattle.std.proofs.Common.{◌≡◌, ◌≢◌, ◌⊎◌, inl, inr, ℕ, Bool, List, [], ◌++◌, Option, Some, None, IfSome, Result, Ok, Err, IfOk, refl, sym, subst, ◌∙◌}
 use Rattle.std.specs.Prelude.{MatchResult}
 use Rattle.std.specs.Io.KnownBytes.{Appends}
-use Rattle.std.specs.String.{string_bytes}
-use Rattle.command_line.specs.Order.{Order, threads, batch_order, order_of}
+use Rattle.command_line.specs.Order.{Order, order_of}
 use Rattle.command_line.specs.declared.asked.BatchWord.{BatchWord}
 use Rattle.command_line.specs.declared.asked.BatchWord.TheVariants as batch
 use Rattle.command_line.specs.declared.asked.Word.{Word}
@@ -15,13 +14,12 @@ use Rattle.plant_script.specs.declared.progress.Progress.{Progress}
 use Rattle.plant_script.specs.declared.progress.Progress.TheVariants.{Ended, Threads}
 use Rattle.plant_script.specs.declared.task.InputOutcome.TheVariants as outcomes
 use Rattle.plant_script.specs.declared.task.Task.{Task}
-use Rattle.plant_script.specs.declared.status.Status.{Status}
 use Rattle.plant_script.specs.Run.{memory_line}
 use Rattle.plant_script.specs.Statuses.{status_code}
 use Rattle.plant_script.specs.OnThreads.{IsThreadedRunOf}
 use Rattle.plant_script.specs.Task.{RunsTo, IsWritten, WritesOutcome, Comes}
 use Rattle.plant_script.specs.Words.{AnswersWith}
-use Rattle.plant_script.specs.Reaching.{RunsOut, AnswersRead, AnswersOrder, EndsOrder, ReachesOrder, Completes, AnswersFault, AnswersWords, ReachesWords}
+use Rattle.plant_script.specs.Reaching.{RunsOut, AnswersRead, AnswersOrder, EndsOrder, ReachesOrder, Completes, AnswersWords, ReachesWords}
 use Rattle.plant_script.proofs.Tasks.{same_order}
 
 -- one status is not another
@@ -71,13 +69,6 @@ pub task_ends : (order : Order) (read : Option (List ℕ)) (failed : Bool) (task
     → IsWritten (RunsTo task.plant task.report script task.lines.items) status wrote → EndsOrder order read failed status wrote
 task_ends order read failed task script status wrote comes told = inr (written_answers order read (RunsTo task.plant task.report script task.lines.items) status wrote comes told)
 
--- only `threads` asks for a run on threads
-pub threads_alone : (word : BatchWord) → (word ≢ batch.Threads → ⊥) → batch_order word ≡ threads
-threads_alone batch.One other = absurd (other (λ same. absurd cc))
-threads_alone batch.Check other = absurd (other (λ same. absurd cc))
-threads_alone batch.Threads other = refl
-threads_alone (batch.Run report) other = absurd (other (λ same. absurd cc))
-
 -- ---- words
 
 -- words that give an order are answered as the order is
@@ -126,38 +117,6 @@ module _ (words : List (List ℕ)) (read : Option (List ℕ)) (word : Word) (res
     λ status later told. answered status (λ text. Appends old later text)
         (written_answers (order_of word) read (IsThreadedRunOf plant lines.items) status (λ text. Appends old later text) comes told),
   )
-
--- words that give no order
-pub fault_reaches : (words : List (List ℕ)) (read : Option (List ℕ)) (fault : WordsFault) (result : Result Word WordsFault) (status : Status) (failed : Bool) (old new : Option (List ℕ)) → result ≡ Err fault
-    → ((order : Order) → NamesOrder words order → GivesOrder order result) → (AsksHelp words → GivesHelp result) → (AreWrong words → GivesWrong result)
-    → AnswersFault fault (status_code status) (λ text. Appends old new text) → ReachesWords words read (Ended status failed) old new
-fault_reaches words read (faults.Help text) result status failed old new is named help wrong (zero_is, told) = inr (
-  (λ six. absurd (let bad : ◌≡◌ {A = ℕ} 0 6 = sym zero_is ∙ six in cc)),
-  record {
-    served = λ order so. let given : GivesOrder order (Err (faults.Help text)) = subst (GivesOrder order) is (named order so) in absurd given;
-    refused = λ are. let given : GivesWrong (Err (faults.Help text)) = subst GivesWrong is (wrong are) in absurd given;
-    helped = λ asks other. (string_bytes text, zero_is, told);
-    memory = λ five. absurd (let bad : ◌≡◌ {A = ℕ} 0 5 = sym zero_is ∙ five in cc);
-  },
-)
-fault_reaches words read faults.Wrong result status failed old new is named help wrong (two_is, told) = inr (
-  (λ six. absurd (let bad : ◌≡◌ {A = ℕ} 2 6 = sym two_is ∙ six in cc)),
-  record {
-    served = λ order so. let given : GivesOrder order (Err faults.Wrong) = subst (GivesOrder order) is (named order so) in absurd given;
-    refused = λ are other. (two_is, told);
-    helped = λ asks. let given : GivesHelp (Err faults.Wrong) = subst GivesHelp is (help asks) in absurd given;
-    memory = λ five. absurd (let bad : ◌≡◌ {A = ℕ} 2 5 = sym two_is ∙ five in cc);
-  },
-)
-fault_reaches words read faults.NoMemory result status failed old new is named help wrong (five_is, told) = inr (
-  (λ six. five_six (status_code status) five_is six),
-  record {
-    served = λ order so other. absurd (other five_is);
-    refused = λ are other. absurd (other five_is);
-    helped = λ asks other. absurd (other five_is);
-    memory = λ five. ([], told, inl refl);
-  },
-)
 
 -- ---- the whole program
 

@@ -8,11 +8,9 @@ use Rattle.std.proofs.lemmas.Option.{slice_get-get_or, slice_get_within}
 use Rattle.plant.specs.declared.plant.PlantFields.{PlantFields}
 use Rattle.run_model.specs.declared.step.Step.{Step}
 use Rattle.run_model.specs.declared.step.Step.TheVariants as steps
-use Rattle.live_core.specs.declared.core_fault.ResliceFault.{ResliceFault}
 use Rattle.run_receipts.specs.declared.run_fault.RunFault.TheVariants as faults
 use Rattle.run_audit.specs.Outcome.{ticks_of}
 use Rattle.run_plan.specs.Spending.{IsSpentAt, IsFirstSpent, is_reslice, before_reslice}
-use Rattle.plant_workers.specs.Faulting.{IsResliceFault, IsFault}
 use Rattle.script_format.specs.declared.script.LineStep.{LineStep}
 use Rattle.script_format.specs.Script.{steps_without_numbers}
 use Rattle.plant_script.specs.OnThreads.{ReportsLine, ReportsPlace, ReportsSpent, ReportsCore}
@@ -29,15 +27,6 @@ step_within lines place step is =
 pub place_reported : (lines : List LineStep) (place : ℕ) (other : LineStep) (status : ℕ) (text : List ℕ) → place < length lines
     → ReportsLine (get_or lines place other).number status text → ReportsPlace lines place status text
 place_reported lines place other status text lt reports = record { line = get_or lines place other; line_is = slice_get-get_or lines place other lt; reports = reports }
-
--- the new slices that are refused are of a line
-pub resliced_within : (plant : PlantFields) (lines : List LineStep) (at : ℕ) (fault : ResliceFault) → IsResliceFault plant (steps_without_numbers lines) at fault → at < length lines
-resliced_within plant lines at fault refused = step_within lines at (steps.Reslice refused.refused.from refused.refused.rows) refused.refused.step_is
-
--- they are refused for a fault of these books
-pub reslice_of : (plant : PlantFields) (lines : List LineStep) (at : ℕ) (fault : ResliceFault) → IsFault plant (steps_without_numbers lines) (faults.ResliceRefused at fault) → IsResliceFault plant (steps_without_numbers lines) at fault
-reslice_of plant lines at fault (inl walk) = absurd walk
-reslice_of plant lines at fault (inr run) = run.1
 
 -- ---- the first Tick that finds its operator's frame numbers spent
 
@@ -89,11 +78,6 @@ pub first_of_all : (plant : PlantFields) (all : List Step) (place : ℕ) → IsF
 first_of_all plant all place first = first_taken plant all (prefix_len (λ step. not (is_reslice step)) all) place first
 
 -- ---- what is reported
-
--- of these steps or of those that were handed in
-pub spent_reported : (plant : PlantFields) (lines : List LineStep) (all : List Step) (place : ℕ) (status : ℕ) (text : List ℕ) → all ≡ steps_without_numbers lines → IsFirstSpent plant all place
-    → ReportsPlace lines place status text → ReportsCore plant lines status text
-spent_reported plant lines all place status text are first reports = inl (place, record { first = subst (λ (s : List Step). IsFirstSpent plant s place) are first; reports = reports })
 
 pub first_within : (plant : PlantFields) (lines : List LineStep) (all : List Step) (place : ℕ) → all ≡ steps_without_numbers lines → IsFirstSpent plant all place → place < length lines
 first_within plant lines all place are first = step_within lines place (steps.Tick first.op) (ap (λ (s : List Step). slice_get s place) (sym are) ∙ first.spent.step_is)

@@ -1,5 +1,5 @@
 -- What is reported of a run on threads.
-use Rattle.std.proofs.Common.{◌≡◌, inl, inr, ℕ, List, Result, Ok, Err, sym, ap, subst, ◌∙◌}
+use Rattle.std.proofs.Common.{◌≡◌, inl, inr, ℕ, List, Result, Ok, Err, ap, subst, ◌∙◌}
 use Rattle.plant.specs.declared.plant.PlantFields.{PlantFields}
 use Rattle.operator_model.specs.Replay.{BookView}
 use Rattle.operator_book.specs.declared.book.BookFault.TheVariants.{FramesSpent}
@@ -76,10 +76,3 @@ fault_run plant shown lines these steps result fault answer same are are_steps r
     (subst (λ (s : List Step). IsFault plant s fault) are_steps comes)
     (subst (λ (l : List LineStep). ReportsFault plant l fault (status_code answer.status) answer.text.items) are
     (subst (λ (p : PlantFields). ReportsFault p these fault (status_code answer.status) answer.text.items) same told))
-
--- the fault comes of the steps of the script's lines
-pub fault_comes : (plant shown : PlantFields) (lines these : List LineStep) (steps : List Step) (fault : RunFault) → shown ≡ plant → these ≡ lines → steps ≡ steps_without_numbers lines
-    → IsFault plant steps fault → IsFault shown (steps_without_numbers these) fault
-fault_comes plant shown lines these steps fault same are are_steps comes =
-    subst (λ (p : PlantFields). IsFault p (steps_without_numbers these) fault) (sym same)
-    (subst (λ (l : List LineStep). IsFault plant (steps_without_numbers l) fault) (sym are) (subst (λ (s : List Step). IsFault plant s fault) are_steps comes))

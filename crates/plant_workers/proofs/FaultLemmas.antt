@@ -1,21 +1,11 @@
 -- What a run on threads is refused for.
-use Rattle.std.proofs.Common.{◌≡◌, ◌⊎◌, inl, inr, refl, List, Option, Some, None, option_map, Result, Ok, Err}
-use Rattle.std.specs.Prelude.{IfErr}
+use Rattle.std.proofs.Common.{◌≡◌, Option, Some, None, option_map, Err}
 use Rattle.std.proofs.lemmas.Option.{none-some}
 use Rattle.live_core.specs.declared.core_fault.CoreFault.{CoreFault}
 use Rattle.live_core.specs.declared.core_fault.CoreFault.TheVariants as core_faults
 use Rattle.live_core.specs.declared.core_fault.ResliceFault.{ResliceFault}
 use Rattle.live_core.specs.Faults.{IsReported}
-use Rattle.plant.specs.declared.plant.PlantFields.{PlantFields}
-use Rattle.run_model.specs.declared.step.Step.{Step}
-use Rattle.run_receipts.specs.declared.run_fault.RunFault.{RunFault}
-use Rattle.run_plan.specs.Serving.{IsServable}
-use Rattle.plant_workers.specs.Faulting.{IsResliceTold, IsRunFault, IsFault}
-
--- the fault of a run whose steps are served is one of a run
-pub of_served : {T : Type 0} (plant : PlantFields) (all : List Step) (result : Result T RunFault) → IsServable plant all → IfErr result (IsRunFault plant all) → IfErr result (IsFault plant all)
-of_served plant all (Ok x) served is = tt
-of_served plant all (Err fault) served is = inr (served, is)
+use Rattle.plant_workers.specs.Faulting.{IsResliceTold}
 
 -- what is told of slices is the fault that they have
 pub told_of : (fault : CoreFault) (found : Option ResliceFault) → IsReported {A = Unit {0}} (Err fault) (option_map (λ f. core_faults.Reslice f) found) → IsResliceTold fault found

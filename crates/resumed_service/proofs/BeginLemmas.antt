@@ -38,14 +38,6 @@ goes_on text plant saved head is = subst (λ (b : Bool). MatchBool b (GoesOnFrom
 pub anew : (text : List ℕ) (plant : PlantFields) (saved : Snapshot) → is_snapshot_head text ≡ false → BeginsAnew text plant saved → IsBeginning text plant saved
 anew text plant saved head is = subst (λ (b : Bool). MatchBool b (GoesOnFrom text plant saved) (BeginsAnew text plant saved)) (sym head) is
 
--- a fault of the text, and one of the states, are faults of the beginning
-pub text_fault : (text : List ℕ) (fault : BeginFault) → IsTextFault text fault → IsBeginFault text fault
-text_fault text NotText is = is
-text_fault text (InvalidSnapshot number wrong) is = is
-text_fault text (InvalidPlant why) is = is
-text_fault text (NotRestored why) is = absurd is
-text_fault text NoMemory is = tt
-
 pub state_fault : (text : List ℕ) (plant : PlantFields) (saved : Snapshot) (fault : BeginFault) → IsBeginning text plant saved → IsRestoringFault plant saved fault → IsBeginFault text fault
 state_fault text plant saved NotText begins is = absurd is
 state_fault text plant saved (InvalidSnapshot number wrong) begins is = absurd is

@@ -6,10 +6,8 @@ use Rattle.std.specs.Str.Parse.{ParsesUnsigned}
 use Rattle.std.proofs.lemmas.Str.{IsUtf8-from_ascii}
 use Rattle.std.proofs.lemmas.Fmt.{IsAscii-decimal, parse-decimal}
 use Rattle.std.specs.Io.KnownBytes.{Appends}
-use Rattle.grant_policy.specs.declared.policy.Policy.{Policy}
 use Rattle.plant.specs.declared.plant.PlantFields.{PlantFields}
 use Rattle.plant.specs.Plant.{IsPlant}
-use Rattle.operator_model.specs.State.{OperatorState}
 use Rattle.run_model.specs.IsStateAfter.{CoreView}
 use Rattle.line_service.specs.Bytes.{WhereKnown}
 use Rattle.line_service.specs.Lines.{lines_left}
@@ -18,8 +16,8 @@ use Rattle.snapshot_format.specs.declared.saved.Snapshot.{Snapshot}
 use Rattle.snapshot_format.specs.States.{states_of}
 use Rattle.plant_restart.specs.declared.fault.RestoreFault.{RestoreFault}
 use Rattle.plant_restart.specs.declared.fault.RestoreFault.TheVariants as restore
-use Rattle.plant_restart.specs.declared.fault.RestartFault.TheVariants.{RankingsMismatch, State, Core, NoMemory}
-use Rattle.plant_restart.specs.Restarted.{IsRestarted, IsRestoreFault}
+use Rattle.plant_restart.specs.declared.fault.RestartFault.TheVariants.{NoMemory}
+use Rattle.plant_restart.specs.Restarted.{IsRestarted}
 use Rattle.line_service.specs.declared.line_break.LineBreak.{LineBreak}
 use Rattle.resumed_service.specs.declared.new_frame_fault.NewFrameFault.{NewFrameFault}
 use Rattle.resumed_service.specs.declared.new_frame_fault.NewFrameFault.TheVariants as faults
@@ -54,17 +52,6 @@ other_number line digits r number to is parses gives other names =
 
 pub line_is : (bytes line : List ℕ) (is_long : Bool) → is_long ≡ false → IsHeld bytes is_long line → bytes ≡ line
 line_is bytes line is_long whole held = (subst (λ (long : Bool). IsHeld bytes long line) whole held).0
-
--- ---- why a plant does not start
-
--- a fault that is not about rankings holds with the right ones too
-pub not_started : (plant : PlantFields) (policies : List Policy) (frame : ℕ) (states : List (List ℕ × OperatorState)) (why : RestoreFault) → why ≢ restore.Restart RankingsMismatch → why ≢ restore.Restart NoMemory
-    → IsRestoreFault plant policies frame states why → IsStartRefusal plant frame states (faults.NotRestored why)
-not_started plant policies frame states (restore.UnknownOperator name) ranked other is = (is, other)
-not_started plant policies frame states (restore.Restart RankingsMismatch) ranked other is = absurd (ranked refl)
-not_started plant policies frame states (restore.Restart (State op why)) ranked other is = (is, other)
-not_started plant policies frame states (restore.Restart (Core why)) ranked other is = (is, other)
-not_started plant policies frame states (restore.Restart NoMemory) ranked other is = absurd (other refl)
 
 -- ---- the answer
 

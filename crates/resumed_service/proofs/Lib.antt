@@ -1,5 +1,4 @@
 pub mod BeginLemmas
-pub mod ReadLemmas
 pub mod ItemLemmas
 pub mod PeriodLemmas
 pub mod PlantFileLemmas

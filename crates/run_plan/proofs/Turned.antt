@@ -1,5 +1,5 @@
 -- Turns and courses, step by step.
-use Rattle.std.proofs.Common.{◌≡◌, ℕ, ◌+◌, ◌<◌, ◌≤◌, List, [], ◌∷◌, ◌++◌, length, take, Option, Some, None, ◌⊎◌, inl, inr, refl, sym, ap, ◌∙◌, subst, arith}
+use Rattle.std.proofs.Common.{◌≡◌, ℕ, ◌+◌, ◌<◌, ◌≤◌, List, [], ◌∷◌, ◌++◌, length, take, Option, Some, ◌⊎◌, inl, inr, refl, sym, ap, ◌∙◌, subst, arith}
 use Rattle.std.specs.Prelude.{slice_get, slice_set}
 use Rattle.std.proofs.lemmas.Bool.{cases_eq}
 use Rattle.std.proofs.lemmas.List.{length-set}
@@ -14,7 +14,7 @@ use Rattle.run_model.proofs.Entries.{get_same, get_other, same_at}
 use Rattle.run_audit.proofs.Whose.{others_none}
 use Rattle.run_plan.specs.declared.turns.Course.{Course}
 use Rattle.run_audit.specs.Taken.{waiting_operator}
-use Rattle.run_plan.specs.Turns.{IsDueAt, IsTurn, AreTurns}
+use Rattle.run_plan.specs.Turns.{IsDueAt, IsTurn}
 use Rattle.run_plan.specs.Courses.{IsCourse, IsOwnTurn, IsNewCourse, AreNewCourses, AreCourses}
 use Rattle.run_plan.proofs.Courses.{get_front, get_last, length_end, course_none}
 
@@ -101,21 +101,6 @@ module _ (plant : PlantFields) (before : List Step) (step : Step) where
     none = λ never. absurd (none-some op (sym never ∙ waits));
   }
 
-  pub stranger_is_turn : (op : ℕ) → waiting_operator plant step ≡ Some op → length plant.rows ≤ op → (turn : ℕ) → IsTurn plant before step turn
-  stranger_is_turn op waits past turn = record {
-    due = λ i row also here.
-        let same : op ≡ i = same_Some op i (sym waits ∙ also) in
-        let within = slice_get_within plant.rows i row here in
-        absurd (omega (arith, past, within, same));
-    none = λ never. absurd (none-some op (sym never ∙ waits));
-  }
-
-  pub none_is_turn : waiting_operator plant step ≡ None → IsTurn plant before step 0
-  none_is_turn never = record {
-    due = λ i row also here. absurd (none-some i (sym never ∙ also));
-    none = λ _. refl;
-  }
-
 -- ---- all steps
 -- the first steps have their turns, and the operators have come as far as they lead
 pub record HaveTurns (plant : PlantFields) (all : List Step) (at : ℕ) (courses : List Course) (turns : List ℕ) : Type 0 where
@@ -149,14 +134,6 @@ none_done row op course is = record {
 }
 
 module _ (plant : PlantFields) (all : List Step) where
-  pub no_turns : (courses : List Course) → AreNewCourses (length plant.rows) courses → HaveTurns plant all 0 courses []
-  no_turns courses new = record {
-    courses_are = record { one_each = new.one_each; each = λ op row course here there. none_done row op course (new.each op course there) };
-    within = omega arith;
-    one_each = refl;
-    each = λ k step turn here there. absurd (none-some turn there);
-  }
-
   pub turn_more : (at : ℕ) (courses new : List Course) (turns : List ℕ) (turn : ℕ) → at < length all → HaveTurns plant all at courses turns → AreCourses plant (take (at + 1) all) new
       → ((step : Step) → slice_get all at ≡ Some step → IsTurn plant (take at all) step turn) → HaveTurns plant all (at + 1) new (turns ++ turn ∷ [])
   turn_more at courses new turns turn lt have are is = record {
@@ -175,9 +152,3 @@ module _ (plant : PlantFields) (all : List Step) where
           let long = length_end turns turn in
           let within = slice_get_within (turns ++ turn ∷ []) k other there in
           have.each k step other here (sym (get_front turns (turn ∷ []) k (omega (arith, within, long, ne, have.one_each))) ∙ there)
-
-  pub all_turns : (at : ℕ) (courses : List Course) (turns : List ℕ) → length all ≤ at → HaveTurns plant all at courses turns → AreTurns plant all turns
-  all_turns at courses turns le have = record {
-    one_each = omega (arith, le, have.within, have.one_each);
-    each = have.each;
-  }

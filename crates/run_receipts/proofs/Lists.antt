@@ -33,11 +33,6 @@ at_place [] i x d e = cc
 at_place (y ∷ ys) zero x d e = same_Some y x e
 at_place (y ∷ ys) (suc i) x d e = at_place ys i x d e
 
-pub map_at : {X Y : Type 0} (f : X → Y) (xs : List X) (i : ℕ) (y : Y) (d : X) → slice_get (map f xs) i ≡ Some y → f (get_or xs i d) ≡ y
-map_at f [] i y d e = cc
-map_at f (x ∷ xs) zero y d e = same_Some (f x) y e
-map_at f (x ∷ xs) (suc i) y d e = map_at f xs i y d e
-
 pub at_map : {X Y : Type 0} (f : X → Y) (xs : List X) (i : ℕ) (d : X) → i < length xs → slice_get (map f xs) i ≡ Some (f (get_or xs i d))
 at_map f [] i d lt = absurd (omega arith)
 at_map f (x ∷ xs) zero d lt = refl

@@ -74,10 +74,6 @@ count_end p xs i a b past e =
     let none : count_by p (drop i xs) ≡ 0 = ap (count_by p) (drop_of_length-le xs past) in
     omega (arith, none, e)
 
--- a capped count tells of one
-pub one_if : (a b : ℕ) → min a 255 ≡ min b 255 → a ≡ 1 → b ≡ 1
-one_if a b e f = omega (arith, e, f)
-
 pub none_match : {X : Type 0} {A : Type 0} (B : X → Type 0) (o : Option X) → o ≡ None → A → MatchOption o A B
 none_match {X} {A} B o e a = subst (λ (r : Option X). MatchOption r A B) (sym e) a
 

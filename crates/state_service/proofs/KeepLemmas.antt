@@ -4,12 +4,11 @@ use Rattle.std.specs.declared.alloc.Global.{Global}
 use Rattle.std.proofs.lemmas.List.{length-map}
 use Rattle.line_journal.specs.Found.{texts}
 use Rattle.plant.specs.declared.plant.PlantFields.{PlantFields}
-use Rattle.run_model.specs.IsStateAfter.{CoreView}
 use Rattle.snapshot_format.specs.declared.saved.Snapshot.{Snapshot}
 use Rattle.line_journal.specs.Device.{LeavesOnly, Only, Elapses}
 use Rattle.line_journal.specs.Journal.{JournalContent, journal_content, with_lines, fresh, IsBeforeOrAfter}
 use Rattle.durable_service.specs.Durable.{SaysState, StandsForState, IsBegunWith}
-use Rattle.state_service.specs.Serving.{LeadsHere, HasLines, HasNoFewer, LosesNoLine}
+use Rattle.state_service.specs.Serving.{HasLines, HasNoFewer, LosesNoLine}
 
 -- more lines
 pub lines_added : (least : ℕ) (content later : Option JournalContent) (lines : List (List ℕ)) → HasNoFewer least content → later ≡ with_lines lines content → HasNoFewer least later
@@ -48,19 +47,6 @@ state_put least count plant saved snapshot content le says is = record {
 -- the one or the other
 pub before_or_after : (P : Option JournalContent → Type 0) (before later : Option JournalContent) → P before → P later → (c : List ℕ) → IsBeforeOrAfter before later c → P (journal_content c)
 before_or_after P before later one other c is = ⊎_elim (λ same. subst P (sym same) one) (λ same. subst P (sym same) other) is
-
--- a journal that leads to a core
-pub leading_has : (content : Option JournalContent) (live : CoreView) (count : ℕ) → LeadsHere content live count → HasLines content count
-leading_has content live count (plant, leading) =
-    let leads = leading.leads in
-    record {
-      before = leads.before;
-      plant = plant;
-      saved = leads.saved;
-      lines = leading.stored.lines;
-      stands = record { snapshot = leading.stored.snapshot; stands_for = leading.stands_for; says = leads.state };
-      count_is = leads.count_is;
-    }
 
 -- the lines of a journal with those before its state
 pub stands_has : (content : Option JournalContent) (count : ℕ) (plant : PlantFields) (saved : Snapshot) (lines : List (Vec ℕ Global)) → StandsForState content count plant saved (texts lines)

@@ -1,5 +1,5 @@
 -- Lines that are taken of an input, a byte at a time.
-use Rattle.std.proofs.Common.{◌≡◌, ◌≢◌, ◌<◌, ◌≤◌, ℕ, zero, suc, ◌==◌, Bool, true, false, List, [], ◌∷◌, ◌++◌, length, take, drop, map, Vec, Option, Some, None, IfSome, ⊎_elim, refl, sym, ap, subst, ◌∙◌, arith, append_assoc, append-nil, take-append-drop}
+use Rattle.std.proofs.Common.{◌≡◌, ◌≢◌, ◌<◌, ◌≤◌, ℕ, zero, suc, ◌==◌, Bool, true, false, List, [], ◌∷◌, ◌++◌, length, take, drop, map, Vec, Option, Some, None, IfSome, ⊎_elim, refl, sym, ap, subst, ◌∙◌, arith, append_assoc, take-append-drop}
 use Rattle.std.specs.declared.alloc.Global.{Global}
 use Rattle.std.specs.Io.{StartsWith}
 use Rattle.std.specs.Io.KnownBytes.{Keeps}
@@ -9,7 +9,6 @@ use Rattle.std.proofs.lemmas.Bool.Decides.{nat_tests}
 use Rattle.script_format.specs.Lines.{parts_from}
 use Rattle.line_service.specs.Bytes.{WhereKnown}
 use Rattle.line_journal.specs.Found.{texts}
-use Rattle.state_service.specs.Commands.{is_command, AreNoCommands}
 use Rattle.state_service.specs.declared.reading.BatchEnd.{BatchEnd}
 use Rattle.state_service.specs.Taking.{kept_line, line_at_end, AreTaken, AreAllTaken, AreTakenToEnd, AreTakenSoFar, IsAfterBatch}
 
@@ -70,16 +69,6 @@ module _ (input rest : List ℕ) (byte : ℕ) (taken : List (List ℕ)) (part : 
     part_is = so_far.part_is ∙ sym (kept_full 4097 so_far.begun byte (subst (λ (p : List ℕ). 4097 ≤ length p) so_far.part_is full));
   }
 
--- ---- lines that are no commands
-
-none_append : (xs ys : List (List ℕ)) → AreNoCommands xs → AreNoCommands ys → AreNoCommands (xs ++ ys)
-none_append [] ys h k = k
-none_append (x ∷ xs) ys h k = (h.0, none_append xs ys h.1 k)
-
-pub none_more : (lines new : List (Vec ℕ Global)) (line : Vec ℕ Global) → new ≡ lines ++ line ∷ [] → is_command line.items ≡ false → AreNoCommands (texts lines) → AreNoCommands (texts new)
-none_more lines new line is plain none =
-    subst (λ (ls : List (List ℕ)). AreNoCommands ls) (sym (texts_more lines new line is)) (none_append (texts lines) (line.items ∷ []) none (plain, tt))
-
 -- ---- the end of an input
 
 taken_none : (n : ℕ) (line : List ℕ) → 0 < n → take n line ≡ [] → line ≡ []
@@ -93,20 +82,6 @@ whole_at_end [] some = absurd (some refl)
 whole_at_end (b ∷ line) some = refl
 
 module _ (input part : List ℕ) (before : List (List ℕ)) where
-  -- nothing follows the last line feed
-  pub ended_empty : AreTakenSoFar input [] before part → part ≡ [] → AreAllTaken input before
-  ended_empty so_far none = ⊎_elim by (λ (end : AreTakenToEnd input [] before part). end.all) so_far
-    where
-      by : AreTaken input [] before part → AreAllTaken input before
-      by taken =
-          let empty : taken.begun ≡ [] = taken_none 4097 taken.begun (omega arith) (sym taken.part_is ∙ none) in
-          record {
-            whole = taken.whole;
-            last = taken.begun;
-            lines_are = taken.lines_are;
-            taken_are = taken.taken_are ∙ ap (λ (ls : List (List ℕ)). map kept_line ls) (sym (ap (λ (l : List ℕ). taken.whole ++ line_at_end l) empty ∙ append-nil taken.whole));
-          }
-
   -- what follows it is a line
   pub ended_line : AreTakenSoFar input [] before part → part ≢ [] → AreAllTaken input (before ++ part ∷ [])
   ended_line so_far some = ⊎_elim by (λ (end : AreTakenToEnd input [] before part). absurd (some end.no_part)) so_far

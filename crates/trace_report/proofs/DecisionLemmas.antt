@@ -1,5 +1,5 @@
 -- What decides a message, by what it was read as, and a step, by whose message it handles.
-use Rattle.std.proofs.Common.{◌≡◌, ◌≢◌, ℕ, List, Option, Some, None, option_map, Result, Ok, Err, IfOk, refl, sym, ap, ◌∙◌, subst}
+use Rattle.std.proofs.Common.{◌≡◌, ℕ, List, Option, Some, None, option_map, Result, IfOk, refl, sym, ap, ◌∙◌, subst}
 use Rattle.std.specs.Prelude.{slice_get}
 use Rattle.std.proofs.lemmas.Option.{slice_get-map}
 use Rattle.std.specs.declared.alloc.AllocError.{AllocError}
@@ -7,10 +7,6 @@ use Rattle.dsx_messages.specs.declared.message.Message.{Message}
 use Rattle.dsx_messages.specs.declared.message.Message.TheVariants as messages
 use Rattle.dsx_messages.specs.declared.fault.MessageFault.{MessageFault}
 use Rattle.dsx_messages.specs.declared.fault.MessageFault.TheVariants as faults
-use Rattle.lists.specs.Results.{Fails}
-use Rattle.dsx_messages.specs.Reading.{message_cause}
-use Rattle.check_table.specs.Messages.{Reading}
-use Rattle.check_explainer.specs.Messages.{HasNoCheck}
 use Rattle.operator_model.specs.Replay.{BookView}
 use Rattle.operator_model.specs.State.{Operator, operator}
 use Rattle.run_model.specs.declared.step.Step.{Step}
@@ -19,27 +15,7 @@ use Rattle.run_model.specs.IsStateAfter.{CoreView}
 use Rattle.live_core.specs.GoingOn.{forgotten, IsOf}
 use Rattle.trace_report.specs.declared.decision.Decision.{Decision}
 use Rattle.trace_report.specs.declared.seen.StepReport.{StepReport}
-use Rattle.trace_report.specs.Decision.{AtHand, IsAck, IsDecision, IsDecisionOf, first_message, message_of_step, message_at_hand}
-
--- a fault that is read, other than want of memory
-pub fault_is_read : (fault : MessageFault) (said : Reading) → Fails (message_cause fault) said → fault ≢ faults.NoMemory → said ≡ Err fault
-fault_is_read faults.Empty said fails other = fails
-fault_is_read (faults.NotOurs mtype) said fails other = fails
-fault_is_read faults.Short said fails other = fails
-fault_is_read (faults.Tlv tid kind id fault) said fails other = fails
-fault_is_read (faults.LeftOut tid kind found) said fails other = fails
-fault_is_read faults.NoMemory said fails other = absurd (other refl)
-
--- what has no check is an acknowledgement, where memory was not wanting
-pub ack_has_none : (reading : Reading) → HasNoCheck reading → reading ≢ Err faults.NoMemory → IsAck reading
-ack_has_none (Ok (messages.Ack kind tid code)) none read = (kind, tid, code, refl)
-ack_has_none (Ok (messages.Request request)) none read = absurd none
-ack_has_none (Err faults.NoMemory) none read = absurd (read refl)
-ack_has_none (Err faults.Empty) none read = absurd none
-ack_has_none (Err (faults.NotOurs mtype)) none read = absurd none
-ack_has_none (Err faults.Short) none read = absurd none
-ack_has_none (Err (faults.Tlv tid kind id fault)) none read = absurd none
-ack_has_none (Err (faults.LeftOut tid kind found)) none read = absurd none
+use Rattle.trace_report.specs.Decision.{AtHand, IsDecision, IsDecisionOf, first_message, message_of_step, message_at_hand}
 
 -- ---- a step
 
