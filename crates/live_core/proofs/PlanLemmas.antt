@@ -32,8 +32,8 @@ use Rattle.live_core.proofs.GoLemmas.{acts_on, acts_step, stepped_on}
 -- what a desk plans is the plan of the core
 pub planned_if : {E : Type 0} (result : Result ActPlan E) (core : CoreView) (op : ℕ) (action : Action) (b : BookView) → IsOfAStep core.plant op action → slice_get core.books op ≡ Some b
     → IfOk result (λ act. act.op ≡ op) → OnOk result (IsAllowed (operator_of_book b) action) → IfOk result (λ act. IsPlanOf (operator_of_book b) action act.plan)
-    → IfOk result (λ act. IsCommittable (operator_of_book b) act.plan) → IfOk result (λ act. act.frame ≡ slice_get (frames_of act.plan.outputs.items) 0) → IfOk result (IsActPlan core op action)
-planned_if (Ok act) core op action b goal there same allowed plan may frame = record {
+    → IfOk result (λ act. IsCommittable (operator_of_book b) act.plan) → IfOk result (IsActPlan core op action)
+planned_if (Ok act) core op action b goal there same allowed plan may = record {
   of_step = goal;
   op_is = same;
   book = b;
@@ -41,9 +41,12 @@ planned_if (Ok act) core op action b goal there same allowed plan may frame = re
   allowed = allowed;
   plan_is = plan;
   committable = may;
-  frame_is = frame;
 }
-planned_if (Err e) core op action b goal there same allowed plan may frame = tt
+planned_if (Err e) core op action b goal there same allowed plan may = tt
+
+-- the frame that a plan puts out
+abbrev frame_of : ActPlan → Option (ℕ × ElementsFields)
+frame_of act = slice_get (frames_of act.plan.outputs.items) 0
 
 -- ---- what a plan says of the book at its place
 
@@ -54,7 +57,7 @@ first_only (Some x) xs is few = sym (first_alone xs x (sym is) few)
 record Promises (action : Action) (act : ActPlan) (b : BookView) : Type 0 where
   allowed : IsAllowed (operator_of_book b) action
   book_is : book_of (after_effect (operator_of_book b) act.plan.effect) ≡ went b action
-  frames_are : option_to_list act.frame ≡ frames_of (own_step (operator_of_book b) action).outputs
+  frames_are : option_to_list (frame_of act) ≡ frames_of (own_step (operator_of_book b) action).outputs
   outputs_are : act.plan.outputs.items ≡ (own_step (operator_of_book b) action).outputs
 
 promises : (core : CoreView) (op : ℕ) (action : Action) (act : ActPlan) (b : BookView) → IsActPlan core op action act → slice_get core.books op ≡ Some b → Promises action act b
@@ -63,7 +66,7 @@ promises core op action act b is there =
     (record {
       allowed = is.allowed;
       book_is = ap (λ (s : OperatorState). let x : BookView = record { row = is.book.row; consts = is.book.consts; state = s; history = [] } in x) is.plan_is.state;
-      frames_are = first_only act.frame _ (is.frame_is ∙ ap (λ (os : List Output). slice_get (frames_of os) 0) is.plan_is.outputs) (one_frame is.book.consts is.book.row is.book.state action);
+      frames_are = first_only (frame_of act) _ (ap (λ (os : List Output). slice_get (frames_of os) 0) is.plan_is.outputs) (one_frame is.book.consts is.book.row is.book.state action);
       outputs_are = is.plan_is.outputs;
     })
 
@@ -97,7 +100,7 @@ module _ (plant : PlantFields) (gathering : Gathering) (lives lives' : List Book
   HasBook = lives' ≡ slice_set lives act.op (book_of (after_effect (operator_of_book b) act.plan.effect))
 
   abbrev HasQueue : Type 0
-  HasQueue = queues' ≡ slice_set queues act.op (waiting ++ option_to_list act.frame)
+  HasQueue = queues' ≡ slice_set queues act.op (waiting ++ option_to_list (frame_of act))
 
   committed : (action : Action) → IsActPlan old act.op action act → HasBook → HasQueue → GoesOn (Acts act.op action) old new (outputs_under act.op act.plan.outputs.items)
   committed action is books qs =

@@ -4,12 +4,11 @@ use Rattle.operator_model.specs.declared.action.Action.{Action}
 use Rattle.operator_model.specs.Machine.{IsAllowed}
 use Rattle.operator_model.specs.Replay.{BookView, operator_of_book}
 use Rattle.operator_book.specs.Planned.{IsPlanOf, IsCommittable}
-use Rattle.run_model.specs.IsStateAfter.{CoreView, frames_of}
+use Rattle.run_model.specs.IsStateAfter.{CoreView}
 use Rattle.live_core.specs.declared.act_plan.ActPlan.{ActPlan}
 use Rattle.live_core.specs.Reachable.{IsOfAStep}
 
--- it is the plan of this action of the operator at this place: of its machine's outputs and its state after it, and of the frame
--- that is among the outputs
+-- it is the plan of this action of the operator at this place: of its machine's outputs and its state after it
 pub record IsActPlan (core : CoreView) (op : ℕ) (action : Action) (act : ActPlan) : Type 0 where
   pub of_step : IsOfAStep core.plant op action
   pub op_is : act.op ≡ op
@@ -18,7 +17,6 @@ pub record IsActPlan (core : CoreView) (op : ℕ) (action : Action) (act : ActPl
   pub allowed : IsAllowed (operator_of_book book) action
   pub plan_is : IsPlanOf (operator_of_book book) action act.plan
   pub committable : IsCommittable (operator_of_book book) act.plan
-  pub frame_is : act.frame ≡ slice_get (frames_of act.plan.outputs.items) 0
 
 -- it is the plan of some action
 abbrev pub IsSomeActPlan : CoreView → ActPlan → Type 0

@@ -5,15 +5,13 @@ ghost use Rattle.std.specs.Prelude.{◌≡◌};
 use operator_book::Plan;
 use operator_model::Output;
 use plant::Op;
-use slice_scheduler::Elements;
 
-/// What an action of an operator will do: the plan of its machine, and the frame that will wait to be collected. All memory for
-/// the outputs is taken. The core changes when the plan is committed.
+/// What an action of an operator will do: the plan of its machine. All memory for the outputs is taken. The core changes when
+/// the plan is committed.
 #[derive(Drop)]
 pub struct ActPlan {
     pub(crate) op: Op,
     pub(crate) plan: Plan,
-    pub(crate) frame: Option<(u32, Elements)>,
 }
 
 impl ActPlan {

@@ -63,6 +63,7 @@ fn reserve_for(
 }
 
 /// Returns a copy of the first frame among outputs.
+#[inline(always)]
 fn frame_copy(alloc: Global, outputs: &[Output]) -> Result<Option<(u32, Elements)>, AllocError>
     ensures { IfOk result (λ frame. frame ≡ slice_get (frames_of outputs.now) 0) }
 {
@@ -84,50 +85,37 @@ impl LiveSlot {
         ensures op { IfOk result (λ act. act.op ≡ op) }
         ensures plan { IfOk result (λ act. IsPlanOf self.now.live.sound action act.plan) }
         ensures committable { IfOk result (λ act. IsCommittable self.now.live.sound act.plan) }
-        ensures frame { IfOk result (λ act. act.frame ≡ slice_get (frames_of act.plan.outputs.items) 0) }
         ensures allowed { OnOk result (IsAllowed self.now.live.sound action) }
         ensures fault { IsReported result (act_fault op action (Some (slot_book self.now))) }
     {
         if self.live.is_spent(&action) {
             return Err(CoreFault::Book(BookFault::FramesSpent));
         }
-        match self.plan_allowed(alloc, op, action) {
-            Ok(act) => Ok(act),
+        match self.live.plan_allowed(alloc, action) {
+            Ok(plan) => Ok(ActPlan { op, plan }),
             Err(AllocError) => Err(CoreFault::NoMemory),
         }
     }
 
-    /// Plans an allowed action of the operator at this place.
-    #[inline(always)]
-    fn plan_allowed(&self, alloc: Global, op: Op, action: Action) -> Result<ActPlan, AllocError>
-        requires { IsAllowed self.now.live.sound action }
-        ensures op { IfOk result (λ act. act.op ≡ op) }
-        ensures plan { IfOk result (λ act. IsPlanOf self.now.live.sound action act.plan) }
-        ensures committable { IfOk result (λ act. IsCommittable self.now.live.sound act.plan) }
-        ensures frame { IfOk result (λ act. act.frame ≡ slice_get (frames_of act.plan.outputs.items) 0) }
-    {
-        let plan = self.live.plan_allowed(alloc, action)?;
-        let frame = frame_copy(alloc, plan.outputs())?;
-        Ok(ActPlan { op, plan, frame })
-    }
-
-    /// Commits the plan of an action, and appends its outputs. Its frame waits. If memory runs out nothing changes.
+    /// Commits the plan of an action, and appends its outputs. A copy of its frame waits. If memory runs out nothing changes.
     #[inline(always)]
     pub(crate) fn commit(
         &mut self,
+        alloc: Global,
         op: Op,
         plan: Plan,
-        frame: Option<(u32, Elements)>,
         outs: &mut Vec<Out>,
     ) -> Result<(), AllocError>
         requires { IsCommittable self.old.live.sound plan }
         ensures book { OnOk result (self.new.live.sound ≡ after_effect self.old.live.sound plan.effect) }
-        ensures waiting { OnOk result (slot_waiting self.new ≡ slot_waiting self.old ++ option_to_list frame) }
+        ensures waiting { OnOk result (slot_waiting self.new
+            ≡ slot_waiting self.old ++ option_to_list (slice_get (frames_of plan.outputs.items) 0)) }
         ensures outputs { OnOk result (outs.new.items ≡ outs.old.items ++ outputs_under op plan.outputs.items) }
         ensures outs { OnErr result (outs.new.items ≡ outs.old.items) }
         ensures same_book { OnErr result (slot_book self.new ≡ slot_book self.old) }
         ensures same_waiting { OnErr result (slot_waiting self.new ≡ slot_waiting self.old) }
     {
+        let frame = frame_copy(alloc, plan.outputs())?;
         reserve_for(&mut self.waiting, &frame)?;
         outs.reserve(plan.outputs().len())?;
         let outputs = self.live.commit(plan)?;

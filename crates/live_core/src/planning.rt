@@ -46,7 +46,12 @@ impl LiveCore {
     /// Commits the plan of an action, and appends its outputs. If memory runs out nothing changes, and nothing is appended. The
     /// caller knows that the plan was made for the core as it is.
     #[inline(always)]
-    pub fn commit_act(&mut self, act: ActPlan, outs: &mut Vec<Out>) -> Result<(), AllocError>
+    pub fn commit_act(
+        &mut self,
+        alloc: Global,
+        act: ActPlan,
+        outs: &mut Vec<Out>,
+    ) -> Result<(), AllocError>
         requires { IsSomeActPlan (live_view self.old) act }
         // Whatever core with histories goes on as this one, that core acts, with the outputs that are added.
         ensures ok { OnOk result ((op : ℕ) (action : Action) → IsActPlan (live_view self.old) op action act
@@ -57,7 +62,7 @@ impl LiveCore {
     {
         // For the proof: what always holds of `self`.
         self.always();
-        let ActPlan { op, plan, frame } = act;
-        self.desks[op].commit(op, plan, frame, outs)
+        let ActPlan { op, plan } = act;
+        self.desks[op].commit(alloc, op, plan, outs)
     }
 }

@@ -47,7 +47,7 @@ impl LiveCore {
         ensures fault { IsReported result (act_fault op action (slice_get (live_view self.old).books op)) }
     {
         let act = self.plan_act(alloc, op, action)?;
-        match self.commit_act(act, outs) {
+        match self.commit_act(alloc, act, outs) {
             Ok(()) => Ok(()),
             Err(AllocError) => Err(CoreFault::NoMemory),
         }

@@ -41,7 +41,6 @@ module _ (live core : CoreView) (is : IsOf live core) where
         allowed = subst (λ (b : BookView). IsAllowed (operator_of_book b) action) (sym at.2) plan.allowed;
         plan_is = subst (λ (b : BookView). IsPlanOf (operator_of_book b) action act.plan) (sym at.2) plan.plan_is;
         committable = subst (λ (b : BookView). IsCommittable (operator_of_book b) act.plan) (sym at.2) plan.committable;
-        frame_is = plan.frame_is;
       }
 
   -- and back
@@ -54,7 +53,6 @@ module _ (live core : CoreView) (is : IsOf live core) where
     allowed = plan.allowed;
     plan_is = plan.plan_is;
     committable = plan.committable;
-    frame_is = plan.frame_is;
   }
 
   -- ---- faults

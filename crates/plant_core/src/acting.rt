@@ -37,7 +37,7 @@ impl RecordedCore {
         let copies = output_copies(alloc, act.outputs())?;
         let history = &mut self.histories[op];
         history.make_room()?;
-        self.live.commit_act(act, outs)?;
+        self.live.commit_act(alloc, act, outs)?;
         history.push(Entry {
             action,
             outputs: Outputs::from_vec(copies),

@@ -19,7 +19,7 @@ returns-clause-plan g c =
     let did = c.plan.ensures in
     planned_if c.plan.result (live_view core) c.args.op c.args.action (slot_book c.index.result.now) c.requires
     (seen_at slot_book core.desks.items _ c.args.op c.index.result.now (c.len.ensures ∙ core.desks.ok.0) c.if-op-len.false c.index.ensures)
-    did.op did.allowed did.plan did.committable did.frame
+    did.op did.allowed did.plan did.committable
 
 pub returns-clause-fault : goal.returns-clause-fault
 returns-clause-fault g c =
