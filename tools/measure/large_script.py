@@ -1,12 +1,13 @@
 """Writes large inputs of `run`, with which the program is measured.
 
-    tools/measure/large_script operators
+    tools/measure/large_script operators [OPERATORS]
     tools/measure/large_script flows TICKS [FLOWS]
     tools/measure/large_script standing FLOWS ROUNDS
     tools/measure/large_script maps OPERATORS FLOWS TICKS
 
-`operators` has 8 operators with 16 modems each, and a script of 20,000 lines, about one megabyte. Each modem adds a flow, then sends
-bandwidth requests and changes the flow in turn. All frames are ticked after each round.
+`operators` has OPERATORS operators (8 by default, at most 32) with 16 modems each, and a script of 20,000 lines, about one megabyte. Each
+modem adds a flow, then sends bandwidth requests and changes the flow in turn. All frames are ticked after each round. The operators share
+1,024 minislots, 208 elements (160 if there are 32) and 8,000 identifiers, so with more of them fewer flows are admitted.
 
 `flows` has one operator with 1,024 provisioned flows, or FLOWS. As many are active as its 234 elements allow: 117 best effort flows of 2
 elements each, in proportion if there are fewer flows. All of these request more than is granted, and then TICKS frames are ticked. Two
@@ -36,8 +37,8 @@ def change(sfid, tid, kilobits):
     return f"12{tid:04X}18{len(sets) // 2:02X}{sets}"
 
 
-def line(turn, place, modem, address):
-    sfid = 1 + place * 1000 + modem % 13
+def line(turn, first, modem, address):
+    sfid = first + modem % 13
     tid = 100 + turn
     if turn == 0:
         return f"M {address} 0F0001180A010200010601060F0102"
@@ -50,15 +51,18 @@ def line(turn, place, modem, address):
     return f"M {address} {change(sfid, tid, 100_000 + turn * modem)}"
 
 
-def of_operators():
+def of_operators(operators=8):
     text = channel_text(1024, 0, ack_wait=4, hold=2)
-    for place in range(8):
-        identifiers = (1 + place * 1000, 1000 + place * 1000)
-        text += operator_text(f"OP{place + 1}", addresses(place), (place * 128, 128), identifiers, 26, flows=32, transactions=64)
+    minislots, identifiers = 1024 // operators, 8000 // operators
+    # A MAP has at most 240 elements: those of the operators, 2 for each operator, and 3.
+    elements = min(208, 237 - 2 * operators) // operators
+    for place in range(operators):
+        slice_, ids = (place * minislots, minislots), (1 + place * identifiers, (place + 1) * identifiers)
+        text += operator_text(f"OP{place + 1}", addresses(place), slice_, ids, elements, flows=32, transactions=64)
     lines, turn = [], 0
     while len(lines) < LINES:
-        for place in range(8):
-            lines += [line(turn, place, modem, address) for modem, address in enumerate(addresses(place))]
+        for place in range(operators):
+            lines += [line(turn, 1 + place * identifiers, modem, address) for modem, address in enumerate(addresses(place))]
         lines.append("T")
         turn += 1
     return text + "---\n" + "\n".join(lines[:LINES]) + "\n"
@@ -106,8 +110,8 @@ def of_maps(operators, flows, ticks):
 
 def main():
     show_help(__doc__)
-    if sys.argv[1:] == ["operators"]:
-        sys.stdout.write(of_operators())
+    if sys.argv[1:2] == ["operators"] and len(sys.argv) in (2, 3):
+        sys.stdout.write(of_operators(*map(int, sys.argv[2:])))
     elif sys.argv[1:2] == ["flows"] and len(sys.argv) in (3, 4):
         sys.stdout.write(of_flows(*map(int, sys.argv[2:])))
     elif sys.argv[1:2] == ["standing"] and len(sys.argv) == 4:

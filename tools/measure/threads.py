@@ -2,8 +2,9 @@
 
     tools/measure/threads [--program PROGRAM] [INPUT ..]
 
-Without INPUT it measures 20,000 lines on 8 operators, and 110 ticks of one operator with 1,024 flows. The load of a row is
-the system's average of the last minute, taken before its runs: what else the machine did then.
+Without INPUT it measures 20,000 lines on 2, 8 and 32 operators, and 110 ticks of one operator with 1,024 flows. The load of a row is
+the system's average of the last minute, taken before its runs: what else the machine did then. `taskset -c 0,1` in front measures on two
+processors; the number that is printed is of those that the tool may use.
 """
 
 import argparse
@@ -28,10 +29,8 @@ def inputs(paths):
     """Returns each input with its name."""
     if paths:
         return [(path.stem, path.read_bytes()) for path in paths]
-    return [
-        ("20,000 lines, 8 operators", of_operators().encode()),
-        ("110 ticks, 1,024 flows", of_flows(110).encode()),
-    ]
+    scripts = [(f"20,000 lines, {operators} operators", of_operators(operators).encode()) for operators in (2, 8, 32)]
+    return [*scripts, ("110 ticks, 1,024 flows", of_flows(110).encode())]
 
 
 def main():
@@ -39,7 +38,7 @@ def main():
     parser.add_argument("--program", default=PROGRAM)
     parser.add_argument("inputs", nargs="*", type=pathlib.Path)
     options = parser.parse_args()
-    print(f"{os.cpu_count()} processors\n")
+    print(f"{len(os.sched_getaffinity(0))} processors\n")
     print("| input | `run`, seconds | `threads`, seconds | times | load |")
     print("|---|---|---|---|---|")
     for name, data in inputs(options.inputs):
