@@ -27,7 +27,7 @@ use Rattle.line_service.proofs.LeftLemmas.{first_left, none_left, take_next, dro
 
 -- what a run leads to is of its plant
 pub after_plant : (plant : PlantFields) (start : Start) (steps : List Step) (outs : List Out) (live : CoreView) → IsAfterFrom plant start steps outs live → live.plant ≡ plant
-after_plant plant start steps outs live after = sym after.is_of.plant_is ∙ after.reached.plant_is
+after_plant plant start steps outs live after = after.plant_is
 
 -- nothing is done yet
 pub none_done : (plant : PlantFields) (start : Start) (before : List Step) (shown : List Out) (steps : List LineStep) (live : CoreView) (known : Option (List ℕ))

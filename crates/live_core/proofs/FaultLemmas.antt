@@ -21,7 +21,7 @@ use Rattle.live_core.specs.declared.core_fault.ResliceFault.{ResliceFault}
 use Rattle.live_core.specs.declared.core_fault.ResliceFault.TheVariants as found
 use Rattle.live_core.specs.Faults.{act_fault, arrive_fault, collect_fault, step_fault}
 use Rattle.live_core.specs.Reslicing.{is_unfit, least_unfit, least_meeting, first_fault, row_fault, reslice_fault}
-use Rattle.live_core.specs.GoingOn.{forgotten, IsOf}
+use Rattle.live_core.specs.Performing.{forgotten, IsOf}
 
 -- ---- other slices
 

@@ -11,6 +11,7 @@ pub mod DeskLemmas
 pub mod StepLemmas
 pub mod ReachLemmas
 pub mod AlikeLemmas
+pub mod BehindLemmas
 pub mod GoLemmas
 pub mod PlanLemmas
 pub mod LawLemmas

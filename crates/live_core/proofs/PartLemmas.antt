@@ -28,10 +28,9 @@ use Rattle.run_model.specs.Ordered.{target}
 use Rattle.run_model.specs.IsStateAfter.{CoreView}
 use Rattle.live_core.specs.Reachable.{core_of, IsOfAStep}
 use Rattle.live_core.proofs.PlaceLemmas.{seen_at, set_alike}
-use Rattle.live_core.specs.GoingOn.{IsOf, GoesOn}
+use Rattle.live_core.specs.Performing.{Performs}
 use Rattle.live_core.specs.After.{IsReachableFromStart}
 use Rattle.live_core.proofs.ReachLemmas.{goes_to}
-use Rattle.live_core.proofs.GoLemmas.{found}
 
 pub same_plant : (new old : PlantFields) (lives : List BookView) (queues : List (List (ℕ × ElementsFields))) (gathering : Gathering) → new ≡ old → ∥ IsReachableFromStart (core_of old lives queues gathering) ∥₁ → ∥ IsReachableFromStart (core_of new lives queues gathering) ∥₁
 same_plant new old lives queues gathering same reached = subst (λ (p : PlantFields). ∥ IsReachableFromStart (core_of p lives queues gathering) ∥₁) (sym same) reached
@@ -55,13 +54,12 @@ reached_again new old same reached = subst (λ (core : CoreView). ∥ IsReachabl
 
 -- what is heard of a modem goes to the operator that lists it
 pub arrive_on : (new old : CoreView) (modem : Modem) (heard : Heard) (op : ℕ) (after : CoreView) (now : List Out) → new ≡ old → Some op ≡ holder old.plant.rows modem
-    → GoesOn (Acts op (actions.Arrive modem heard)) new after now → GoesOn (Steps (steps.Arrive modem heard)) old after now
-arrive_on new old modem heard op after now same there goes = λ core is.
-    let done = goes core (subst (λ (v : CoreView). IsOf v core) (sym same) is) in
-    (done.0, (op, ap (λ (p : PlantFields). holder p.rows modem) is.plant_is ∙ sym there, done.1), done.2)
+    → Performs (Acts op (actions.Arrive modem heard)) new after now → Performs (Steps (steps.Arrive modem heard)) old after now
+arrive_on new old modem heard op after now same there performs =
+    (performs.0, (op, sym there, subst (λ (v : CoreView). Acts op (actions.Arrive modem heard) v performs.0 now) same performs.1), performs.2)
 
-pub step_is : (step named : Step) (old new : CoreView) (now : List Out) → step ≡ named → GoesOn (Steps named) old new now → GoesOn (Steps step) old new now
-step_is step named old new now same goes = subst (λ (s : Step). GoesOn (Steps s) old new now) (sym same) goes
+pub step_is : (step named : Step) (old new : CoreView) (now : List Out) → step ≡ named → Performs (Steps named) old new now → Performs (Steps step) old new now
+step_is step named old new now same performs = subst (λ (s : Step). Performs (Steps s) old new now) (sym same) performs
 
 -- ---- the action of a step
 
@@ -112,5 +110,4 @@ pub acts_as_its_own : (plant : PlantFields) (gathering : Gathering) (lives : Lis
     → ∥ IsReachableFromStart (core_of plant lives queues gathering) ∥₁ → IsOfAStep plant op action → slice_get lives op ≡ Some b → stranger_of b.row action ≡ None
 acts_as_its_own plant gathering lives queues op action b reached goal there =
     ∥∥₁_elim reached (same_modem (stranger_of b.row action) None) (λ r.
-    let at = found r.3.core.books lives op b r.3.is_of.books_are there in
-    step_is_mine plant op action b.row goal (λ row here. sym (ap (λ (x : BookView). x.row) at.2) ∙ (r.3.reached.books op row at.0 here at.1).row_is))
+    step_is_mine plant op action b.row goal (λ row here. (r.3.operators op row b here there).row_is))

@@ -12,7 +12,7 @@ use Rattle.operator_model.specs.State.{OperatorState}
 use Rattle.operator_model.specs.Machine.{own_step, IsAllowed}
 use Rattle.operator_model.specs.Replay.{BookView, operator_of_book}
 use Rattle.operator_book.specs.Planned.{IsPlanOf, IsCommittable, after_effect}
-use Rattle.map_assembly.specs.Gathering.{Gathering}
+use Rattle.map_assembly.specs.Gathering.{Gathering, IsGathering}
 use Rattle.run_model.specs.declared.step.Out.{Out}
 use Rattle.run_model.specs.OwnSteps.{outputs_under}
 use Rattle.run_model.specs.IsStateAfter.{CoreView, frames_of}
@@ -20,12 +20,12 @@ use Rattle.run_model.specs.Steps.{Acts}
 use Rattle.live_core.specs.declared.act_plan.ActPlan.{ActPlan}
 use Rattle.live_core.specs.Reachable.{core_of, IsOfAStep}
 use Rattle.live_core.specs.DeskView.{book_of}
-use Rattle.live_core.specs.GoingOn.{went, GoesOn}
+use Rattle.live_core.specs.Performing.{forgotten, went, Performs}
 use Rattle.live_core.specs.After.{IsReachableFromStart}
 use Rattle.live_core.specs.Planning.{IsActPlan, IsSomeActPlan}
 use Rattle.live_core.proofs.FrameLemmas.{one_frame, first_none, first_alone}
 use Rattle.live_core.proofs.StepLemmas.{same_view}
-use Rattle.live_core.proofs.GoLemmas.{acts_on, acts_step, stepped_on}
+use Rattle.live_core.proofs.GoLemmas.{performed, acts_on, acts_step, stepped_on}
 
 -- ---- planning
 
@@ -88,7 +88,7 @@ planned_may core act b some there =
 -- ---- committing
 
 module _ (plant : PlantFields) (gathering : Gathering) (lives lives' : List BookView) (queues queues' : List (List (ℕ × ElementsFields))) (act : ActPlan) (b : BookView) (waiting : List (ℕ × ElementsFields))
-    (there : slice_get lives act.op ≡ Some b) (waits : slice_get queues act.op ≡ Some waiting) where
+    (there : slice_get lives act.op ≡ Some b) (waits : slice_get queues act.op ≡ Some waiting) (bare : map forgotten lives ≡ lives) (held : IsGathering gathering) where
   abbrev old : CoreView
   old = core_of plant lives queues gathering
 
@@ -102,21 +102,22 @@ module _ (plant : PlantFields) (gathering : Gathering) (lives lives' : List Book
   abbrev HasQueue : Type 0
   HasQueue = queues' ≡ slice_set queues act.op (waiting ++ option_to_list (frame_of act))
 
-  committed : (action : Action) → IsActPlan old act.op action act → HasBook → HasQueue → GoesOn (Acts act.op action) old new (outputs_under act.op act.plan.outputs.items)
+  committed : (action : Action) → IsActPlan old act.op action act → HasBook → HasQueue → Performs (Acts act.op action) old new (outputs_under act.op act.plan.outputs.items)
   committed action is books qs =
       let all = promises old act.op action act b is there in
-      acts_on plant gathering lives lives' queues queues' act.op action b waiting (outputs_under act.op act.plan.outputs.items) there waits all.allowed
+      performed (Acts act.op action) plant gathering lives queues new (outputs_under act.op act.plan.outputs.items) bare held
+      (acts_on plant gathering lives lives' queues queues' act.op action b waiting (outputs_under act.op act.plan.outputs.items) there waits all.allowed
       (books ∙ ap (λ (x : BookView). slice_set lives act.op x) all.book_is)
       (qs ∙ ap (λ (fs : List (ℕ × ElementsFields)). slice_set queues act.op (waiting ++ fs)) all.frames_are)
-      (ap (λ (os : List Output). outputs_under act.op os) all.outputs_are)
+      (ap (λ (os : List Output). outputs_under act.op os) all.outputs_are))
 
   -- whether or not the desk found memory
   pub committed_on : {A E : Type 0} (result : Result A E) (outs outs' : List Out) → OnOk result HasBook → OnOk result HasQueue → OnOk result (outs' ≡ outs ++ outputs_under act.op act.plan.outputs.items)
-      → OnOk result ((op : ℕ) (action : Action) → IsActPlan old op action act → (now : List Out) × (outs' ≡ outs ++ now) × GoesOn (Acts op action) old new now)
+      → OnOk result ((op : ℕ) (action : Action) → IsActPlan old op action act → (now : List Out) × (outs' ≡ outs ++ now) × Performs (Acts op action) old new now)
   committed_on (Ok x) outs outs' books qs told = λ op action is. (
     outputs_under act.op act.plan.outputs.items,
     told,
-    subst (λ (i : ℕ). GoesOn (Acts i action) old new (outputs_under act.op act.plan.outputs.items)) is.op_is (committed action (here old op action act is) books qs),
+    subst (λ (i : ℕ). Performs (Acts i action) old new (outputs_under act.op act.plan.outputs.items)) is.op_is (committed action (here old op action act is) books qs),
   )
   committed_on (Err e) outs outs' books qs told = tt
 

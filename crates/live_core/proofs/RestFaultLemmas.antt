@@ -14,7 +14,6 @@ use Rattle.live_core.specs.Reachable.{core_of}
 use Rattle.live_core.proofs.PlaceLemmas.{seen_at}
 use Rattle.live_core.specs.declared.rest_fault.RestFault.{RestFault}
 use Rattle.live_core.specs.declared.rest_fault.RestFault.TheVariants.{FrameWaits, NotAtFrame}
-use Rattle.live_core.specs.GoingOn.{forgotten}
 use Rattle.live_core.specs.After.{IsReachableFromStart}
 use Rattle.live_core.specs.Resting.{Rests, IsRestless, IsRestFault}
 
@@ -25,12 +24,10 @@ same_count a b = hlevel props
 
 module _ (plant : PlantFields) (gathering : Gathering) (lives : List BookView) (queues : List (List (ℕ × ElementsFields))) (reached : ∥ IsReachableFromStart (core_of plant lives queues gathering) ∥₁) where
   pub one_book_each : length lives ≡ length plant.rows
-  one_book_each = ∥∥₁_elim reached (same_count (length lives) (length plant.rows))
-      (λ r. ap (λ (books : List BookView). length books) (sym r.3.is_of.books_are) ∙ (length-map r.3.core.books forgotten ∙ r.3.reached.one_book))
+  one_book_each = ∥∥₁_elim reached (same_count (length lives) (length plant.rows)) (λ r. r.3.one_book)
 
   pub one_queue_each : length queues ≡ length plant.rows
-  one_queue_each = ∥∥₁_elim reached (same_count (length queues) (length plant.rows))
-      (λ r. ap (λ (qs : List (List (ℕ × ElementsFields))). length qs) (sym r.3.is_of.queues_are) ∙ r.3.reached.one_queue)
+  one_queue_each = ∥∥₁_elim reached (same_count (length queues) (length plant.rows)) (λ r. r.3.one_queue)
 
 -- ---- what holds at each place
 

@@ -1,9 +1,8 @@
 -- A core at rest.
-use Rattle.std.proofs.Common.{◌≡◌, ℕ, List, [], length, drop, Some, option_map, sym, ap, ◌∙◌, arith}
+use Rattle.std.proofs.Common.{◌≡◌, ℕ, List, [], length, drop, Some, sym, ap, ◌∙◌, arith}
 use Rattle.std.specs.Prelude.{slice_get}
 use Rattle.std.proofs.lemmas.List.{length-drop}
-use Rattle.std.proofs.lemmas.Option.{slice_get-map, slice_get_within, same_Some}
-use Rattle.slice_scheduler.specs.declared.elements.ElementsFields.{ElementsFields}
+use Rattle.std.proofs.lemmas.Option.{slice_get_within}
 use Rattle.plant.specs.declared.operator_row.RowFields.{RowFields}
 use Rattle.plant.specs.declared.plant.PlantFields.{PlantFields}
 use Rattle.operator_model.specs.State.{OperatorState}
@@ -16,7 +15,6 @@ use Rattle.run_model.specs.IsTraceOf.{isolated_run_from}
 use Rattle.run_model.specs.IsStateAfter.{CoreView, frames_of}
 use Rattle.run_model.specs.Changing.{RunSoFar, state_now, IsAtRest}
 use Rattle.run_model.proofs.Entries.{some_at}
-use Rattle.live_core.specs.GoingOn.{forgotten}
 use Rattle.live_core.specs.After.{IsAfterFrom}
 use Rattle.live_core.specs.Resting.{Rests, RestingIsAtRest, BooksStandNow}
 
@@ -27,43 +25,37 @@ module _ (plant : PlantFields) (start : Start) (steps : List Step) (outs : List 
   -- an operator's book, of which the live core has the state
   pub record IsBookAt (i : ℕ) (row : RowFields) : Type 0 where
     pub book : BookView
-    pub held : slice_get live.books i ≡ Some (forgotten book)
+    pub held : slice_get live.books i ≡ Some book
     pub row_is : book.row ≡ row
     pub state_is : book.state ≡ state_now since i row
 
   pub book_at_place : (i : ℕ) (row : RowFields) → slice_get plant.rows i ≡ Some row → IsBookAt i row
   book_at_place i row here =
       let within = slice_get_within plant.rows i row here in
-      let book = some_at after.core.books i (omega (arith, within, after.reached.one_book)) in
-      let is = after.reached.books i row book.0 here book.1 in
-      record {
-        book = book.0;
-        held = ap (λ (bs : List BookView). slice_get bs i) (sym after.is_of.books_are) ∙ (slice_get-map forgotten after.core.books i ∙ ap (option_map forgotten) book.1);
-        row_is = is.row_is;
-        state_is = is.state_is;
-      }
+      let book = some_at live.books i (omega (arith, within, after.one_book)) in
+      let is = after.operators i row book.0 here book.1 in
+      record { book = book.0; held = book.1; row_is = is.row_is; state_is = is.state_is }
 
   pub stands_now : (i : ℕ) (row : RowFields) (book : BookView) → slice_get plant.rows i ≡ Some row → slice_get live.books i ≡ Some book → (book.row ≡ row) × (book.state ≡ state_now since i row)
   stands_now i row book here there =
-      let at = book_at_place i row here in
-      let same : forgotten at.book ≡ book = same_Some (forgotten at.book) book (sym at.held ∙ there) in
-      (ap (λ (b : BookView). b.row) (sym same) ∙ at.row_is, ap (λ (b : BookView). b.state) (sym same) ∙ at.state_is)
+      let is = after.operators i row book here there in
+      (is.row_is, is.state_is)
 
   pub rests_at : (frame : ℕ) → Rests live frame → IsAtRest since frame
   rests_at frame rests = record {
     before = λ i row here.
         let at = book_at_place i row here in
-        ap (λ (s : OperatorState). s.frame) (sym at.state_is) ∙ rests.before i (forgotten at.book) at.held;
+        ap (λ (s : OperatorState). s.frame) (sym at.state_is) ∙ rests.before i at.book at.held;
     collected = λ i row here.
         let within = slice_get_within plant.rows i row here in
-        let waiting = some_at after.core.queues i (omega (arith, within, after.reached.one_queue)) in
-        let put = some_at after.core.gathering.queues i (omega (arith, within, after.reached.gathered.one_each)) in
-        let are = after.reached.frames i row waiting.0 put.0 here waiting.1 put.1 in
-        let none : waiting.0 ≡ [] = rests.none_waits i waiting.0 (ap (λ (qs : List (List (ℕ × ElementsFields))). slice_get qs i) (sym after.is_of.queues_are) ∙ waiting.1) in
+        let waiting = some_at live.queues i (omega (arith, within, after.one_queue)) in
+        let put = some_at after.gathering.queues i (omega (arith, within, after.gathered.one_each)) in
+        let are = after.frames i row waiting.0 put.0 here waiting.1 put.1 in
+        let none : waiting.0 ≡ [] = rests.none_waits i waiting.0 waiting.1 in
         let all = frames_of (isolated_run_from plant.consts start row i steps).outputs in
         let left : length (drop (collects_of i steps) all) ≡ 0 = ap length (sym are.waiting_are ∙ none) in
         let long = length-drop (collects_of i steps) all in
-        let most = after.reached.gathered.collected i row here in
+        let most = after.gathered.collected i row here in
         omega (arith, left, long, most);
   }
 

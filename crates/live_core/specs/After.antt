@@ -1,22 +1,49 @@
 -- A live core after a run (implementation-specific).
-use Rattle.std.specs.Prelude.{◌≡◌, ℕ, List, ◌++◌}
+use Rattle.std.specs.Prelude.{◌≡◌, ℕ, List, [], ◌++◌, length, slice_get, Some}
+use Rattle.slice_scheduler.specs.declared.elements.ElementsFields.{ElementsFields}
+use Rattle.plant.specs.declared.operator_row.RowFields.{RowFields}
 use Rattle.plant.specs.declared.plant.PlantFields.{PlantFields}
 use Rattle.plant.specs.Plant.{AgreeOn}
+use Rattle.operator_model.specs.State.{operator}
+use Rattle.operator_model.specs.Slices.{MayRun}
+use Rattle.operator_model.specs.Replay.{BookView}
+use Rattle.map_assembly.specs.Gathering.{Gathering, IsGathering}
+use Rattle.map_assembly.specs.LettingGo.{GoesOnAlike}
 use Rattle.run_model.specs.declared.step.Step.{Step}
 use Rattle.run_model.specs.declared.step.Out.{Out}
-use Rattle.run_model.specs.OwnSteps.{own_steps}
+use Rattle.run_model.specs.OwnSteps.{own_steps, maps_in}
 use Rattle.run_model.specs.Starts.{Start, first_start, IsStart}
-use Rattle.run_model.specs.IsTraceOf.{IsTraceOf, IsTraceFrom}
+use Rattle.run_model.specs.IsTraceOf.{isolated_run_from, IsTraceOf, IsTraceFrom}
+use Rattle.run_model.specs.Ordered.{OrderedFrom}
+use Rattle.run_model.specs.Places.{AtEachPlace}
 use Rattle.run_model.specs.NonInterference.{NoticeTheSame}
-use Rattle.run_model.specs.IsStateAfter.{CoreView, IsStateAfterFrom}
-use Rattle.live_core.specs.GoingOn.{IsOf}
+use Rattle.run_model.specs.IsStateAfter.{CoreView, AreFramesFrom, IsGatheredFrom}
 
--- it is what is held of the core that these steps lead to from a valid start, with these outputs
+-- an operator after these steps: its state is that of its own machine run alone, and each action was allowed where it was taken
+pub record IsOperatorFrom (plant : PlantFields) (start : Start) (steps : List Step) (i : ℕ) (row : RowFields) (book : BookView) : Type 0 where
+  pub row_is : book.row ≡ row
+  pub consts_are : book.consts ≡ plant.consts
+  pub state_is : book.state ≡ (isolated_run_from plant.consts start row i steps).state
+  pub may : MayRun (operator plant.consts row (start.state row)) (own_steps row i steps)
+  pub no_history : book.history ≡ []
+
+-- a live core after these steps from a valid start, with these outputs: each operator is as its own machine run alone, its frames
+-- that were not collected wait, and the assembly holds those that were collected and are in no MAP; of the slices it may lack
+-- those that no frame to come needs
 pub record IsAfterFrom (plant : PlantFields) (start : Start) (steps : List Step) (outs : List Out) (live : CoreView) : Type 0 where
   pub starts : IsStart plant start
-  pub core : CoreView
-  pub reached : IsStateAfterFrom plant start steps outs core
-  pub is_of : IsOf live core
+  pub plant_is : live.plant ≡ plant
+  pub shown : IsTraceFrom plant start steps outs
+  pub ordered : OrderedFrom plant start steps outs
+  pub one_book : length live.books ≡ length plant.rows
+  pub one_queue : length live.queues ≡ length plant.rows
+  pub operators : AtEachPlace plant.rows live.books (IsOperatorFrom plant start steps)
+  pub gathering : Gathering
+  pub gathered : IsGatheredFrom plant start steps outs gathering
+  pub frames : (i : ℕ) (row : RowFields) (waiting : List (ℕ × ElementsFields)) (put : List ElementsFields) → slice_get plant.rows i ≡ Some row
+      → slice_get live.queues i ≡ Some waiting → slice_get gathering.queues i ≡ Some put → AreFramesFrom plant start steps (length (maps_in outs)) i row waiting put
+  pub gathering_is : GoesOnAlike gathering live.gathering
+  pub held : IsGathering gathering
 
 -- the same from the opened plant
 abbrev pub IsAfter : PlantFields → List Step → List Out → CoreView → Type 0

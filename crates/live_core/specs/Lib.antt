@@ -5,7 +5,7 @@ pub mod Reslicing
 pub mod Giving
 pub mod Putting
 pub mod Faults
-pub mod GoingOn
+pub mod Performing
 pub mod After
 pub mod LiveView
 pub mod Resumed

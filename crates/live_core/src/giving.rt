@@ -8,7 +8,7 @@ ghost use Rattle.run_model.specs.Steps.{Reslices, NoneRefuses};
 ghost use Rattle.live_core.specs.Reslicing.{reslice_fault};
 ghost use Rattle.live_core.specs.Giving.{IsOfASlice, HaveTakenAs};
 ghost use Rattle.live_core.specs.DeskView.{slot_book, slot_waiting};
-ghost use Rattle.live_core.specs.GoingOn.{went, GoesOn};
+ghost use Rattle.live_core.specs.Performing.{went, Performs};
 ghost use Rattle.live_core.specs.LiveView.{live_view};
 
 use crate::desk::LiveSlot;
@@ -58,7 +58,7 @@ impl LiveCore {
     /// is taken first. Slices that no frame to come needs are dropped.
     pub fn give(&mut self, alloc: Global, from: u32, rows: &[SliceRow]) -> Result<(), AllocError>
         requires { reslice_fault from (live_view self.old).books rows.now ≡ None }
-        ensures ok { OnOk result (GoesOn (Reslices from rows.now) (live_view self.old) (live_view self.new) []) }
+        ensures ok { OnOk result (Performs (Reslices from rows.now) (live_view self.old) (live_view self.new) []) }
         ensures err { OnErr result (live_view self.new ≡ live_view self.old) }
     {
         // For the proof: what always holds of `self`.

@@ -7,7 +7,7 @@ ghost use Rattle.run_model.specs.Steps.{Reslices};
 ghost use Rattle.live_core.specs.declared.core_fault.CoreFault.TheVariants as faults;
 ghost use Rattle.live_core.specs.Faults.{IsReported};
 ghost use Rattle.live_core.specs.Reslicing.{is_unfit, least_unfit, do_meet, least_meeting, first_fault, row_fault, reslice_fault};
-ghost use Rattle.live_core.specs.GoingOn.{GoesOn};
+ghost use Rattle.live_core.specs.Performing.{Performs};
 ghost use Rattle.live_core.specs.LiveView.{live_view};
 
 use crate::core_fault::{CoreFault, ResliceFault, Unfits};
@@ -140,7 +140,7 @@ impl LiveCore {
         from: u32,
         rows: &[SliceRow],
     ) -> Result<(), CoreFault>
-        ensures ok { OnOk result (GoesOn (Reslices from rows.now) (live_view self.old) (live_view self.new) []) }
+        ensures ok { OnOk result (Performs (Reslices from rows.now) (live_view self.old) (live_view self.new) []) }
         ensures err { OnErr result (live_view self.new ≡ live_view self.old) }
         ensures fault { IsReported result (option_map
             (λ fault. faults.Reslice fault) (reslice_fault from (live_view self.old).books rows.now)) }

@@ -1,6 +1,6 @@
 //! Laws of a live core's runs.
 
-ghost use Rattle.std.specs.Prelude.{◌≡◌, [], ◌∷◌, ◌++◌, List};
+ghost use Rattle.std.specs.Prelude.{[], ◌∷◌, ◌++◌, List};
 ghost use Rattle.plant.specs.declared.plant.PlantFields.{PlantFields};
 ghost use Rattle.plant.specs.Plant.{IsPlant};
 ghost use Rattle.run_model.specs.declared.step.Step.{Step};
@@ -12,8 +12,7 @@ ghost use Rattle.run_model.specs.IsTraceOf.{IsTraceFrom};
 ghost use Rattle.run_model.specs.Opened.{gathering_from, started_core};
 ghost use Rattle.map_assembly.specs.Gathering.{IsGathering};
 ghost use Rattle.run_model.specs.Steps.{Steps};
-ghost use Rattle.live_core.specs.Faults.{step_fault};
-ghost use Rattle.live_core.specs.GoingOn.{IsOf, GoesOn};
+ghost use Rattle.live_core.specs.Performing.{Performs};
 ghost use Rattle.live_core.specs.Resting.{RestingIsAtRest, BooksStandNow};
 ghost use Rattle.live_core.specs.Changed.{ResumedIsChanged};
 ghost use Rattle.live_core.specs.After.{IsAfterFrom, TwoLiveCores, TwoResumedCores};
@@ -21,15 +20,8 @@ ghost use Rattle.live_core.specs.After.{IsAfterFrom, TwoLiveCores, TwoResumedCor
 /// States that a step leaves a live core as it is after that step more.
 pub fn step_goes_on()
     ensures { (plant : PlantFields) (start : Start) (before : List Step) (told : List Out) (step : Step)
-        (old new : CoreView) (now : List Out) → IsPlant plant → GoesOn (Steps step) old new now
+        (old new : CoreView) (now : List Out) → IsPlant plant → Performs (Steps step) old new now
         → IsAfterFrom plant start before told old → IsAfterFrom plant start (before ++ step ∷ []) (told ++ now) new }
-{}
-
-/// States that a live core refuses just the steps that a core refuses of which it is held, with the
-/// same fault.
-#[tactic(auto, using(crate::proofs::FaultLemmas::same_step_fault))]
-pub fn faults_are_the_same()
-    ensures { (live core : CoreView) (step : Step) → IsOf live core → step_fault core step ≡ step_fault live step }
 {}
 
 /// States that what a live core has output is shown and in order: to each operator its own machine

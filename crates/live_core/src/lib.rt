@@ -25,8 +25,8 @@ pub use core_fault::{CoreFault, CoreOpenFault, ResliceFault, Unfits};
 pub use held::LiveCore;
 pub use judging::{first_fault, is_same, least_meeting};
 pub use laws::{
-    books_stand_now, faults_are_the_same, live_run_is_shown, resting_core_is_at_rest,
-    resumed_is_changed, started_core_is_after, step_goes_on, two_live_cores, two_resumed_cores,
+    books_stand_now, live_run_is_shown, resting_core_is_at_rest, resumed_is_changed,
+    started_core_is_after, step_goes_on, two_live_cores, two_resumed_cores,
 };
 pub use opening::follow;
 pub use rest_fault::RestFault;

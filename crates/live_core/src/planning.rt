@@ -7,7 +7,7 @@ ghost use Rattle.run_model.specs.declared.step.Out.{Out};
 ghost use Rattle.run_model.specs.Steps.{Acts};
 ghost use Rattle.live_core.specs.Faults.{act_fault, IsReported};
 ghost use Rattle.live_core.specs.Reachable.{IsOfAStep};
-ghost use Rattle.live_core.specs.GoingOn.{GoesOn};
+ghost use Rattle.live_core.specs.Performing.{Performs};
 ghost use Rattle.live_core.specs.LiveView.{live_view};
 ghost use Rattle.live_core.specs.Planning.{IsActPlan, IsSomeActPlan};
 
@@ -53,10 +53,10 @@ impl LiveCore {
         outs: &mut Vec<Out>,
     ) -> Result<(), AllocError>
         requires { IsSomeActPlan (live_view self.old) act }
-        // Whatever core with histories goes on as this one, that core acts, with the outputs that are added.
+        // The operator of the plan acts, with the outputs that are added.
         ensures ok { OnOk result ((op : ℕ) (action : Action) → IsActPlan (live_view self.old) op action act
             → (now : List Out) × (outs.new.items ≡ outs.old.items ++ now)
-            × GoesOn (Acts op action) (live_view self.old) (live_view self.new) now) }
+            × Performs (Acts op action) (live_view self.old) (live_view self.new) now) }
         ensures outs { OnErr result (outs.new.items ≡ outs.old.items) }
         ensures err { OnErr result (live_view self.new ≡ live_view self.old) }
     {

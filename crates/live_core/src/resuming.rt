@@ -1,12 +1,10 @@
 //! Resumes a live core of operators that are at work already.
 
-ghost use Rattle.std.specs.Prelude.{◌≡◌, ◌↔◌, ◌≤◌, ◌<◌, [], map, length, replicate, All, IsTrue, not, true, false, Some, None, Option, Err, IfOk, IfErr, OnOk, OnErr, IfSome};
-ghost use Rattle.plant.specs.Plant.{IsPlant};
-ghost use Rattle.operator_model.specs.Sound.{IsSound};
+ghost use Rattle.std.specs.Prelude.{◌≡◌, ◌↔◌, ◌≤◌, ◌<◌, [], map, length, replicate, All, IsTrue, true, false, Some, None, Option, Err, IfOk, IfErr, OnOk};
 ghost use Rattle.map_assembly.specs.Plan.{AreSlices};
 ghost use Rattle.map_assembly.specs.Gathering.{IsGathering};
 ghost use Rattle.run_model.specs.Opened.{gathering_from, started_core};
-ghost use Rattle.live_core.specs.DeskView.{book_of, slot_book, slot_waiting};
+ghost use Rattle.live_core.specs.DeskView.{slot_book, slot_waiting};
 ghost use Rattle.live_core.specs.After.{IsAfterFrom};
 ghost use Rattle.live_core.specs.LiveOperator.{sound_of, row_of, current_slice, later_at, book_by, IsSoundAt, Shares, IsAtFrame, WaitsFrom, IsOdd};
 ghost use Rattle.live_core.specs.LiveView.{live_view};

@@ -7,7 +7,7 @@ ghost use Rattle.run_model.specs.declared.step.Step.TheVariants as steps;
 ghost use Rattle.run_model.specs.Steps.{Acts, Collects, Steps};
 ghost use Rattle.live_core.specs.Faults.{act_fault, collect_fault, step_fault, IsReported};
 ghost use Rattle.live_core.specs.Reachable.{IsOfAStep};
-ghost use Rattle.live_core.specs.GoingOn.{GoesOn};
+ghost use Rattle.live_core.specs.Performing.{Performs};
 ghost use Rattle.live_core.specs.After.{LeadsOnFromStart};
 ghost use Rattle.live_core.specs.LiveView.{live_view};
 
@@ -41,7 +41,7 @@ impl LiveCore {
     ) -> Result<(), CoreFault>
         requires { IsOfAStep (live_view self.old).plant op action }
         ensures ok { OnOk result ((now : List Out) × (outs.new.items ≡ outs.old.items ++ now)
-            × GoesOn (Acts op action) (live_view self.old) (live_view self.new) now) }
+            × Performs (Acts op action) (live_view self.old) (live_view self.new) now) }
         ensures outs { OnErr result (outs.new.items ≡ outs.old.items) }
         ensures err { OnErr result (live_view self.new ≡ live_view self.old) }
         ensures fault { IsReported result (act_fault op action (slice_get (live_view self.old).books op)) }
@@ -63,7 +63,7 @@ impl LiveCore {
         outs: &mut Vec<Out>,
     ) -> Result<(), CoreFault>
         ensures ok { OnOk result ((now : List Out) × (outs.new.items ≡ outs.old.items ++ now)
-            × GoesOn (Steps (steps.Arrive modem heard)) (live_view self.old) (live_view self.new) now) }
+            × Performs (Steps (steps.Arrive modem heard)) (live_view self.old) (live_view self.new) now) }
         ensures outs { OnErr result (outs.new.items ≡ outs.old.items) }
         ensures err { OnErr result (live_view self.new ≡ live_view self.old) }
         ensures fault { IsReported result (step_fault (live_view self.old) (steps.Arrive modem heard)) }
@@ -79,7 +79,7 @@ impl LiveCore {
     #[inline(always)]
     pub fn collect(&mut self, alloc: Global, op: Op, outs: &mut Vec<Out>) -> Result<(), CoreFault>
         ensures ok { OnOk result ((now : List Out) × (outs.new.items ≡ outs.old.items ++ now)
-            × GoesOn (Collects op) (live_view self.old) (live_view self.new) now) }
+            × Performs (Collects op) (live_view self.old) (live_view self.new) now) }
         ensures outs { OnErr result (outs.new.items ≡ outs.old.items) }
         ensures err { OnErr result (live_view self.new ≡ live_view self.old) }
         ensures fault { IsReported result (collect_fault op (slice_get (live_view self.old).queues op)) }
@@ -109,9 +109,9 @@ impl LiveCore {
         step: Step,
         outs: &mut Vec<Out>,
     ) -> Result<(), CoreFault>
-        // Whatever core with histories goes on as this one, that core does the step, with the outputs that are added.
+        // The step is done to the core as it is, with the outputs that are added.
         ensures ok { OnOk result ((now : List Out) × (outs.new.items ≡ outs.old.items ++ now)
-            × GoesOn (Steps step) (live_view self.old) (live_view self.new) now) }
+            × Performs (Steps step) (live_view self.old) (live_view self.new) now) }
         ensures outs { OnErr result (outs.new.items ≡ outs.old.items) }
         ensures err { OnErr result (live_view self.new ≡ live_view self.old) }
         ensures fault { IsReported result (step_fault (live_view self.old) step) }
@@ -133,7 +133,7 @@ impl LiveCore {
         step: Step,
         outs: &mut Vec<Out>,
     ) -> Result<(), CoreFault>
-        ensures ok { OnOk result (GoesOn (Steps step) (live_view self.old) (live_view self.new) outs.new.items) }
+        ensures ok { OnOk result (Performs (Steps step) (live_view self.old) (live_view self.new) outs.new.items) }
         ensures reached { OnOk result (LeadsOnFromStart (live_view self.old) (step ∷ []) outs.new.items (live_view self.new)) }
         ensures err { OnErr result (live_view self.new ≡ live_view self.old) }
         ensures outs { OnErr result (outs.new.items ≡ []) }
@@ -148,7 +148,7 @@ impl LiveCore {
 
     /// Performs a step, and returns its outputs. A refused step changes nothing.
     pub fn step(&mut self, alloc: Global, step: Step) -> Result<Vec<Out>, CoreFault>
-        ensures ok { IfOk result (λ outs. GoesOn (Steps step) (live_view self.old) (live_view self.new) outs.items) }
+        ensures ok { IfOk result (λ outs. Performs (Steps step) (live_view self.old) (live_view self.new) outs.items) }
         ensures reached { IfOk result (λ outs. LeadsOnFromStart (live_view self.old) (step ∷ []) outs.items (live_view self.new)) }
         ensures err { OnErr result (live_view self.new ≡ live_view self.old) }
         ensures fault { IsReported result (step_fault (live_view self.old) step) }

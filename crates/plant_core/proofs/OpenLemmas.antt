@@ -14,7 +14,7 @@ use Rattle.run_model.specs.Opened.{opened_core}
 use Rattle.run_model.specs.IsStateAfter.{CoreView, IsStateAfter}
 use Rattle.run_model.proofs.Opening.{opened_reached}
 use Rattle.live_core.specs.Reachable.{IsReachable}
-use Rattle.live_core.specs.GoingOn.{forgotten, IsOf}
+use Rattle.live_core.specs.Performing.{forgotten, IsOf}
 use Rattle.plant_core.specs.declared.slice_change.SliceChange.{SliceChange}
 use Rattle.plant_core.specs.Recorded.{with_histories, recorded_view, IsRecordOf}
 use Rattle.plant_core.proofs.RecordLemmas.{belongs}

@@ -22,9 +22,10 @@ use Rattle.run_model.specs.declared.step.Out.{Out}
 use Rattle.run_model.specs.IsStateAfter.{CoreView}
 use Rattle.run_model.specs.Steps.{Acts, Collects, Reslices}
 use Rattle.run_model.proofs.Moving.{silent}
-use Rattle.live_core.specs.GoingOn.{forgotten, IsOf, GoesOn}
+use Rattle.live_core.specs.Performing.{forgotten, IsOf, Performs}
 use Rattle.live_core.specs.declared.act_plan.ActPlan.{ActPlan}
 use Rattle.live_core.specs.Planning.{IsActPlan}
+use Rattle.live_core.proofs.GoLemmas.{acts_go, collects_go, reslices_go}
 use Rattle.live_core.proofs.AlikeLemmas.{held_on}
 use Rattle.live_core.proofs.PlaceLemmas.{seen_at, set_alike}
 use Rattle.plant_core.specs.declared.slice_change.SliceChange.{SliceChange}
@@ -140,10 +141,10 @@ module _ (live live' : CoreView) (histories : List (List Entry)) (changes : List
 
   -- an action, with its entry
   pub acts_recorded : (op : ℕ) (action : Action) (history : List Entry) (outputs : List Output) → slice_get histories op ≡ Some history
-      → ((book : BookView) → slice_get old.books op ≡ Some book → outputs ≡ (own_step (operator_of_book book) action).outputs) → GoesOn (Acts op action) live live' now
+      → ((book : BookView) → slice_get old.books op ≡ Some book → outputs ≡ (own_step (operator_of_book book) action).outputs) → Performs (Acts op action) live live' now
       → IsRecorded (Acts op action) old live' (slice_set histories op (history ++ record { action = action; outputs = outputs } ∷ [])) changes now
-  acts_recorded op action history outputs there told goes =
-      let did = goes old (is_of live histories changes held is) in
+  acts_recorded op action history outputs there told performs =
+      let did = acts_go op action live live' now performs old (is_of live histories changes held is) in
       let acts = did.1 in
       let after = did.0 in
       let history_is : acts.book.history ≡ history =
@@ -156,9 +157,9 @@ module _ (live live' : CoreView) (histories : List (List Entry)) (changes : List
       (ap (λ (core : CoreView). core.gathering.reslicings) acts.new_is)
 
   -- a collection, of which nothing is recorded
-  pub collects_recorded : (op : ℕ) → GoesOn (Collects op) live live' now → IsRecorded (Collects op) old live' histories changes now
-  collects_recorded op goes =
-      let did = goes old (is_of live histories changes held is) in
+  pub collects_recorded : (op : ℕ) → Performs (Collects op) live live' now → IsRecorded (Collects op) old live' histories changes now
+  collects_recorded op performs =
+      let did = collects_go op live live' now performs old (is_of live histories changes held is) in
       let put = did.1 in
       let after = did.0 in
       follows (Collects op) old live' after histories changes now put did.2
@@ -176,9 +177,9 @@ module _ (live live' : CoreView) (histories : List (List Entry)) (changes : List
 
   -- a slice change, with an entry of each operator
   pub reslices_recorded : (from : ℕ) (rows : List SliceRow) (histories' : List (List Entry)) (more : List SliceChange) → histories' ≡ histories_after_reslice from rows histories
-      → more ≡ changes ++ record { from = from; rows = rows } ∷ [] → GoesOn (Reslices from rows) live live' now → IsRecorded (Reslices from rows) old live' histories' more now
-  reslices_recorded from rows histories' more told more_is goes =
-      let did = goes old (is_of live histories changes held is) in
+      → more ≡ changes ++ record { from = from; rows = rows } ∷ [] → Performs (Reslices from rows) live live' now → IsRecorded (Reslices from rows) old live' histories' more now
+  reslices_recorded from rows histories' more told more_is performs =
+      let did = reslices_go from rows live live' now performs old (is_of live histories changes held is) in
       let given = did.1 in
       let after = did.0 in
       follows (Reslices from rows) old live' after histories' more now given did.2
@@ -236,25 +237,25 @@ alike_at histories n op history new long within is same = set_alike entries_of h
 pub act_recorded : (live live' : CoreView) (histories : List HeldHistory) (changes : List SliceChange) (now : List Out) → IsGathering live.gathering → IsRecordOf live (map (λ (h : HeldHistory). h.entries) histories) changes
     → (op : ℕ) (action : Action) (act : ActPlan) → IsActPlan (recorded_view live (map (λ (h : HeldHistory). h.entries) histories) changes) op action act
     → (n : ℕ) (history room new : HeldHistory) (outputs : List Output) → n ≡ length histories → op < n → history ≡ get_or histories op history → room.entries ≡ history.entries
-    → new.entries ≡ room.entries ++ record { action = action; outputs = outputs } ∷ [] → outputs ≡ act.plan.outputs.items → GoesOn (Acts op action) live live' now
+    → new.entries ≡ room.entries ++ record { action = action; outputs = outputs } ∷ [] → outputs ≡ act.plan.outputs.items → Performs (Acts op action) live live' now
     → IsRecorded (Acts op action) (recorded_view live (map (λ (h : HeldHistory). h.entries) histories) changes) live' (map (λ (h : HeldHistory). h.entries) (slice_set histories op new)) changes now
-act_recorded live live' histories changes now held is op action act plan n history room new outputs long within at same put told goes =
+act_recorded live live' histories changes now held is op action act plan n history room new outputs long within at same put told performs =
     let core = recorded_view live (map entries_of histories) changes in
     subst (λ (hs : List (List Entry)). IsRecorded (Acts op action) core live' hs changes now)
     (sym (map-set entries_of histories op new ∙ ap (slice_set (map entries_of histories) op) (put ∙ ap (λ (es : List Entry). es ++ record { action = action; outputs = outputs } ∷ []) same)))
     (acts_recorded live live' (map entries_of histories) changes now held is op action history.entries outputs (seen_at entries_of histories n op history long within at)
     (λ book there. told ∙ (plan.plan_is.outputs ∙ (λ k. (own_step (operator_of_book (same_Some plan.book book (sym plan.book_is ∙ there) k)) action).outputs)))
-    goes)
+    performs)
 
 -- ---- whether a frame was collected or refused
 
 pub collected_belongs : {A E : Type 0} (result : Result A E) (live live' : CoreView) (histories : List (List Entry)) (changes : List SliceChange) (op : ℕ) (outs outs' : List Out) → IsGathering live.gathering → IsRecordOf live histories changes
-    → OnOk result ((now : List Out) × (outs' ≡ outs ++ now) × GoesOn (Collects op) live live' now) → OnErr result (live' ≡ live) → IsRecordOf live' histories changes
+    → OnOk result ((now : List Out) × (outs' ≡ outs ++ now) × Performs (Collects op) live live' now) → OnErr result (live' ≡ live) → IsRecordOf live' histories changes
 collected_belongs (Ok x) live live' histories changes op outs outs' held is done same = (collects_recorded live live' histories changes done.0 held is op done.2).belongs
 collected_belongs (Err y) live live' histories changes op outs outs' held is done same = still_belongs live live' histories histories changes same refl is
 
 pub collected : {A E : Type 0} (result : Result A E) (live live' : CoreView) (histories : List (List Entry)) (changes : List SliceChange) (op : ℕ) (outs outs' : List Out) → IsGathering live.gathering → IsRecordOf live histories changes
-    → OnOk result ((now : List Out) × (outs' ≡ outs ++ now) × GoesOn (Collects op) live live' now)
+    → OnOk result ((now : List Out) × (outs' ≡ outs ++ now) × Performs (Collects op) live live' now)
     → OnOk result ((now : List Out) × (outs' ≡ outs ++ now) × Collects op (recorded_view live histories changes) (recorded_view live' histories changes) now)
 collected (Ok x) live live' histories changes op outs outs' held is done = (done.0, done.1, (collects_recorded live live' histories changes done.0 held is op done.2).done)
 collected (Err y) live live' histories changes op outs outs' held is done = tt

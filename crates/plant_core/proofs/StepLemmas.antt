@@ -21,9 +21,9 @@ use Rattle.live_core.specs.declared.core_fault.ResliceFault.{ResliceFault}
 use Rattle.live_core.specs.Faults.{act_fault, step_fault}
 use Rattle.live_core.specs.Reachable.{IsOfAStep}
 use Rattle.live_core.specs.Reslicing.{reslice_fault}
-use Rattle.live_core.specs.GoingOn.{forgotten, IsOf}
+use Rattle.live_core.specs.Performing.{forgotten, IsOf}
 use Rattle.live_core.specs.Planning.{IsActPlan}
-use Rattle.live_core.proofs.GoLemmas.{found}
+use Rattle.live_core.proofs.BehindLemmas.{found}
 use Rattle.live_core.proofs.FaultLemmas.{same_step_fault}
 
 module _ (live core : CoreView) (is : IsOf live core) where

@@ -3,7 +3,7 @@
 ghost use Rattle.std.specs.Prelude.{◌≡◌, option_map, slice_get};
 ghost use Rattle.plant.specs.Plant.{IsPlant};
 ghost use Rattle.map_assembly.specs.Gathering.{IsGathering};
-ghost use Rattle.live_core.specs.GoingOn.{IsOf};
+ghost use Rattle.live_core.specs.Performing.{IsOf};
 ghost use Rattle.live_core.specs.LiveView.{live_view};
 ghost use Rattle.plant_core.specs.RecordView.{record_view};
 

@@ -2,7 +2,7 @@
 use Rattle.std.proofs.Common.{◌≡◌, ℕ, suc, List, [], ◌∷◌, length, map, Option, Some, option_map, refl, sym, ap, subst, ◌∙◌, arith}
 use Rattle.std.specs.Prelude.{slice_get, ◌≢◌}
 use Rattle.std.specs.List.{AllByRecursion}
-use Rattle.std.proofs.lemmas.List.{length-map, map-id}
+use Rattle.std.proofs.lemmas.List.{map-id}
 use Rattle.std.proofs.lemmas.Option.{slice_get-map, slice_get_within}
 use Rattle.grant_policy.specs.declared.policy.Policy.{Policy}
 use Rattle.snapshot_format.specs.declared.saved.SavedOperator.{SavedOperator}
@@ -20,7 +20,6 @@ use Rattle.run_model.specs.Starts.{Start}
 use Rattle.run_model.specs.IsStateAfter.{CoreView}
 use Rattle.run_model.specs.Changing.{IsPlantChange}
 use Rattle.run_model.proofs.Entries.{some_at}
-use Rattle.live_core.specs.GoingOn.{forgotten}
 use Rattle.live_core.specs.After.{IsAfterFrom}
 use Rattle.live_core.specs.Resting.{Rests}
 use Rattle.live_core.proofs.ResumeLemmas.{HaveOwnNames, own_state, map_is, over_map}
@@ -63,10 +62,10 @@ module _ (old new : CoreView) (next : PlantFields) (frame : ℕ) (valid : IsPlan
     (is : IsRestarted next frame (states_by_name old) new) (held : IsGathering new.gathering) where
   module _ (was : PlantFields) (start : Start) (before : List Step) (told : List Out) (after : IsAfterFrom was start before told old) where
     same_plant : old.plant ≡ was
-    same_plant = sym after.is_of.plant_is ∙ after.reached.plant_is
+    same_plant = after.plant_is
 
     as_many : length old.books ≡ length was.rows
-    as_many = ap (λ (books : List BookView). length books) (sym after.is_of.books_are) ∙ (length-map after.core.books forgotten ∙ after.reached.one_book)
+    as_many = after.one_book
 
     row_there : (i : ℕ) (book : BookView) → slice_get old.books i ≡ Some book → slice_get was.rows i ≡ Some book.row
     row_there i book here =
@@ -92,7 +91,7 @@ module _ (old new : CoreView) (next : PlantFields) (frame : ℕ) (valid : IsPlan
       slices = subst (λ (v : CoreView). IsGathering v.gathering) is.is_started held;
       go_on = λ i j w row here there same.
           let book = book_at_place was start before told old after i w here in
-          let found = state_there state_of_book old.books i (forgotten book.book) row.name own_books book.held (ap (λ (r : RowFields). r.name) book.row_is ∙ same) in
+          let found = state_there state_of_book old.books i book.book row.name own_books book.held (ap (λ (r : RowFields). r.name) book.row_is ∙ same) in
           state_of_row next frame (states_by_name old) next_valid j row there ∙ (ap (state_or_opened frame next.consts row) found ∙ book.state_is);
       open_anew = λ j row there fresh.
           let none = no_state state_of_book old.books row.name

@@ -20,8 +20,8 @@ keeps_state row before after over =
 
 both_periods : (row : RowFields) (before after : Period) → IsRunOverChange row before after → ArePeriodsOf before.plant.consts row (before.start.state row) (before ∷ after ∷ [])
 both_periods row before after over = (
-  record { shown = over.led_to_old.reached.shown; consts_are = refl; row_is = over.row_before; starts = refl },
-  (record { shown = over.led_to_last.reached.shown; consts_are = over.consts_are; row_is = over.row_after; starts = keeps_state row before after over }, tt),
+  record { shown = over.led_to_old.shown; consts_are = refl; row_is = over.row_before; starts = refl },
+  (record { shown = over.led_to_last.shown; consts_are = over.consts_are; row_is = over.row_after; starts = keeps_state row before after over }, tt),
 )
 
 pub not_noticed : ChangeIsNotNoticed

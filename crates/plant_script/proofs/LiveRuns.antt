@@ -1,6 +1,6 @@
 -- A run that is written as its steps are done.
 use Rattle.std.proofs.Common.{◌≡◌, ◌≢◌, inl, inr, ℕ, List, [], ◌++◌, Option, Some, None, IsSome, refl, sym, ap, subst, ◌∙◌}
-use Rattle.std.specs.Prelude.{slice_get}
+use Rattle.std.specs.Prelude.{slice_get, take}
 use Rattle.std.specs.Io.KnownBytes.{Appends}
 use Rattle.std.proofs.KnownBytes.{Appends-trans}
 use Rattle.plant.specs.declared.plant.PlantFields.{PlantFields}
@@ -8,9 +8,11 @@ use Rattle.run_model.specs.Starts.{first_start}
 use Rattle.run_model.specs.IsStateAfter.{CoreView}
 use Rattle.live_core.specs.declared.core_fault.CoreFault.{CoreFault}
 use Rattle.live_core.specs.Faults.{step_fault}
-use Rattle.live_core.specs.GoingOn.{IsOf}
+use Rattle.live_core.specs.Performing.{IsOf}
+use Rattle.live_core.proofs.BehindLemmas.{behind}
 use Rattle.live_core.proofs.FaultLemmas.{same_step_fault}
 use Rattle.script_format.specs.declared.script.LineStep.{LineStep}
+use Rattle.script_format.specs.Script.{steps_without_numbers}
 use Rattle.script_format.specs.Text.{outs_text}
 use Rattle.line_service.specs.declared.steps_end.StepsEnd.{StepsEnd}
 use Rattle.line_service.specs.declared.steps_end.StepsEnd.TheVariants as ends
@@ -33,19 +35,20 @@ ends_by live core (Some line) ends.NoMemory is at = inr (same_step_fault live co
 -- steps that are done from an opened core on are a run's
 pub run_ends : (plant : PlantFields) (lines : List LineStep) (live : CoreView) (end : StepsEnd) (status : ℕ) (w0 w1 w2 : Option (List ℕ)) → HasDone plant (first_start plant) [] [] lines live end w0 w1
     → status ≡ status_of end → Appends w1 w2 (line_of end) → EndsRun plant lines status (λ text. Appends w0 w2 text)
-run_ends plant lines live end status w0 w1 w2 has is wrote = (
-  outs_text plant has.told ++ line_of end,
-  record {
-    at = has.at;
-    outs = has.told;
-    core = has.after.core;
-    reached = has.after.reached;
-    last = line_of end;
-    ends = subst (λ (n : ℕ). EndsBy has.after.core (slice_get lines has.at) n (line_of end)) (sym is) (ends_by live has.after.core (slice_get lines has.at) end has.after.is_of has.ends);
-    text_is = refl;
-  },
-  Appends-trans w0 w1 w2 (outs_text plant has.told) (line_of end) has.written wrote,
-)
+run_ends plant lines live end status w0 w1 w2 has is wrote =
+    let had = behind plant (first_start plant) (steps_without_numbers (take has.at lines)) has.told live has.after in (
+      outs_text plant has.told ++ line_of end,
+      record {
+        at = has.at;
+        outs = has.told;
+        core = had.core;
+        reached = had.reached;
+        last = line_of end;
+        ends = subst (λ (n : ℕ). EndsBy had.core (slice_get lines has.at) n (line_of end)) (sym is) (ends_by live had.core (slice_get lines has.at) end had.is_of has.ends);
+        text_is = refl;
+      },
+      Appends-trans w0 w1 w2 (outs_text plant has.told) (line_of end) has.written wrote,
+    )
 
 -- a run that ends has not status 5
 pub no_five : (core : CoreView) (next : Option LineStep) (status : ℕ) → IsEndStatus core next status → status ≢ 5

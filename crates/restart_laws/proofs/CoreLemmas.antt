@@ -29,12 +29,12 @@ use Rattle.run_model.specs.Changing.{IsPlantChange}
 use Rattle.run_model.specs.Opened.{gathering_from, started_core}
 use Rattle.run_model.proofs.Entries.{some_at}
 use Rattle.run_model.proofs.Fits.{may}
-use Rattle.live_core.specs.GoingOn.{forgotten}
 use Rattle.live_core.specs.After.{IsAfterFrom}
 use Rattle.live_core.specs.Resting.{Rests}
 use Rattle.live_core.specs.Resumed.{later_of, waiting_if, waiting_among, waits_from, first_from, MayResume, GoesAlong, GoTogether, slices_now, slices_next}
 use Rattle.live_core.proofs.ResumeLemmas.{HaveOwnNames, own_state, map_is, over_map, resumed_starts}
 use Rattle.live_core.proofs.RestLemmas.{book_at_place, stands_now, rests_at}
+use Rattle.live_core.proofs.BehindLemmas.{HasCore, behind}
 use Rattle.live_core.proofs.GoLemmas.{started_after}
 use Rattle.plant_restart.specs.ByName.{state_under, state_or_opened, operator_by_name, operators_by_name, start_by_name}
 use Rattle.plant_restart.specs.Saving.{state_of_book, states_by_name}
@@ -87,14 +87,18 @@ module _ (plant : PlantFields) (frame : ℕ) (states : List (List ℕ × Operato
 -- ---- the core
 
 module _ (plant : PlantFields) (start : Start) (steps : List Step) (outs : List Out) (live : CoreView) (frame : ℕ) (after : IsAfterFrom plant start steps outs live) (valid : IsPlant plant) (rests : Rests live frame) where
+  -- the core with histories behind it
+  abbrev had : HasCore plant start steps outs live
+  had = behind plant start steps outs live after
+
   abbrev pub now_at : ℕ → RowFields → OperatorState
-  now_at i row = runs.now_at plant start steps outs after.core after.starts after.reached after.is_of.held i row
+  now_at i row = runs.now_at plant start steps outs had.core had.starts had.reached had.is_of.held i row
 
   pub same_plant : live.plant ≡ plant
-  same_plant = sym after.is_of.plant_is ∙ after.reached.plant_is
+  same_plant = after.plant_is
 
   pub as_many : length live.books ≡ length plant.rows
-  as_many = ap (λ (books : List BookView). length books) (sym after.is_of.books_are) ∙ (length-map after.core.books forgotten ∙ after.reached.one_book)
+  as_many = after.one_book
 
   -- the row of a book, and its state
   pub record IsAtRow (i : ℕ) (book : BookView) : Type 0 where
@@ -131,7 +135,7 @@ module _ (plant : PlantFields) (start : Start) (steps : List Step) (outs : List 
     pub found : state_under states row.name ≡ Some (now_at i row)
     found =
         let book = book_at_place plant start steps outs live after i row here in
-        state_there state_of_book live.books i (forgotten book.book) row.name own_books book.held (ap (λ (r : RowFields). r.name) book.row_is)
+        state_there state_of_book live.books i book.book row.name own_books book.held (ap (λ (r : RowFields). r.name) book.row_is)
         ∙ ap (λ (s : OperatorState). let o : Option OperatorState = Some s in o) book.state_is
 
     pub op_is : operator_by_name plant.consts frame states row ≡ operator plant.consts row (now_at i row)
@@ -141,17 +145,17 @@ module _ (plant : PlantFields) (start : Start) (steps : List Step) (outs : List 
     at_frame = (rests_at plant start steps outs live after frame rests).before i row here
 
     pub sound_at : IsSound (operator plant.consts row (now_at i row))
-    sound_at = runs.sound_now plant start steps outs after.core after.starts after.reached after.is_of.held i row here
+    sound_at = runs.sound_now plant start steps outs had.core had.starts had.reached had.is_of.held i row here
 
     past : plant.consts.channel.first_frame ≤ frame
     past =
-        let le = runs.frame_past plant start steps outs after.core after.starts after.reached after.is_of.held i row here ((rests_at plant start steps outs live after frame rests).collected i row here) in
+        let le = runs.frame_past plant start steps outs had.core had.starts had.reached had.is_of.held i row here ((rests_at plant start steps outs live after frame rests).collected i row here) in
         omega (arith, le, at_frame)
 
   -- whose all of it is
   pub of_its_modems : StartsOfItsModems (record { plant = plant; start = start; steps = steps; outs = outs }) → (i : ℕ) (row : RowFields) → slice_get plant.rows i ≡ Some row → IsOfItsModems row (now_at i row)
   of_its_modems starts i row here =
-      run_of_its_modems row plant.consts (start.state row) (own_steps row i steps) (starts i row here) (may plant start steps outs after.core after.starts after.reached after.is_of.held i row here)
+      run_of_its_modems row plant.consts (start.state row) (own_steps row i steps) (starts i row here) (may plant start steps outs had.core had.starts had.reached had.is_of.held i row here)
 
   -- what is so of each operator as it is now
   pub each_op : (P : Operator → Type 0) → ((i : ℕ) (row : RowFields) → slice_get plant.rows i ≡ Some row → P (operator plant.consts row (now_at i row))) → AllByRecursion P ops
@@ -161,13 +165,13 @@ module _ (plant : PlantFields) (start : Start) (steps : List Step) (outs : List 
   has_begun = let row = some_at plant.rows 0 (let some = valid.some in omega (arith, some)) in past 0 row.0 row.1
 
   pub waits : Option ℕ
-  waits = runs.first_of (runs.coming frame (runs.changes plant start steps outs after.core after.starts after.reached after.is_of.held))
+  waits = runs.first_of (runs.coming frame (runs.changes plant start steps outs had.core had.starts had.reached had.is_of.held))
 
   pub alike : AllByRecursion (λ (o : Operator). waits_from o ≡ waits) ops
   unfolding waits
   alike = each_op (λ (o : Operator). waits_from o ≡ waits) (λ i row here.
-      subst (λ (n : ℕ). option_map (λ (next : NextShare). next.from) (now_at i row).next ≡ runs.first_of (runs.coming n (runs.changes plant start steps outs after.core after.starts after.reached after.is_of.held)))
-      (at_frame i row here) (runs.from_now plant start steps outs after.core after.starts after.reached after.is_of.held i row here))
+      subst (λ (n : ℕ). option_map (λ (next : NextShare). next.from) (now_at i row).next ≡ runs.first_of (runs.coming n (runs.changes plant start steps outs had.core had.starts had.reached had.is_of.held)))
+      (at_frame i row here) (runs.from_now plant start steps outs had.core had.starts had.reached had.is_of.held i row here))
 
   pub frames_alike : AllByRecursion (λ (o : Operator). o.state.frame ≡ frame) ops
   frames_alike = each_op (λ (o : Operator). o.state.frame ≡ frame) at_frame
@@ -202,27 +206,27 @@ module _ (plant : PlantFields) (start : Start) (steps : List Step) (outs : List 
   -- ---- their slices
 
   abbrev in_force : List Minislots
-  in_force = frame_slices after.core.gathering frame
+  in_force = frame_slices had.core.gathering frame
 
   abbrev then_force : List Minislots
-  then_force = runs.slicing_or in_force (runs.coming frame (runs.changes plant start steps outs after.core after.starts after.reached after.is_of.held))
+  then_force = runs.slicing_or in_force (runs.coming frame (runs.changes plant start steps outs had.core had.starts had.reached had.is_of.held))
 
   force_valid : AreSlices plant.consts.channel (length plant.rows) in_force
-  force_valid = runs.slices_now plant start steps outs after.core after.starts after.reached after.is_of.held frame
+  force_valid = runs.slices_now plant start steps outs had.core had.starts had.reached had.is_of.held frame
 
   then_valid : AreSlices plant.consts.channel (length plant.rows) then_force
-  then_valid = runs.slices_later plant start steps outs after.core after.starts after.reached after.is_of.held frame
+  then_valid = runs.slices_later plant start steps outs had.core had.starts had.reached had.is_of.held frame
 
   force_there : (i : ℕ) (row : RowFields) → slice_get plant.rows i ≡ Some row → slice_get in_force i ≡ Some (now_at i row).share.slice
   force_there i row here =
-      subst (λ (n : ℕ). slice_get (frame_slices after.core.gathering n) i ≡ Some (now_at i row).share.slice) (at_frame i row here)
-      (runs.slice_now plant start steps outs after.core after.starts after.reached after.is_of.held i row here)
+      subst (λ (n : ℕ). slice_get (frame_slices had.core.gathering n) i ≡ Some (now_at i row).share.slice) (at_frame i row here)
+      (runs.slice_now plant start steps outs had.core had.starts had.reached had.is_of.held i row here)
 
   then_there : (i : ℕ) (row : RowFields) → slice_get plant.rows i ≡ Some row → slice_get then_force i ≡ Some (later_of (operator plant.consts row (now_at i row)))
   then_there i row here =
-      subst (λ (n : ℕ). slice_get (runs.slicing_or (frame_slices after.core.gathering n) (runs.coming n (runs.changes plant start steps outs after.core after.starts after.reached after.is_of.held))) i
+      subst (λ (n : ℕ). slice_get (runs.slicing_or (frame_slices had.core.gathering n) (runs.coming n (runs.changes plant start steps outs had.core had.starts had.reached had.is_of.held))) i
       ≡ Some (later_of (operator plant.consts row (now_at i row)))) (at_frame i row here)
-      (runs.next_now plant start steps outs after.core after.starts after.reached after.is_of.held i row here)
+      (runs.next_now plant start steps outs had.core had.starts had.reached had.is_of.held i row here)
 
   over_ops : (f : Operator → Minislots) (slices : List Minislots) → length slices ≡ length plant.rows
       → ((i : ℕ) (row : RowFields) → slice_get plant.rows i ≡ Some row → slice_get slices i ≡ Some (f (operator plant.consts row (now_at i row)))) → map f ops ≡ slices
@@ -253,7 +257,7 @@ module _ (plant : PlantFields) (start : Start) (steps : List Step) (outs : List 
   pub gathers : IsGathering (gathering_from plant (start_by_name plant frame states))
   gathers =
       runs.fresh_gathering (gathering_from plant (start_by_name plant frame states)) (length plant.rows) refl valid.consts.channel
-      (subst AreQuotas after.reached.gathered.quotas_are after.is_of.held.quotas_are) (sym quotas_long)
+      (subst AreQuotas had.reached.gathered.quotas_are had.is_of.held.quotas_are) (sym quotas_long)
       (subst (λ (n : ℕ). AreSlices plant.consts.channel n (map (λ (row : RowFields). ((start_by_name plant frame states).state row).share.slice) plant.rows)) (sym quotas_long)
       (subst (AreSlices plant.consts.channel (length plant.rows)) (sym start_slices) force_valid))
       (All-from_recursion (λ (r : Reslicing). AreSlices plant.consts.channel (length (map quota_of plant.rows)) r.slicing) (waiting_among ops)

@@ -19,6 +19,7 @@ use Rattle.run_model.proofs.Fits.{may}
 use Rattle.frame_numbers.specs.Seen.{entry_seen}
 use Rattle.frame_numbers.specs.Renumbered.{IsRenumbered}
 use Rattle.frame_numbers.proofs.StepLemmas.{run-same}
+use Rattle.live_core.proofs.BehindLemmas.{HasCore, behind}
 use Rattle.resumed_service.specs.Items.{InService, ItemAnswer, IsFrameAnswer}
 use Rattle.restart_laws.specs.Restarting.{IsOfItsModems, StartsOfItsModems, NumbersKeepModems, NumbersAreNotNoticed}
 use Rattle.restart_laws.proofs.ModemLemmas.{run_of_its_modems}
@@ -64,8 +65,11 @@ module _ (old : InService) (line : List ℕ) (answer : ItemAnswer) (is : IsFrame
   abbrev b : OperatorState
   b = answer.next.run.start.state row
 
+  abbrev had : HasCore plant old.run.start old.run.steps old.run.outs is.live
+  had = behind plant old.run.start old.run.steps old.run.outs is.live is.leads
+
   sound_a : IsSound (operator plant.consts row a)
-  sound_a = runs.sound_now plant old.run.start old.run.steps old.run.outs is.leads.core is.leads.starts is.leads.reached is.leads.is_of.held i row here
+  sound_a = runs.sound_now plant old.run.start old.run.steps old.run.outs had.core had.starts had.reached had.is_of.held i row here
 
   there : slice_get answer.next.run.plant.rows i ≡ Some row
   there = subst (λ (p : PlantFields). slice_get p.rows i ≡ Some row) (sym is.changed.same_plant) here
@@ -83,7 +87,7 @@ module _ (old : InService) (line : List ℕ) (answer : ItemAnswer) (is : IsFrame
   own_modems starts =
       renumbered_of_its_modems plant.consts.units row a b (is.changed.states i row here)
       (run_of_its_modems row plant.consts (old.run.start.state row) (own_steps row i old.run.steps) (starts i row here)
-      (may plant old.run.start old.run.steps old.run.outs is.leads.core is.leads.starts is.leads.reached is.leads.is_of.held i row here))
+      (may plant old.run.start old.run.steps old.run.outs had.core had.starts had.reached had.is_of.held i row here))
 
 pub numbers_keep_modems : NumbersKeepModems
 numbers_keep_modems old line answer is starts i row there =

@@ -88,7 +88,7 @@ module _ (first : InService) (begun_is : IsBegun first) (process : IsProcess fir
 
     next_begun : IsBegun (next_service first process end)
     next_begun =
-        let same : end.live.plant ≡ ended.run.plant = sym end.led_to.is_of.plant_is ∙ end.led_to.reached.plant_is in
+        let same : end.live.plant ≡ ended.run.plant = end.led_to.plant_is in
         record {
           live = started_core end.live.plant (next_service first process end).run.start;
           leads =

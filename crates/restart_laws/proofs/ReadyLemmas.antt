@@ -23,7 +23,6 @@ use Rattle.run_model.specs.IsStateAfter.{CoreView}
 use Rattle.run_model.proofs.Entries.{some_at}
 use Rattle.run_model.proofs.OwnFrames.{at_place}
 use Rattle.live_core.proofs.ResumeLemmas.{over_map}
-use Rattle.live_core.specs.GoingOn.{forgotten}
 use Rattle.live_core.proofs.RestLemmas.{book_at_place}
 use Rattle.script_format.specs.Input.{plant_text, script_text}
 use Rattle.snapshot_format.specs.declared.fault.SnapshotFault.{SnapshotFault}
@@ -146,7 +145,7 @@ module _ (old : InService) (live : CoreView) (frame : ℕ) (ready : IsReadyToSav
         policies_are = refl;
         stand = λ i row here.
             let book = book_at_place plant old.run.start old.run.steps old.run.outs live ready.leads i row here in
-            let stands = under i (forgotten book.book) book.held in
+            let stands = under i book.book book.held in
             subst (λ (o : Option OperatorState). IfSome o (λ state. IsStateUnder plant.consts row state))
             (sym (cores.found plant old.run.start old.run.steps old.run.outs live frame ready.leads valid ready.rests i row here))
             (subst (λ (s : OperatorState). IsStateUnder plant.consts row s) book.state_is (subst (λ (r : RowFields). IsStateUnder plant.consts r book.book.state) book.row_is stands));

@@ -82,7 +82,7 @@ module _ (first : InService) (input line : List ℕ) (number : ℕ) (old : CoreV
     frame_given : (new : CoreView) → IsPlant plant → IsRestarted plant other.frame (states_of other) new → Appends w1 w2 (frame_text other.frame) → AreServedSoFar first input (lines_left end rest) next new file w0 w2
     frame_given new valid restarted wrote =
         let run = so_far.now.run in
-        let same : plant ≡ run.plant = plant_is ∙ (sym so_far.leads.is_of.plant_is ∙ so_far.leads.reached.plant_is) in
+        let same : plant ≡ run.plant = plant_is ∙ so_far.leads.plant_is in
         let started = subst (λ (p : PlantFields). IsRestarted p other.frame (states_of other) new) same restarted in
         let here = subst (λ (f : List ℕ). IsCoreRenumbered f old other.frame other) (sym so_far.file_is) renumbered in
         answered first input line (lines_left end rest) number old file w0 w1 w2 so_far rest end next new file

@@ -4,7 +4,7 @@ use Rattle.std.specs.Prelude.{slice_get}
 use Rattle.std.specs.List.{AllZip, list_all}
 use Rattle.std.specs.Str.{bytes_eq}
 use Rattle.std.proofs.lemmas.Bool.{eqb-true}
-use Rattle.std.proofs.lemmas.List.{length-map, map-id}
+use Rattle.std.proofs.lemmas.List.{map-id}
 use Rattle.std.proofs.lemmas.Option.{none-some, same_Some, slice_get-map, slice_get_within}
 use Rattle.std.proofs.lemmas.Slice.Eq.{bytes_eq-Decides}
 use Rattle.plant.specs.declared.consts.ConstsFields.{ConstsFields}
@@ -21,7 +21,6 @@ use Rattle.run_model.specs.Starts.{Start}
 use Rattle.run_model.specs.IsStateAfter.{CoreView}
 use Rattle.run_model.specs.Changing.{RunSoFar, state_now}
 use Rattle.run_model.proofs.Entries.{some_at}
-use Rattle.live_core.specs.GoingOn.{forgotten}
 use Rattle.live_core.specs.After.{IsAfterFrom}
 use Rattle.live_core.proofs.ResumeLemmas.{HaveOwnNames, own_state, map_is, over_map}
 use Rattle.live_core.proofs.RestLemmas.{book_at_place, stands_now, rests_at}
@@ -103,10 +102,10 @@ module _ (plant : PlantFields) (frame : ℕ) (states : List (List ℕ × Operato
 
 module _ (live : CoreView) (plant : PlantFields) (start : Start) (before : List Step) (told : List Out) (valid : IsPlant plant) (after : IsAfterFrom plant start before told live) where
   pub same_plant : live.plant ≡ plant
-  same_plant = sym after.is_of.plant_is ∙ after.reached.plant_is
+  same_plant = after.plant_is
 
   as_many : length live.books ≡ length plant.rows
-  as_many = ap (λ (books : List BookView). length books) (sym after.is_of.books_are) ∙ (length-map after.core.books forgotten ∙ after.reached.one_book)
+  as_many = after.one_book
 
   row_there : (i : ℕ) (book : BookView) → slice_get live.books i ≡ Some book → slice_get plant.rows i ≡ Some book.row
   row_there i book here =
@@ -136,10 +135,10 @@ module _ (live : CoreView) (plant : PlantFields) (start : Start) (before : List 
     state_at : (i : ℕ) (row : RowFields) → slice_get plant.rows i ≡ Some row → IsRenumbered plant.consts.units (state_now run i row) ((begun_from plant other).start.state row)
     state_at i row here =
         let book = book_at_place plant start before told live after i row here in
-        let there = state_there state_of_book live.books i (forgotten book.book) row.name own_books book.held (ap (λ (r : RowFields). r.name) book.row_is) in
-        let under = found plant.consts row.name (forgotten book.book).state (states_by_name live) (states_of other) states_are there in
+        let there = state_there state_of_book live.books i book.book row.name own_books book.held (ap (λ (r : RowFields). r.name) book.row_is) in
+        let under = found plant.consts row.name book.book.state (states_by_name live) (states_of other) states_are there in
         subst (λ (s : OperatorState). IsRenumbered plant.consts.units s ((begun_from plant other).start.state row)) book.state_is
-        (subst (λ (s : OperatorState). IsRenumbered plant.consts.units (forgotten book.book).state s)
+        (subst (λ (s : OperatorState). IsRenumbered plant.consts.units book.book.state s)
         (sym (state_of_row plant other.frame (states_of other) valid i row here ∙ ap (state_or_opened other.frame plant.consts row) under.other_is)) under.renumbered)
 
     pub run_renumbered : IsRunRenumbered run (begun_from plant other)

@@ -12,7 +12,7 @@ use Rattle.operator_model.specs.State.{Operator, operator}
 use Rattle.run_model.specs.declared.step.Step.{Step}
 use Rattle.run_model.specs.declared.step.Step.TheVariants as steps
 use Rattle.run_model.specs.IsStateAfter.{CoreView}
-use Rattle.live_core.specs.GoingOn.{forgotten, IsOf}
+use Rattle.live_core.specs.Performing.{forgotten, IsOf}
 use Rattle.trace_report.specs.declared.decision.Decision.{Decision}
 use Rattle.trace_report.specs.declared.seen.StepReport.{StepReport}
 use Rattle.trace_report.specs.Decision.{AtHand, IsDecision, IsDecisionOf, first_message, message_of_step, message_at_hand}

@@ -58,6 +58,7 @@ impl Write for Buffered<'_> {
 }
 
 /// Returns what a plant in service writes to a script's lines, where it never reads on with something held back.
+#[tactic(auto, using(plant_script::proofs::Services::opened_reachable))]
 fn serve_script(alloc: Global, script: &[u8]) -> Result<Vec<u8>, Fail> {
     let plant = read_plant(alloc, PLANT).ok().ok_or("no plant")?;
     let mut rankings = Vec::new(alloc);

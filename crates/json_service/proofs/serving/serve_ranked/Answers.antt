@@ -1,6 +1,9 @@
 use Rattle.live_core.specs.LiveView.{live_view}
-use Rattle.json_service.proofs.ServiceLemmas.{served}
+use Rattle.json_service.proofs.ServiceLemmas.{opened_reachable, served}
 use Rattle.json_service.proofs.serving.serve_ranked.Goals as goal
+
+pub serve-requires-clause-reached : goal.serve-requires-clause-reached
+serve-requires-clause-reached g c = opened_reachable c.args.plant (live_view c.in-Ok-core_of.core) c.in-Ok-core_of.ensures
 
 pub returns-in-Ok-serve-clause-served : goal.returns-in-Ok-serve-clause-served
 returns-in-Ok-serve-clause-served g c =

@@ -1,7 +1,10 @@
 use Rattle.std.proofs.Common.{inr, refl}
 use Rattle.live_core.specs.LiveView.{live_view}
-use Rattle.plant_script.proofs.Services.{service_served}
+use Rattle.plant_script.proofs.Services.{opened_reachable, service_served}
 use Rattle.plant_script.proofs.serving.serve_ranked.Goals as goal
+
+pub serve-requires-clause-reached : goal.serve-requires-clause-reached
+serve-requires-clause-reached g c = opened_reachable c.args.service.plant (live_view c.in-Ok-live_core_of.core) c.in-Ok-live_core_of.ensures
 
 pub returns : goal.returns
 returns g c =

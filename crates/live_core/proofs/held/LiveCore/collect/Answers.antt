@@ -23,7 +23,7 @@ invariant_of-self-in-Ok g c =
       let_go = c.let_go.ensures.begun;
       reached = stepped_on (steps.Collect c.args.op) _ _ (told_map put.0) c.always.ensures.plant refl
           (desk_collects slot_book slot_waiting core.routes core.gather c.collect_into.new.gather c.let_go.new.self core.desks.items _ c.args.op c.index_mut.result.now c.collect_into.new.self put.0
-          c.always.ensures.plant core.reached (c.len.ensures ∙ core.desks.ok.0) c.if-op-len.false c.index_mut.ensures.value put.1 c.in-Ok.ensures.book c.let_go.ensures.alike c.always-in-Ok.ensures)
+          c.always.ensures.plant core.reached (c.len.ensures ∙ core.desks.ok.0) c.if-op-len.false c.index_mut.ensures.value put.1 c.in-Ok.ensures.book c.let_go.ensures.alike c.always-in-Ok.ensures (λ desk. refl) c.always.ensures.gathering)
           core.reached;
     }
 
@@ -45,7 +45,7 @@ returns-in-Ok-clause-ok g c =
       told_map put.0,
       put.2,
       desk_collects slot_book slot_waiting core.routes core.gather c.collect_into.new.gather c.let_go.new.self core.desks.items _ c.args.op c.index_mut.result.now c.collect_into.new.self put.0
-          c.always.ensures.plant core.reached (c.len.ensures ∙ core.desks.ok.0) c.if-op-len.false c.index_mut.ensures.value put.1 c.in-Ok.ensures.book c.let_go.ensures.alike c.always-in-Ok.ensures,
+          c.always.ensures.plant core.reached (c.len.ensures ∙ core.desks.ok.0) c.if-op-len.false c.index_mut.ensures.value put.1 c.in-Ok.ensures.book c.let_go.ensures.alike c.always-in-Ok.ensures (λ desk. refl) c.always.ensures.gathering,
     )
 
 pub returns-in-Ok-clause-fault : goal.returns-in-Ok-clause-fault

@@ -1,10 +1,11 @@
-use Rattle.std.proofs.Common.{ap}
+use Rattle.std.proofs.Common.{refl, ap}
 use Rattle.std.proofs.lemmas.Result.{on_ok_weaker}
 use Rattle.live_core.specs.DeskView.{book_of, slot_book, slot_waiting}
 use Rattle.live_core.specs.LiveView.{live_view}
 use Rattle.live_core.proofs.DeskPlaces.{acts_one}
 use Rattle.live_core.proofs.PlaceLemmas.{seen_at}
 use Rattle.live_core.proofs.StepLemmas.{same_if}
+use Rattle.live_core.proofs.GoLemmas.{bare_seen}
 use Rattle.live_core.proofs.PlanLemmas.{planned_within, planned_may, committed_on, committed_reaches}
 use Rattle.live_core.proofs.held.LiveCore.commit_act.Goals as goal
 
@@ -24,7 +25,7 @@ invariant_of-self g c =
     (on_ok_weaker c.commit.result (λ same. ap book_of same) did.book) did.same_book did.waiting did.same_waiting in
     record {
       let_go = core.let_go;
-      reached = committed_reaches core.routes core.gather _ _ _ _ c.args.act _ _ one.book_is one.waiting_is c.commit.result c.always.ensures.plant c.requires
+      reached = committed_reaches core.routes core.gather _ _ _ _ c.args.act _ _ one.book_is one.waiting_is (bare_seen slot_book core.desks.items (λ desk. refl)) c.always.ensures.gathering c.commit.result c.always.ensures.plant c.requires
           one.books one.queues one.same_books one.same_queues core.reached;
     }
 
@@ -35,7 +36,7 @@ returns-clause-ok g c =
     let within = planned_within slot_book core.routes core.gather _ core.desks.items core.desks.len c.args.act core.desks.ok.0 c.requires in
     let one = acts_one slot_book slot_waiting c.commit.result core.desks.items core.desks.len c.args.act.op c.index_mut.result.now c.commit.new.self _ _ core.desks.ok.0 within c.index_mut.ensures.value
     (on_ok_weaker c.commit.result (λ same. ap book_of same) did.book) did.same_book did.waiting did.same_waiting in
-    committed_on core.routes core.gather _ _ _ _ c.args.act _ _ one.book_is one.waiting_is c.commit.result _ _ one.books one.queues did.outputs
+    committed_on core.routes core.gather _ _ _ _ c.args.act _ _ one.book_is one.waiting_is (bare_seen slot_book core.desks.items (λ desk. refl)) c.always.ensures.gathering c.commit.result _ _ one.books one.queues did.outputs
 
 pub returns-clause-err : goal.returns-clause-err
 returns-clause-err g c =

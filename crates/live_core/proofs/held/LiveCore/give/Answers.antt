@@ -5,7 +5,9 @@ use Rattle.map_assembly.specs.LettingGo.{GoesOnAlike}
 use Rattle.run_model.specs.declared.step.Step.TheVariants as steps
 use Rattle.live_core.proofs.FreeLemmas.{are_free}
 use Rattle.live_core.proofs.ResliceLemmas.{are_slices}
-use Rattle.live_core.proofs.GoLemmas.{may_take, reslices_on, stepped_on}
+use Rattle.run_model.specs.Steps.{Reslices}
+use Rattle.live_core.specs.DeskView.{slot_book}
+use Rattle.live_core.proofs.GoLemmas.{bare_seen, performed, may_take, reslices_on, stepped_on}
 use Rattle.live_core.proofs.PartLemmas.{same_begun, same_gathering}
 use Rattle.live_core.proofs.held.LiveCore.give.Goals as goal
 
@@ -33,17 +35,19 @@ invariant_of-self-2 g c =
     record {
       let_go = c.let_go.ensures.begun;
       reached = stepped_on (steps.Reslice c.args.from c.args.rows.now) _ _ [] c.always.ensures.plant refl
+          (performed (Reslices c.args.from c.args.rows.now) core.routes core.gather _ _ _ [] (bare_seen slot_book core.desks.items (λ desk. refl)) c.always.ensures.gathering
           (reslices_on core.routes core.gather _ _ _ _ _ c.args.from c.args.rows.now c.requires c.give.ensures.books c.give.ensures.waiting
           (may_take core.routes core.gather _ _ c.args.from c.args.rows.now c.always.ensures.plant core.reached c.requires)
           (subst (λ (slices : List Minislots). GoesOnAlike (gathering_after_reslice core.gather c.args.from slices) c.let_go.new.self) c.in_ok-slices.ensures
-          (subst (λ (x : Gathering). GoesOnAlike x c.let_go.new.self) c.in_ok-reslice.ensures.state c.let_go.ensures.alike)) c.always-2.ensures)
+          (subst (λ (x : Gathering). GoesOnAlike x c.let_go.new.self) c.in_ok-reslice.ensures.state c.let_go.ensures.alike)) c.always-2.ensures))
           core.reached;
     }
 
 pub returns-clause-ok : goal.returns-clause-ok
 returns-clause-ok g c =
     let core = c.args.self.now in
-    reslices_on core.routes core.gather _ _ _ _ _ c.args.from c.args.rows.now c.requires c.give.ensures.books c.give.ensures.waiting
+    performed (Reslices c.args.from c.args.rows.now) core.routes core.gather _ _ _ [] (bare_seen slot_book core.desks.items (λ desk. refl)) c.always.ensures.gathering
+    (reslices_on core.routes core.gather _ _ _ _ _ c.args.from c.args.rows.now c.requires c.give.ensures.books c.give.ensures.waiting
     (may_take core.routes core.gather _ _ c.args.from c.args.rows.now c.always.ensures.plant core.reached c.requires)
     (subst (λ (slices : List Minislots). GoesOnAlike (gathering_after_reslice core.gather c.args.from slices) c.let_go.new.self) c.in_ok-slices.ensures
-    (subst (λ (x : Gathering). GoesOnAlike x c.let_go.new.self) c.in_ok-reslice.ensures.state c.let_go.ensures.alike)) c.always-2.ensures
+    (subst (λ (x : Gathering). GoesOnAlike x c.let_go.new.self) c.in_ok-reslice.ensures.state c.let_go.ensures.alike)) c.always-2.ensures)

@@ -3,7 +3,7 @@ use Rattle.std.proofs.lemmas.Result.{on_ok_weaker}
 use Rattle.operator_model.specs.declared.action.SliceRow.{SliceRow}
 use Rattle.run_model.specs.declared.step.Step.TheVariants as steps
 use Rattle.run_model.specs.Steps.{Reslices}
-use Rattle.live_core.specs.GoingOn.{GoesOn}
+use Rattle.live_core.specs.Performing.{Performs}
 use Rattle.live_core.specs.LiveView.{live_view}
 use Rattle.live_core.proofs.PartLemmas.{step_is}
 use Rattle.live_core.proofs.held.LiveCore.step_into.Goals as goal
@@ -16,27 +16,27 @@ act_if-requires-in-Tick g c = (steps.Tick c.in-Tick.op, refl)
 
 pub returns-in-Arrive-clause-ok : goal.returns-in-Arrive-clause-ok
 returns-in-Arrive-clause-ok g c =
-    on_ok_weaker c.arrive.result (λ done. (done.0, done.1, step_is c.args.step (steps.Arrive c.in-Arrive.modem c.in-Arrive.heard) _ _ done.0 c.in-Arrive.is (λ core is. done.2 core is))) c.arrive.ensures.ok
+    on_ok_weaker c.arrive.result (λ done. (done.0, done.1, step_is c.args.step (steps.Arrive c.in-Arrive.modem c.in-Arrive.heard) _ _ done.0 c.in-Arrive.is done.2)) c.arrive.ensures.ok
 
 pub returns-in-Work-clause-ok : goal.returns-in-Work-clause-ok
 returns-in-Work-clause-ok g c =
-    on_ok_weaker c.act_if.result (λ done. (done.0, done.1, step_is c.args.step (steps.Work c.in-Work.op) _ _ done.0 c.in-Work.is (λ core is. done.2 core is))) c.act_if.ensures.ok
+    on_ok_weaker c.act_if.result (λ done. (done.0, done.1, step_is c.args.step (steps.Work c.in-Work.op) _ _ done.0 c.in-Work.is done.2)) c.act_if.ensures.ok
 
 pub returns-in-Tick-clause-ok : goal.returns-in-Tick-clause-ok
 returns-in-Tick-clause-ok g c =
-    on_ok_weaker c.act_if-in-Tick.result (λ done. (done.0, done.1, step_is c.args.step (steps.Tick c.in-Tick.op) _ _ done.0 c.in-Tick.is (λ core is. done.2 core is))) c.act_if-in-Tick.ensures.ok
+    on_ok_weaker c.act_if-in-Tick.result (λ done. (done.0, done.1, step_is c.args.step (steps.Tick c.in-Tick.op) _ _ done.0 c.in-Tick.is done.2)) c.act_if-in-Tick.ensures.ok
 
 pub returns-in-Collect-clause-ok : goal.returns-in-Collect-clause-ok
 returns-in-Collect-clause-ok g c =
-    on_ok_weaker c.collect.result (λ done. (done.0, done.1, step_is c.args.step (steps.Collect c.in-Collect.op) _ _ done.0 c.in-Collect.is (λ core is. done.2 core is))) c.collect.ensures.ok
+    on_ok_weaker c.collect.result (λ done. (done.0, done.1, step_is c.args.step (steps.Collect c.in-Collect.op) _ _ done.0 c.in-Collect.is done.2)) c.collect.ensures.ok
 
 pub returns-in-Reslice-clause-ok : goal.returns-in-Reslice-clause-ok
 returns-in-Reslice-clause-ok g c =
     on_ok_weaker c.reslice.result
-    (λ goes. (
+    (λ performs. (
       [],
       sym (append-nil c.args.outs.now.items),
       step_is c.args.step (steps.Reslice c.in-Reslice.from c.in-Reslice.rows) _ _ [] c.in-Reslice.is
-          (λ core is. subst (λ (rows : List SliceRow). GoesOn (Reslices c.in-Reslice.from rows) (live_view c.args.self.now) (live_view c.reslice.new.self) []) c.as_slice.ensures goes core is),
+          (subst (λ (rows : List SliceRow). Performs (Reslices c.in-Reslice.from rows) (live_view c.args.self.now) (live_view c.reslice.new.self) []) c.as_slice.ensures performs),
     ))
     c.reslice.ensures.ok

@@ -2,7 +2,7 @@ use Rattle.std.proofs.Common.{List, [], ◌∷◌, ◌++◌, sym, ap, ap₂, sub
 use Rattle.operator_model.specs.declared.action.SliceRow.{SliceRow}
 use Rattle.operator_model.specs.declared.action.Entry.{Entry}
 use Rattle.run_model.specs.Steps.{Reslices}
-use Rattle.live_core.specs.GoingOn.{GoesOn}
+use Rattle.live_core.specs.Performing.{Performs}
 use Rattle.live_core.specs.LiveView.{live_view}
 use Rattle.live_core.specs.Reslicing.{reslice_fault}
 use Rattle.plant_core.specs.declared.slice_change.SliceChange.{SliceChange}
@@ -25,7 +25,7 @@ invariant_of-self-2 g c =
       belongs = (reslices_recorded (live_view core.live) (live_view c.give.new.self) _ core.changes.items [] c.always.ensures.gathering core.belongs c.args.from c.args.rows.now _ c.push_reserved.new.self.items
           (c.record_rows.ensures ∙ ap₂ (λ (rows : List SliceRow) (histories : List (List Entry)). histories_after_reslice c.args.from rows histories) c.as_slice-given.ensures c.make_room.ensures.entries)
           (c.push_reserved.ensures.items ∙ ap₂ (λ (changes : List SliceChange) (rows : List SliceRow). changes ++ record { from = c.args.from; rows = rows } ∷ []) c.in_ok-reserve.ensures.items c.in_ok-copy.ensures)
-          (subst (λ (rows : List SliceRow). GoesOn (Reslices c.args.from rows) (live_view core.live) (live_view c.give.new.self) []) c.as_slice-given.ensures c.in_ok-give.ensures.ok)).belongs;
+          (subst (λ (rows : List SliceRow). Performs (Reslices c.args.from rows) (live_view core.live) (live_view c.give.new.self) []) c.as_slice-given.ensures c.in_ok-give.ensures.ok)).belongs;
     }
 
 pub returns-clause-ok : goal.returns-clause-ok
@@ -34,4 +34,4 @@ returns-clause-ok g c =
     (reslices_recorded (live_view core.live) (live_view c.give.new.self) _ core.changes.items [] c.always.ensures.gathering core.belongs c.args.from c.args.rows.now _ c.push_reserved.new.self.items
     (c.record_rows.ensures ∙ ap₂ (λ (rows : List SliceRow) (histories : List (List Entry)). histories_after_reslice c.args.from rows histories) c.as_slice-given.ensures c.make_room.ensures.entries)
     (c.push_reserved.ensures.items ∙ ap₂ (λ (changes : List SliceChange) (rows : List SliceRow). changes ++ record { from = c.args.from; rows = rows } ∷ []) c.in_ok-reserve.ensures.items c.in_ok-copy.ensures)
-    (subst (λ (rows : List SliceRow). GoesOn (Reslices c.args.from rows) (live_view core.live) (live_view c.give.new.self) []) c.as_slice-given.ensures c.in_ok-give.ensures.ok)).done
+    (subst (λ (rows : List SliceRow). Performs (Reslices c.args.from rows) (live_view core.live) (live_view c.give.new.self) []) c.as_slice-given.ensures c.in_ok-give.ensures.ok)).done

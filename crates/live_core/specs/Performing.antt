@@ -1,4 +1,4 @@
--- A core whose histories are forgotten goes on as the core that has them (implementation-specific).
+-- What a core without histories does (implementation-specific).
 use Rattle.std.specs.Prelude.{◌≡◌, List, [], map}
 use Rattle.operator_model.specs.declared.action.Action.{Action}
 use Rattle.operator_model.specs.Machine.{own_step}
@@ -21,7 +21,7 @@ went book action = record {
   history = [];
 }
 
--- this is what a live core holds of a core: its books without their histories, its frames that wait, and what is gathered but
+-- this is what a live core keeps of a core: its books without their histories, its frames that wait, and what is gathered but
 -- for slices that no frame to come needs
 pub record IsOf (live core : CoreView) : Type 0 where
   pub plant_is : core.plant ≡ live.plant
@@ -30,6 +30,6 @@ pub record IsOf (live core : CoreView) : Type 0 where
   pub gathering_is : GoesOnAlike core.gathering live.gathering
   pub held : IsGathering core.gathering
 
--- whatever core this is held of, that core does the same, with these outputs
-abbrev pub GoesOn : (CoreView → CoreView → List Out → Type 0) → CoreView → CoreView → List Out → Type 0
-GoesOn does old new now = (core : CoreView) → IsOf old core → (after : CoreView) × does core after now × IsOf new after
+-- this is done to the live core as it is, with these outputs, and the new one is what is kept of the result
+abbrev pub Performs : (CoreView → CoreView → List Out → Type 0) → CoreView → CoreView → List Out → Type 0
+Performs does old new now = (result : CoreView) × does old result now × IsOf new result
