@@ -3,9 +3,10 @@
     tools/measure/ci_costs [COMMAND ..]
 
 The command is `rt ci` if none is given, and runs where this one is started. All checks of the machine are counted, so let no others run.
-Prints processor seconds of each crate, the dearest first; then the dearest edits, and what all took by the clock and by the processors.
-A check that begins or ends a crate's edits is in the column `before`. What was proved by an earlier run takes no time: for a run from
-nothing, remove what `rt` has kept.
+Prints processor seconds of each crate, the dearest first; then the dearest checks of edits, and what all took by the clock and by the
+processors. A check of `tools/ci/edits` tries several edits: it is named by the functions that they change. A check that begins or ends
+what `rt` does for a crate's edits is in the column `before`. What was proved by an earlier run takes no time: for a run from nothing,
+remove what `rt` has kept.
 
 Reads /proc twice a second, so that up to half a second of a check is not seen. The last line is exact. Exits as the command does.
 """
@@ -29,16 +30,21 @@ DEAREST = 20
 
 @dataclasses.dataclass(frozen=True)
 class Check:
-    """What a check is for: a crate, a part of what is done for it, and the number of an edit that is tried over kept work."""
+    """What a check is for: a crate, a part of what is done for it, and of which edit: its number, or the functions that are changed."""
 
     crate: str
     part: str
-    edit: int | None = None
+    edit: int | str | None = None
 
 
 def word_after(words, name):
     """Returns the word after an option, or nothing where the option is not there."""
     return words[words.index(name) + 1] if name in words[:-1] else ""
+
+
+def words_after(words, name):
+    """Returns the words after an option that is given several times."""
+    return [word for before, word in zip(words, words[1:]) if before == name]
 
 
 def check_of(words, folder):
@@ -51,6 +57,8 @@ def check_of(words, folder):
         return Check(crate, "edits", int(kept[1])) if kept[1].isdigit() else Check(crate, "before")
     if os.path.basename(folder).startswith("rt-edit-"):
         return Check(crate, "edits")
+    if os.path.basename(folder).startswith("edits-"):
+        return Check(crate, "edits", ", ".join(words_after(words, "--only")))
     return Check(crate, "tests" if "--test" in words else "proof")
 
 
@@ -95,7 +103,7 @@ def watch(command):
 
 
 def by_crate(checks):
-    """Returns the seconds of each part of each crate, and how many edits were tried, the dearest crate first."""
+    """Returns the seconds of each part of each crate, and how many checks tried edits, the dearest crate first."""
     crates = collections.defaultdict(lambda: (collections.Counter(), set()))
     for check, seconds in checks:
         parts, edits = crates[check.crate]
@@ -106,7 +114,9 @@ def by_crate(checks):
 
 
 def edit_name(check):
-    """Returns the name of an edit: the one of its number in the order of names."""
+    """Returns the functions that a check changes, or the name of an edit: the one of its number in the order of names."""
+    if isinstance(check.edit, str):
+        return f"{check.crate}: {check.edit}"
     names = sorted(path.name for path in (CRATES / check.crate / "must-fail").glob("*.edit"))
     known = check.edit is not None and check.edit < len(names)
     return f"{check.crate}/{names[check.edit] if known else '?'}"
@@ -115,7 +125,7 @@ def edit_name(check):
 def table(checks):
     """Returns the lines of the tables."""
     rows = by_crate(checks)
-    yield f"{'crate':20}" + "".join(f"{part:>8}" for part in PARTS) + f"{'number':>8}"
+    yield f"{'crate':20}" + "".join(f"{part:>8}" for part in PARTS) + f"{'tried':>8}"
     for name, parts, edits in rows:
         yield f"{name:20}" + "".join(f"{parts[part]:8.0f}" for part in PARTS) + f"{edits:8}"
     totals = [sum(parts[part] for _name, parts, _edits in rows) for part in PARTS]

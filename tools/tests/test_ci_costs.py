@@ -16,6 +16,7 @@ class Checks(unittest.TestCase):
             ([*CHECK, "--incremental", "/tmp/rt-edits-7-a_b/seed"], "/tmp/rt-edit-7-x", Check("tlv24", "before")),
             ([*CHECK, "--incremental", "/tmp/rt-edits-7-a_b/11"], "/tmp/rt-edit-7-x", Check("tlv24", "edits", 11)),
             (CHECK, "/tmp/rt-edit-7-x", Check("tlv24", "edits")),
+            ([*CHECK, "--only", "read::word", "--only", "read::put"], "/tmp/edits-a_b", Check("tlv24", "edits", "read::word, read::put")),
             (["/kit/bin/rattle", "fmt", "--crate-name", "tlv24"], "/copy", None),
             (["python3", "check", "--crate-name", "tlv24"], "/copy", None),
             ([""], "/", None),

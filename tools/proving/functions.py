@@ -1,0 +1,147 @@
+"""The functions of a crate's source, as the prover names them, and the crate with the proofs of some of them left out."""
+
+import dataclasses
+import pathlib
+import re
+
+PARTS = ("src", "specs", "proofs")
+PROOFS = ("Answers", "Invariants", "Proof")
+CLAUSE = re.compile(r"\b(?:requires|ensures|ghost)\b")
+# Comments, strings and characters: braces in them do not count.
+HIDDEN = re.compile(r'//[^\n]*|/\*.*?\*/|b?r?"(?:\\.|[^"\\])*"|b?\'(?:\\.[^\']*|[^\\\'\n])\'', re.DOTALL)
+BLOCK = re.compile(r"(?P<brace>[{}])|\b(?P<kind>fn|impl|mod|trait)\b")
+TYPE = re.compile(r"\b(?:struct|enum|union|trait)\s+(\w+)")
+TESTS = re.compile(r"(^|/)tests(\.rt$|/)")
+
+
+@dataclasses.dataclass(frozen=True)
+class Function:
+    """A function: its path below the crate, whether it is of a trait's impl, and where its text begins and ends in its file."""
+
+    path: str
+    of_trait: bool
+    start: int
+    end: int
+
+
+def plain(text):
+    """Returns a text of the same length with comments, strings and characters blanked."""
+    return HIDDEN.sub(lambda found: re.sub(r"[^\n]", " ", found[0]), text)
+
+
+def end_of_block(text, at):
+    """Returns the place after the block that opens at a place."""
+    depth = 0
+    for brace in re.compile(r"[{}]").finditer(text, at):
+        depth += 1 if brace[0] == "{" else -1
+        if depth == 0:
+            return brace.end()
+    raise ValueError("a block has no end")
+
+
+def end_of_function(text, at):
+    """Returns the place after the body of a function, which stands after its clauses, or nothing if it has no body."""
+    while (brace := text.find("{", at)) >= 0:
+        before = text[at:brace]
+        is_clause = CLAUSE.search(before)
+        if not is_clause and re.search(r";(?![^\[]*\])", before):
+            return None
+        at = end_of_block(text, brace)
+        if not is_clause:
+            return at
+    return None
+
+
+def without_angles(text):
+    """Returns a text without what stands in angle brackets."""
+    text = re.sub(r"[-=]>", "", text)
+    while (shorter := re.sub(r"<[^<>]*>", "", text)) != text:
+        text = shorter
+    return text
+
+
+def last_name(text):
+    """Returns the last name of a path."""
+    return re.findall(r"\w+", text.split("::")[-1])[0]
+
+
+def name_of_impl(header):
+    """Returns the name that the prover gives an `impl`: its type, and its trait after it."""
+    header = re.split(r"\b(?:where|requires|ensures)\b", without_angles(header))[0]
+    first, is_trait, second = header.partition(" for ")
+    return last_name(second) + last_name(first) if is_trait else last_name(first)
+
+
+def module_of(file):
+    """Returns the path of a source file's module below the crate."""
+    module = list(pathlib.PurePath(file).with_suffix("").parts[1:])
+    return tuple(module[:-1] if module[-1] in ("lib", "main", "mod") else module)
+
+
+def modules_of_types(texts):
+    """Returns the module that declares each type of a crate, by the type's name."""
+    return {name: module_of(file) for file in source_files(texts) for name in TYPE.findall(plain(texts[file]))}
+
+
+def functions_of(text, file, types):
+    """Returns the functions of a source file, in order. The prover names a method by the module of its type."""
+    text = plain(text)
+    found, scopes, at = [], [], 0
+    while block := BLOCK.search(text, at):
+        at = block.end()
+        if block["brace"] == "}":
+            scopes.pop()
+        elif block["brace"] == "{":
+            at = end_of_block(text, block.start())
+        elif block["kind"] == "fn":
+            name = re.match(r"\s+(\w+)", text[at:])
+            end = end_of_function(text, at) if name else None
+            if end:
+                names = [scope for scope, _ in scopes]
+                module = types.get(names[0], module_of(file)) if names else module_of(file)
+                found.append(Function("::".join([*module, *names, name[1]]), any(of_trait for _, of_trait in scopes), block.start(), end))
+                at = end
+        elif opened := re.compile(r"[^{;]*\{").match(text, at):
+            of_trait = block["kind"] == "trait" or " for " in without_angles(opened[0])
+            scopes.append((name_of_impl(opened[0]), of_trait))
+            at = opened.end()
+    return found
+
+
+def functions_of_crate(texts):
+    """Returns the functions of all source files of a crate."""
+    types = modules_of_types(texts)
+    return [function for file in source_files(texts) for function in functions_of(texts[file], file, types)]
+
+
+def texts_of(folder):
+    """Returns the texts of a crate's sources, definitions and proofs, by their paths in its folder."""
+    paths = [path for part in PARTS for path in sorted((folder / part).rglob("*")) if path.is_file()]
+    return {path.relative_to(folder).as_posix(): path.read_text() for path in paths}
+
+
+def source_files(texts):
+    """Returns the files of a crate's source, without those of its tests."""
+    return [file for file in texts if file.startswith("src/") and not TESTS.search(file)]
+
+
+def with_holes(crate, texts, kept):
+    """Returns the texts of a crate in which the proofs of all functions but those that are kept are left out."""
+    functions = functions_of_crate(texts)
+    texts = dict(texts)
+    for function in functions:
+        folder = f"proofs/{function.path.replace('::', '/')}"
+        files = [f"{folder}/{name}.antt" for name in PROOFS if f"{folder}/{name}.antt" in texts]
+        if function.path in kept or function.of_trait and not files:
+            continue
+        for file in files:
+            del texts[file]
+        texts[f"{folder}/Proof.antt"] = hole(crate, function.path)
+    return texts
+
+
+def hole(crate, path):
+    """Returns the text of a proof that is left out."""
+    name = path.split("::")[-1]
+    statement = f"Rattle.{crate}.proofs.{path.replace('::', '.')}.Statement"
+    return f"use {statement}.{{statement}}\n\npub {name}_spec : {{M : Type 1}} → statement M\n{name}_spec = ?\n"
