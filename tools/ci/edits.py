@@ -281,6 +281,8 @@ def try_all(prover, edits, unedited, jobs, command):
             prover.stop()
             pool.shutdown(cancel_futures=True)
             sys.exit(status if status > 0 else 128 - status)
+        # Nothing is left to give way to.
+        prover.gives_way = False
         for crate in sorted(edits, key=lambda it: -len(edits[it])):
             begin(crate)
         count = 0

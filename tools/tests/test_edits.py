@@ -185,7 +185,7 @@ REFUSED = "no proof: `search` did not prove `returns`"
 
 
 class Kit:
-    """Stands in for the prover: says of each function what it is told, by the functions that are tried with it."""
+    """Stands in for the prover: says of each function what the test wants, by the functions that are tried with it."""
 
     def __init__(self, say):
         self.say, self.tried = say, []
@@ -368,6 +368,12 @@ class Command(unittest.TestCase):
         with mock.patch.object(proving, "free_memory", side_effect=free) as asked, mock.patch.object(proving.time, "sleep"):
             self.assertEqual(prover.run(["nice"], "/"), "19\n")
         self.assertEqual(asked.call_count, 2)
+
+    def test_checks_wait_for_memory_only_while_the_command_runs(self):
+        edit_in(self.root / "crates/lists/must-fail", "file: src/listed.rt\nold: right\nnew: wrong\n")
+        with mock.patch.object(proving, "free_memory", return_value=0):
+            status, printed = self.run_tool("--while", "sh", "-c", "echo 'rt: lists proved'; sleep 1")
+        self.assertEqual((status, "lists/wrong: refused" in printed), (0, True))
 
     def test_a_name_that_fits_no_edit_is_an_error(self):
         with self.assertRaisesRegex(SystemExit, "no edit fits nothing_here"):

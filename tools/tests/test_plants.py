@@ -10,7 +10,7 @@ from unittest import mock
 
 from tools.ci import plants
 
-# Prints what it is told of the crate's functions, the files of its copy and what a check of the copy says.
+# Prints the list of the crate's functions, the files of its copy and what a check of the copy says.
 RT_PLANT = """\
 import os, pathlib, shutil, tempfile, time, types
 
