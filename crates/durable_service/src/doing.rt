@@ -8,7 +8,7 @@ ghost use Rattle.line_journal.specs.Found.{texts};
 ghost use Rattle.durable_service.specs.Durable.{LineIsDone, LinesAreDone};
 
 use crate::fault::LineFailure;
-use line_service::answer_line;
+use line_service::{NoNotes, answer_line};
 use live_core::LiveCore;
 use std::alloc::Global;
 
@@ -40,7 +40,7 @@ fn do_line(
         (live_view core.new) text.old.items text.new.items)) }
     ensures memory { result ≡ Err failures.TooManyLines → ⊥ }
 {
-    match answer_line(alloc, core, number, line, text) {
+    match answer_line(alloc, core, number, line, &NoNotes, text) {
         Ok(()) => {}
         Err(_error) => return Err(LineFailure::NoMemory),
     }

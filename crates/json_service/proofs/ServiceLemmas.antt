@@ -1,11 +1,11 @@
 -- A service from the opening of its plant on.
-use Rattle.std.proofs.Common.{ℕ, List, [], Option, Some, None, IfSome, sym, subst}
+use Rattle.std.proofs.Common.{ℕ, List, [], Option, Some, None, IfSome}
 use Rattle.plant.specs.declared.plant.PlantFields.{PlantFields}
 use Rattle.run_model.specs.declared.step.Out.{Out}
 use Rattle.run_model.specs.declared.step.Step.{Step}
 use Rattle.run_model.specs.Starts.{Start, first_start}
 use Rattle.run_model.specs.IsStateAfter.{CoreView}
-use Rattle.live_core.specs.After.{IsAfter, IsAfterFrom, IsReachableFromStart}
+use Rattle.live_core.specs.After.{IsAfter, IsAfterFrom}
 use Rattle.line_service.specs.Service.{IsServiceOf}
 use Rattle.json_service.specs.Served.{IsServedFromOpening}
 
@@ -14,7 +14,3 @@ pub served : (known : Option (List ℕ)) (plant : PlantFields) (live new : CoreV
     → IfSome known (λ input. IsServedFromOpening plant input w0 w1)
 served None plant live new w0 w1 after serves = tt
 served (Some input) plant live new w0 w1 after serves = (new, serves plant (first_start plant) [] [] after)
-
--- what no step leads to from the opened plant is reachable
-pub opened_reachable : (plant : PlantFields) (live : CoreView) → IsAfter plant [] [] live → IsReachableFromStart live
-opened_reachable plant live after = (first_start plant, [], [], subst (λ (p : PlantFields). IsAfterFrom p (first_start plant) [] [] live) (sym after.plant_is) after)

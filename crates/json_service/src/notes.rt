@@ -1,16 +1,18 @@
 //! The check that decides a step, as objects have it.
 
-ghost use Rattle.std.specs.Prelude.{◌≡◌, None, option_map, IfOk};
+ghost use Rattle.std.specs.Prelude.{◌≡◌, IsSome, None, option_map, IfOk, OnErr};
 ghost use Rattle.std.specs.String.{string_bytes};
 ghost use Rattle.trace_report.specs.Names.{decision_name};
 ghost use Rattle.trace_report.specs.Trace.{IsCheckNumber};
 ghost use Rattle.json_service.specs.Numbers.{numbers_of};
 
-use crate::step_notes::StepNotes;
 use json_lines::{Comparison, DecidingCheck, JsonLines};
+use line_service::StepNotes;
+use live_core::LiveCore;
+use run_model::Step;
 use std::alloc::{AllocError, Global};
 use std::io::Write;
-use trace_report::{CheckComparison, Decision, StepReport};
+use trace_report::{CheckComparison, Decision, StepReport, live_decision_of};
 
 /// Returns the frame from which a limit counts, as a number of 64 bits.
 fn wide(frame: Option<u32>) -> Option<u64>
@@ -93,19 +95,41 @@ fn check_of(
     })
 }
 
-impl<W: Write> StepNotes for JsonLines<'_, W> {
-    fn start_line(&mut self, number: u64) {
-        self.begin_line(number);
+/// Notes what was seen of a step before it is done. An error is out of memory, which only a step needs that a check decides.
+fn note_report<W: Write>(
+    alloc: Global,
+    seen: StepReport,
+    lines: &mut JsonLines<'_, W>,
+) -> Result<(), AllocError>
+    ensures { OnErr result (IsSome seen.decision) }
+{
+    match seen.decision {
+        Some(decision) => {
+            let check = check_of(alloc, decision, seen.comparison)?;
+            lines.say_check(Some(check));
+        }
+        None => lines.say_check(None),
+    }
+    Ok(())
+}
+
+/// Notes of each line its number, and of each step the check that decides what it outputs.
+#[derive(Clone, Copy, Debug)]
+pub struct CheckNotes;
+
+impl<W: Write> StepNotes<JsonLines<'_, W>> for CheckNotes {
+    fn note_line(&self, number: u64, lines: &mut JsonLines<'_, W>) {
+        lines.begin_line(number);
     }
 
-    fn note_step(&mut self, alloc: Global, seen: StepReport) -> Result<(), AllocError> {
-        match seen.decision {
-            Some(decision) => {
-                let check = check_of(alloc, decision, seen.comparison)?;
-                self.say_check(Some(check));
-            }
-            None => self.say_check(None),
-        }
-        Ok(())
+    fn note_step(
+        &self,
+        alloc: Global,
+        core: &LiveCore,
+        step: &Step,
+        lines: &mut JsonLines<'_, W>,
+    ) -> Result<(), AllocError> {
+        let seen = live_decision_of(alloc, core, step)?;
+        note_report(alloc, seen, lines)
     }
 }

@@ -1,6 +1,6 @@
 -- The steps of a line, one after the other.
-use Rattle.run_model.specs.Starts.{Start}
-use Rattle.std.proofs.Common.{◌≡◌, ◌≢◌, Result, Ok, OnOk, ℕ, zero, suc, List, [], ◌∷◌, ◌++◌, take, Option, Some, IsSome, Err, refl, sym, ap, subst, ◌∙◌, append_assoc, append-nil}
+use Rattle.run_model.specs.Starts.{Start, first_start}
+use Rattle.std.proofs.Common.{◌≡◌, ◌≢◌, Result, Ok, OnOk, OnErr, ℕ, zero, suc, List, [], ◌∷◌, ◌++◌, take, Option, Some, IsSome, Err, refl, sym, ap, subst, ◌∙◌, append_assoc, append-nil}
 use Rattle.std.specs.Io.KnownBytes.{Appends}
 use Rattle.std.proofs.KnownBytes.{Appends-nil, Appends-trans}
 use Rattle.std.proofs.lemmas.List.{map-append}
@@ -12,7 +12,7 @@ use Rattle.run_model.specs.IsStateAfter.{CoreView}
 use Rattle.live_core.specs.declared.core_fault.CoreFault.{CoreFault}
 use Rattle.live_core.specs.declared.core_fault.CoreFault.TheVariants.{UnknownModem, UnknownOperator, Book, Gather, NothingToCollect, NoMemory, Reslice}
 use Rattle.live_core.specs.Faults.{step_fault, IsReported}
-use Rattle.live_core.specs.After.{IsAfterFrom, IsReachableFromStart}
+use Rattle.live_core.specs.After.{IsAfter, IsAfterFrom, IsReachableFromStart}
 use Rattle.script_format.specs.declared.script.LineStep.{LineStep}
 use Rattle.script_format.specs.Script.{steps_without_numbers}
 use Rattle.script_format.specs.Text.{out_line, outs_text}
@@ -134,6 +134,15 @@ step_not_done plant start before shown steps old live w0 w1 line rest A fault en
 pub on_ok : {A E : Type 0} (r : Result A E) (P : Type 0) → P → OnOk r P
 on_ok (Ok x) P p = p
 on_ok (Err e) P p = tt
+
+-- what an error says, where there was no value
+pub on_err_of : {A E : Type 0} (r : Result A E) (P : Type 0) → ((x : A) → r ≡ Ok x → ⊥) → OnErr r P → P
+on_err_of (Ok x) P not_ok on = absurd (not_ok x refl)
+on_err_of (Err e) P not_ok on = on
+
+-- what no step leads to from the opened plant is reachable
+pub opened_reachable : (plant : PlantFields) (live : CoreView) → IsAfter plant [] [] live → IsReachableFromStart live
+opened_reachable plant live after = (first_start plant, [], [], subst (λ (p : PlantFields). IsAfterFrom p (first_start plant) [] [] live) (sym after.plant_is) after)
 
 -- whatever a call leads to from a run is reachable, where the old core was
 pub reachable_on : (old new : CoreView) → IsReachableFromStart old

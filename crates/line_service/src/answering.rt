@@ -14,6 +14,7 @@ ghost use Rattle.line_service.specs.Steps.{HasDone};
 
 use crate::line_buffer::MOST_BYTES;
 use crate::line_outcome::LineOutcome;
+use crate::step_notes::StepNotes;
 use crate::steps_end::{StepsEnd, end_of};
 use live_core::LiveCore;
 use plant::Plant;
@@ -43,13 +44,14 @@ pub fn steps_said(
     }
 }
 
-/// Does steps up to the first that the core does not do, and writes what each outputs. Returns how that ended: no step is left,
-/// the next one is refused, or it is not refused and an allocation for it failed. A step that is not done has changed nothing,
-/// and those before it remain done. An error is one of the writer's; then no clause says how much was done.
-pub fn run_steps<W: Write>(
+/// Does steps up to the first that the core does not do: notes each, and writes what it outputs. Returns how that ended: no step is
+/// left, the next one is refused, or it is not refused and an allocation for it or for its note failed. A step that is not done has
+/// changed nothing, and those before it remain done. An error is one of the writer's; then no clause says how much was done.
+pub fn run_steps<W: Write, N: StepNotes<W>>(
     alloc: Global,
     core: &mut LiveCore,
     steps: Vec<LineStep>,
+    notes: &N,
     writer: &mut W,
 ) -> io::Result<StepsEnd>
     requires reached { IsReachableFromStart (live_view core.old) }
@@ -59,6 +61,9 @@ pub fn run_steps<W: Write>(
 {
     let mut outs = Vec::new(alloc);
     for LineStep { number, step } in steps {
+        let Ok(()) = notes.note_step(alloc, core, &step, writer) else {
+            return Ok(StepsEnd::NoMemory);
+        };
         match core.step_over(alloc, step, &mut outs) {
             Ok(()) if outs.is_empty() => {}
             Ok(()) => write_outs(writer, core.plant(), outs.as_slice())?,
@@ -81,11 +86,12 @@ pub fn outcome_of(end: StepsEnd) -> LineOutcome
 
 /// Does what a line says, and writes what that outputs. Returns how the line ended.
 #[tactic(auto, using(crate::proofs::LineLemmas::steps_answered, crate::proofs::LineLemmas::none_answered, crate::proofs::LineLemmas::memory_answered))]
-fn do_line<W: Write>(
+fn do_line<W: Write, N: StepNotes<W>>(
     alloc: Global,
     core: &mut LiveCore,
     number: u64,
     line: &[u8],
+    notes: &N,
     writer: &mut W,
 ) -> io::Result<LineOutcome>
     requires reached { IsReachableFromStart (live_view core.old) }
@@ -94,7 +100,7 @@ fn do_line<W: Write>(
 {
     match steps_said(alloc, core.plant(), number, line) {
         Ok(steps) => {
-            let end = run_steps(alloc, core, steps, writer)?;
+            let end = run_steps(alloc, core, steps, notes, writer)?;
             Ok(outcome_of(end))
         }
         Err(FieldFault::Invalid(_error)) => Ok(LineOutcome::AtFault),
@@ -113,16 +119,17 @@ pub fn write_end<W: Write>(writer: &mut W, number: u64, end: LineOutcome) -> io:
     }
 }
 
-/// Answers a line: does its steps up to the first that is refused, writes what each outputs, and
-/// then the line's number if the line is invalid. The steps before a refused one are done, and
-/// their outputs written. Of a line of more than 4,096 bytes nothing is done. If memory runs out
-/// for a step, that is reported in place of the fault, and the plant is as before that step. An
-/// error is one of the writer's; then no clause says how much was done.
-pub fn answer_line<W: Write>(
+/// Answers a line: does its steps up to the first that is refused, notes each and writes what it
+/// outputs, and then the line's number if the line is invalid. The steps before a refused one are
+/// done, and their outputs written. Of a line of more than 4,096 bytes nothing is done. If memory
+/// runs out for a step or its note, that is reported in place of the fault, and the plant is as
+/// before that step. An error is one of the writer's; then no clause says how much was done.
+pub fn answer_line<W: Write, N: StepNotes<W>>(
     alloc: Global,
     core: &mut LiveCore,
     number: u64,
     line: &[u8],
+    notes: &N,
     writer: &mut W,
 ) -> io::Result<()>
     requires reached { IsReachableFromStart (live_view core.old) }
@@ -130,7 +137,7 @@ pub fn answer_line<W: Write>(
     ensures { OnOk result (BehindEachRun (live_view core.old) (λ plant start before shown. LineIsAnswered plant start before shown number
         line.now (live_view core.new) (W.contents writer.old) (W.contents writer.new))) }
 {
-    let end = do_line(alloc, core, number, line, writer)?;
+    let end = do_line(alloc, core, number, line, notes, writer)?;
     write_end(writer, number, end)?;
     writer.flush()
 }

@@ -11,6 +11,7 @@ use crate::line_break::LineBreak;
 use crate::line_buffer::LineBuffer;
 use crate::line_outcome::LineOutcome;
 use crate::reading::read_line;
+use crate::step_notes::StepNotes;
 use live_core::LiveCore;
 use std::alloc::Global;
 use std::io;
@@ -27,12 +28,13 @@ pub fn next_number(number: u64) -> io::Result<u64>
     }
 }
 
-/// Answers the line that was read, as `answer_line` does. A line that is too long is invalid.
-pub fn answer_held<W: Write>(
+/// Notes the number of the line that was read, and answers it as `answer_line` does. A line that is too long is invalid.
+pub fn answer_held<W: Write, N: StepNotes<W>>(
     alloc: Global,
     core: &mut LiveCore,
     number: u64,
     held: &LineBuffer,
+    notes: &N,
     writer: &mut W,
 ) -> io::Result<()>
     requires reached { IsReachableFromStart (live_view core.old) }
@@ -42,11 +44,12 @@ pub fn answer_held<W: Write>(
         → LineIsAnswered plant start before shown number line (live_view core.new)
         (W.contents writer.old) (W.contents writer.new))) }
 {
+    notes.note_line(number, writer);
     if held.is_long {
         write_end(writer, number, LineOutcome::AtFault)?;
         return writer.flush();
     }
-    answer_line(alloc, core, number, held.bytes.as_slice(), writer)
+    answer_line(alloc, core, number, held.bytes.as_slice(), notes, writer)
 }
 
 /// Serves the plant: reads lines of a script for as long as there are any, and answers each before
@@ -54,11 +57,12 @@ pub fn answer_held<W: Write>(
 /// of its own except the steps of a line. It ends at the end of the input, or where a read or a
 /// write fails. It takes from the reader what it has at hand, and writes in small pieces: give it a
 /// writer with a buffer.
-pub fn serve<R: BufRead, W: Write>(
+pub fn serve<R: BufRead, W: Write, N: StepNotes<W>>(
     alloc: Global,
     core: &mut LiveCore,
     mut held: LineBuffer,
     reader: &mut R,
+    notes: &N,
     writer: &mut W,
 ) -> io::Result<()>
     requires reached { IsReachableFromStart (live_view core.old) }
@@ -71,7 +75,7 @@ pub fn serve<R: BufRead, W: Write>(
     let mut number = 1u64;
     for _ in 0..u64::MAX {
         let end = read_line(reader, &mut held)?;
-        answer_held(alloc, core, number, &held, writer)?;
+        answer_held(alloc, core, number, &held, notes, writer)?;
         match end {
             LineBreak::Another => number = next_number(number)?,
             LineBreak::End => return Ok(()),

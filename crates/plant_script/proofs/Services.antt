@@ -9,17 +9,13 @@ use Rattle.run_model.specs.declared.step.Out.{Out}
 use Rattle.run_model.specs.declared.step.Step.{Step}
 use Rattle.run_model.specs.Starts.{Start, first_start}
 use Rattle.run_model.specs.IsStateAfter.{CoreView}
-use Rattle.live_core.specs.After.{IsAfter, IsAfterFrom, IsReachableFromStart}
+use Rattle.live_core.specs.After.{IsAfter, IsAfterFrom}
 use Rattle.script_format.specs.Input.{plant_text, script_text}
 use Rattle.line_service.specs.Service.{service_text, IsServiceOf}
 use Rattle.command_line.specs.Order.{serve}
 use Rattle.plant_script.specs.Serving.{IsServed, EndsService}
 use Rattle.plant_script.specs.Words.{AnswersFront, AnswersServe}
 use Rattle.plant_script.specs.Reaching.{EndsOrder}
-
--- what no step leads to from the opened plant is reachable
-pub opened_reachable : (plant : PlantFields) (live : CoreView) → IsAfter plant [] [] live → IsReachableFromStart live
-opened_reachable plant live after = (first_start plant, [], [], subst (λ (p : PlantFields). IsAfterFrom p (first_start plant) [] [] live) (sym after.plant_is) after)
 
 -- a service of a core as it is opened
 pub service_served : (known : Option (List ℕ)) (plant : PlantFields) (live new : CoreView) (w0 w1 : Option (List ℕ)) → IsAfter plant [] [] live

@@ -22,7 +22,7 @@ use crate::task::Task;
 use crate::tracing::write_traced_run;
 use command_line::RunReport;
 use grant_policy::{RankInput, Ranking, rank_by};
-use line_service::run_steps;
+use line_service::{NoNotes, open_core, run_steps};
 use live_core::{CoreOpenFault, LiveCore};
 use plant::{Op, Plant};
 use plant_core::PlantCore;
@@ -112,23 +112,6 @@ pub(crate) fn core_of(
     }
 }
 
-/// Returns a core without histories of the plant, as it is opened. The rankings are in the plant's
-/// order of operators.
-pub(crate) fn live_core_of(
-    alloc: Global,
-    plant: Plant,
-    rankings: Vec<Ranking>,
-) -> Result<LiveCore, AllocError>
-    requires { map (λ ranking. ranking.policy) rankings.items ≡ map (λ row. row.policy) plant.rows }
-    ensures { IfOk result (λ core. IsAfter plant [] [] (live_view core)) }
-{
-    match LiveCore::open(alloc, plant, rankings) {
-        Ok(core) => Ok(core),
-        Err(CoreOpenFault::NoMemory) => Err(AllocError),
-        Err(CoreOpenFault::RankingsMismatch) => unreachable!(),
-    }
-}
-
 /// Returns the capture of a run. The rankings are in the plant's order of operators.
 fn answer_of_capture_run(
     alloc: Global,
@@ -177,7 +160,7 @@ fn write_run<W: Write>(
     ensures { IfOk result (λ status. (plant : PlantFields) → IsAfter plant [] [] (live_view core.old)
         → EndsRun plant lines.items (status_code status) (λ text. Appends (W.contents writer.old) (W.contents writer.new) text)) }
 {
-    let end = run_steps(alloc, core, lines, writer)?;
+    let end = run_steps(alloc, core, lines, &NoNotes, writer)?;
     let status = write_end(writer, end)?;
     writer.flush()?;
     Ok(status)
@@ -197,7 +180,7 @@ fn write_outputs_run<W: Write>(
     ensures { IfOk result (λ status. IsWritten (IsScriptRun plant lines.items (λ done told. outs_text plant told)) (status_code status)
         (λ text. Appends (W.contents writer.old) (W.contents writer.new) text)) }
 {
-    let Ok(mut core) = live_core_of(alloc, plant, rankings) else {
+    let Ok(mut core) = open_core(alloc, plant, rankings) else {
         return write_fault(writer, AnswerFault::Memory);
     };
     let status = write_run(alloc, &mut core, lines, writer)?;

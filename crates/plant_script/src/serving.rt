@@ -11,10 +11,9 @@ use crate::answer::Answer;
 use crate::check::answer_to_fault;
 use crate::ending::{write_answer, write_fault};
 use crate::input::AnswerFault;
-use crate::running::live_core_of;
 use crate::status::Status;
 use grant_policy::{RankInput, Ranking, rank_by};
-use line_service::{LineBuffer, read_plant_text, serve};
+use line_service::{LineBuffer, NoNotes, open_core, read_plant_text, serve};
 use plant::Plant;
 use slice_table::{PlantFault, read_plant};
 use std::alloc::Global;
@@ -92,10 +91,10 @@ fn serve_ranked<R: BufRead, W: Write>(
     let Ok(held) = LineBuffer::new(alloc) else {
         return write_fault(writer, AnswerFault::Memory);
     };
-    let Ok(mut core) = live_core_of(alloc, plant, rankings) else {
+    let Ok(mut core) = open_core(alloc, plant, rankings) else {
         return write_fault(writer, AnswerFault::Memory);
     };
-    serve(alloc, &mut core, held, reader, writer)?;
+    serve(alloc, &mut core, held, reader, &NoNotes, writer)?;
     Ok(Status::Success)
 }
 

@@ -7,7 +7,7 @@ use command_line::Word;
 use diagnostics::{Trouble, reason_of, reason_of_trouble};
 use grant_policy::{RankInput, Ranking, rank_by};
 use json_lines::{JsonLines, LineSource};
-use json_service::{ServiceFault, serve_ranked};
+use json_service::{CheckNotes, ServiceFault, serve_ranked};
 use line_service::read_plant_text;
 use plant::Plant;
 use slice_table::{PlantFault, read_plant};
@@ -61,7 +61,7 @@ fn serve_plant<R: BufRead, W: Write>(
             return Err(ServiceFault::Memory);
         }
     }
-    serve_ranked(alloc, plant, rankings, reader, lines)
+    serve_ranked(alloc, plant, rankings, reader, &CheckNotes, lines)
 }
 
 /// Serves the plant of a plant file, and reports how that ended. Returns the status.

@@ -12,7 +12,7 @@ ghost use Rattle.resumed_service.specs.NewFrames.{asks_frame, IsSavedCore};
 ghost use Rattle.resumed_service.specs.Served.{in_service, ItemIsAnswered, WritesSnapshot};
 
 use crate::holding::is_held;
-use line_service::{LineBuffer, LineOutcome, answer_held, write_end};
+use line_service::{LineBuffer, LineOutcome, NoNotes, answer_held, write_end};
 use live_core::LiveCore;
 use plant_restart::{SaveFault, save};
 use snapshot_format::{Snapshot, write_snapshot};
@@ -95,6 +95,6 @@ pub(crate) fn answer_item<W: Write>(
     if is_held(held, b"K") {
         answer_snapshot(alloc, core, file, number, writer)
     } else {
-        answer_held(alloc, core, number, held, writer)
+        answer_held(alloc, core, number, held, &NoNotes, writer)
     }
 }

@@ -1,5 +1,5 @@
 -- The steps of a script, one after the other.
-use Rattle.std.proofs.Common.{◌≡◌, inl, inr, true, false, ℕ, zero, suc, List, [], ◌∷◌, ◌++◌, take, max, Option, Some, None, Result, Ok, Err, OnErr, refl, sym, ap, subst, ◌∙◌, append_assoc}
+use Rattle.std.proofs.Common.{◌≡◌, inl, inr, true, false, ℕ, zero, suc, List, [], ◌∷◌, ◌++◌, take, max, Option, Some, None, Err, refl, sym, ap, subst, ◌∙◌, append_assoc}
 use Rattle.std.specs.Prelude.{slice_get}
 use Rattle.std.proofs.KnownBytes.{Appends-nil, Appends-trans}
 use Rattle.std.proofs.lemmas.List.{map-append}
@@ -174,8 +174,3 @@ module _ (plant : PlantFields) (script : List ℕ) (steps : List LineStep) where
       let there : slice_get steps half.at ≡ Some line = first_left steps half.at line rest half.left_are in
       subst (λ (c : CoreView). HasTraced plant script steps c end w0 w1) (sym same)
       (ends_so last (Some line) old end w0 w1 (line ∷ rest) half (sym there) (rw (there, is) (ends_at A old line fault told)))
-
--- what holds of an error holds where there is one
-pub on_err_of : {A E : Type 0} (r : Result A E) (P : Type 0) → ((x : A) → r ≡ Ok x → ⊥) → OnErr r P → P
-on_err_of (Ok x) P not_ok on = absurd (not_ok x refl)
-on_err_of (Err e) P not_ok on = on

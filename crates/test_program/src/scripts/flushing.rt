@@ -1,7 +1,7 @@
 //! Each line's answer is flushed before the next line is read.
 
 use grant_policy::{RankInput, Ranking, rank_by};
-use line_service::{LineBuffer, serve};
+use line_service::{LineBuffer, NoNotes, serve};
 use live_core::LiveCore;
 use slice_table::read_plant;
 use std::alloc::Global;
@@ -58,7 +58,7 @@ impl Write for Buffered<'_> {
 }
 
 /// Returns what a plant in service writes to a script's lines, where it never reads on with something held back.
-#[tactic(auto, using(plant_script::proofs::Services::opened_reachable))]
+#[tactic(auto, using(line_service::proofs::StepLemmas::opened_reachable))]
 fn serve_script(alloc: Global, script: &[u8]) -> Result<Vec<u8>, Fail> {
     let plant = read_plant(alloc, PLANT).ok().ok_or("no plant")?;
     let mut rankings = Vec::new(alloc);
@@ -87,7 +87,7 @@ fn serve_script(alloc: Global, script: &[u8]) -> Result<Vec<u8>, Fail> {
         taken: Vec::new(alloc),
         held_back: &held_back,
     };
-    match serve(alloc, &mut core, held, &mut reader, &mut writer) {
+    match serve(alloc, &mut core, held, &mut reader, &NoNotes, &mut writer) {
         Ok(()) => Ok(writer.taken),
         Err(_) => Err(Fail::new("read on with something held back")),
     }

@@ -1,20 +1,15 @@
 use Rattle.script_format.proofs.Outcomes.{if_ok}
 use Rattle.script_format.specs.Text.{outs_text}
-use Rattle.live_core.specs.LiveView.{live_view}
 use Rattle.plant_script.specs.Run.{IsScriptRun}
 use Rattle.plant_script.specs.Statuses.{status_code}
 use Rattle.plant_script.proofs.LiveRuns.{run_written}
 use Rattle.plant_script.proofs.Reached.{memory_written}
-use Rattle.plant_script.proofs.Services.{opened_reachable}
 use Rattle.plant_script.proofs.running.write_outputs_run.Goals as goal
-
-pub write_run-requires : goal.write_run-requires
-write_run-requires g c = record { reached = opened_reachable c.args.plant (live_view c.in-Ok.core) c.in-Ok.ensures }
 
 pub returns : goal.returns
 returns g c =
     run_written c.args.plant c.args.lines.items (status_code c.in_ok-status.status) (g.W.Write.contents c.args.writer.now) (g.W.Write.contents c.write_run.new.writer)
-    (c.in_ok-status.ensures c.args.plant c.in-Ok.ensures)
+    (c.in_ok-status.ensures c.args.plant c.in-Ok.ensures.opened)
 
 pub returns-in_default : goal.returns-in_default
 returns-in_default g c =

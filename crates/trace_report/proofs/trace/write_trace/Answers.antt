@@ -8,7 +8,8 @@ use Rattle.trace_report.specs.Quotes.{IsRestAfter}
 use Rattle.trace_report.specs.Told.{HasToldStep}
 use Rattle.trace_report.proofs.LineLemmas.{all_left}
 use Rattle.trace_report.proofs.TracedSoFar.{IsTracedSoFar}
-use Rattle.trace_report.proofs.TraceLemmas.{none_traced, line_traced, step_traced, words_fail, all_traced, memory_wants, step_not_done, on_err_of}
+use Rattle.trace_report.proofs.TraceLemmas.{none_traced, line_traced, step_traced, words_fail, all_traced, memory_wants, step_not_done}
+use Rattle.line_service.proofs.StepLemmas.{on_err_of}
 use Rattle.trace_report.proofs.trace.write_trace.Goals as goal
 
 pub loop-number-init : goal.loop-number-init
