@@ -28,13 +28,11 @@ front_has_none zero text none = refl
 front_has_none (suc n) [] none = refl
 front_has_none (suc n) (b ∷ text) none = elim (cases_eq b 10) [
   | inl is ↦
-      let some = cond-true (b == 10) ([] ∷ whole_lines text) (with_head b (whole_lines text)) (eq-eqb b 10 is) in
-      absurd (cc (some, none))
+      absurd (cc ((cond-true (b == 10) ([] ∷ whole_lines text) (with_head b (whole_lines text)) (eq-eqb b 10 is)), none))
   | inr other ↦
       let parts = cond-false (b == 10) ([] ∷ whole_lines text) (with_head b (whole_lines text)) (ne_eqb b 10 other) in
-      let rest_none = head_none b (whole_lines text) (sym parts ∙ none) in
       cond-false (b == 10) ([] ∷ whole_lines (take n text)) (with_head b (whole_lines (take n text))) (ne_eqb b 10 other)
-      ∙ ap (λ (ls : List (List ℕ)). with_head b ls) (front_has_none n text rest_none)
+      ∙ ap (λ (ls : List (List ℕ)). with_head b ls) (front_has_none n text (head_none b (whole_lines text) (sym parts ∙ none)))
 ]
 
 -- lines with their line feeds

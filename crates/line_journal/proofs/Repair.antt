@@ -58,8 +58,7 @@ module _ (file : List ℕ) (stored : JournalContent) (is : journal_content file 
   pub gate_crash : (now : List ℕ) (old later : List ℕ → Type 0) → now ≡ front stored → Only now old → Follows (Torn gate 1) old later → (c : List ℕ) → later c → journal_content c ≡ Some stored
   gate_crash now old later at only follows c left =
       let from = follows c left in
-      let torn = subst (λ (f : List ℕ). Torn gate 1 f c) (only from.0 from.1 ∙ at) from.2 in
-      let end = torn_end (front stored) gate size c torn in
+      let end = torn_end (front stored) gate size c (subst (λ (f : List ℕ). Torn gate 1 f c) (only from.0 from.1 ∙ at) from.2) in
       ap journal_content end.0 ∙ nothing_after (drop gate c) (short_nothing (drop gate c) end.1)
 
   pub is_shut : (now c : List ℕ) → now ≡ front stored → IsOverwritten now gate (45 ∷ []) c → c ≡ journal_text stored

@@ -14,8 +14,7 @@ walk : (bytes left : List ℕ) → HasNoBreak bytes → before_bar false (bytes 
 walk [] left none = refl
 walk (b ∷ bytes) left none =
     let other : (b == 10) ≡ false = grind (arith, nat_tests, none.0) in
-    let later = walk bytes left none.1 in
-    rw other (omega (arith, later))
+    rw other (omega (arith, walk bytes left none.1))
 
 walk_to_end : (bytes : List ℕ) → HasNoBreak bytes → before_bar false bytes ≡ length bytes
 walk_to_end [] none = refl
@@ -62,16 +61,14 @@ past_line [] left none other = refl
 past_line (b ∷ line) left none other =
     let here = no_bar_here (b ∷ line) left none other in
     let within : (b == 10) ≡ false = grind (arith, nat_tests, none.0) in
-    let later = walk line left none.1 in
-    rw (here, within) (omega (arith, later))
+    rw (here, within) (omega (arith, walk line left none.1))
 
 to_end : (line : List ℕ) → HasNoBreak line → line ≢ dashes → before_bar true line ≡ length line
 to_end [] none other = refl
 to_end (b ∷ line) none other =
     let here = no_bar_at_end (b ∷ line) none other in
     let within : (b == 10) ≡ false = grind (arith, nat_tests, none.0) in
-    let later = walk_to_end line none.1 in
-    rw (here, within) (omega (arith, later))
+    rw (here, within) (omega (arith, walk_to_end line none.1))
 
 no_break_more : (line : List ℕ) (byte : ℕ) → HasNoBreak line → byte ≢ 10 → HasNoBreak (line ++ byte ∷ [])
 no_break_more [] byte none other = (other, tt)

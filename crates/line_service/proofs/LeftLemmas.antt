@@ -29,5 +29,4 @@ drop_next (y ∷ xs) (suc k) x rest h = drop_next xs k x rest h
 -- a count that goes with what is left goes with it when the first is gone
 pub count_next : {A : Type 0} (left : List A) (x : A) (rest : List A) (n m : ℕ) → left ≡ x ∷ rest → m + 1 ≡ n → n ≡ length left → m ≡ length rest
 count_next left x rest n m is gone count =
-    let short = ap length is in
-    omega (arith, short, gone, count)
+    omega (arith, ap length is, gone, count)

@@ -20,8 +20,7 @@ use Rattle.plant_script.specs.OnThreads.{ReportsLine, ReportsPlace, ReportsSpent
 -- each step is of a line
 pub step_within : (lines : List LineStep) (place : ℕ) (step : Step) → slice_get (steps_without_numbers lines) place ≡ Some step → place < length lines
 step_within lines place step is =
-    let within = slice_get_within (steps_without_numbers lines) place step is in
-    omega (arith, within, length-map lines (λ (l : LineStep). l.step))
+    omega (arith, slice_get_within (steps_without_numbers lines) place step is, length-map lines (λ (l : LineStep). l.step))
 
 -- what is read at the place is the line
 pub place_reported : (lines : List LineStep) (place : ℕ) (other : LineStep) (status : ℕ) (text : List ℕ) → place < length lines

@@ -33,8 +33,7 @@ line_end = record { past = λ rest. refl }
 walk : (bytes more : List ℕ) → HasNoBreak bytes → IsRestOfLine more → (rest : List ℕ) → before_bar false ((bytes ++ more) ++ rest) ≡ length (bytes ++ more) + before_bar true rest
 walk [] more none after rest = after.past rest
 walk (b ∷ bytes) more none after rest =
-    let later = walk bytes more none.1 after rest in
-    ap (λ (t : Bool). 1 + before_bar t ((bytes ++ more) ++ rest)) (ne_eqb b 10 none.0) ∙ omega (arith, later)
+    ap (λ (t : Bool). 1 + before_bar t ((bytes ++ more) ++ rest)) (ne_eqb b 10 none.0) ∙ omega (arith, walk bytes more none.1 after rest)
 
 pub goes_on : {more : List ℕ} (bytes : List ℕ) → HasNoBreak bytes → IsRestOfLine more → IsRestOfLine (bytes ++ more)
 goes_on {more = more} bytes none after = record { past = walk bytes more none after }
@@ -51,10 +50,7 @@ none_passed rest = omega arith
 
 pub both_passed : (bytes more : List ℕ) → IsPassed bytes → IsPassed more → IsPassed (bytes ++ more)
 both_passed bytes more first second rest =
-    let a = first (more ++ rest) in
-    let b = second rest in
-    let c = length-append bytes more in
-    ap (before_bar true) (append_assoc bytes more rest) ∙ omega (arith, a, b, c)
+    ap (before_bar true) (append_assoc bytes more rest) ∙ omega (arith, first (more ++ rest), second rest, length-append bytes more)
 
 pub each_passed : {A : Type 0} (Is : A → Type 0) (text : A → List ℕ) → ((x : A) → Is x → IsPassed (text x)) → (xs : List A) → AllByRecursion Is xs → IsPassed (flat_map text xs)
 each_passed Is text one [] all = none_passed
@@ -76,9 +72,7 @@ passed_before bytes passed rest = let all = passed (bar rest) in omega (arith, a
 pub before_more : (bytes more : List ℕ) → IsPassed bytes → IsBeforeBar more → IsBeforeBar (bytes ++ more)
 before_more bytes more first second rest =
     let a = first (more ++ bar rest) in
-    let b = second rest in
-    let c = length-append bytes more in
-    ap (before_bar true) (append_assoc bytes more (bar rest)) ∙ omega (arith, a, b, c)
+    ap (before_bar true) (append_assoc bytes more (bar rest)) ∙ omega (arith, a, second rest, length-append bytes more)
 
 pub text_before : (bytes rest : List ℕ) → IsBeforeBar bytes → plant_text (bytes ++ bar rest) ≡ bytes
 unfolding plant_text
@@ -122,8 +116,7 @@ whatever_after true [] rest other e = refl
 whatever_after false [] rest other e = absurd (let wrong : 1 + before_bar false (45 ∷ 45 ∷ 10 ∷ rest) ≡ 0 = e in omega (arith, wrong))
 whatever_after false (b ∷ bytes) rest other e =
     let before : 1 + before_bar (b == 10) (bytes ++ bar rest) ≡ suc (length bytes) = e in
-    let later = whatever_after (b == 10) bytes rest other (omega (arith, before)) in
-    omega (arith, later)
+    omega (arith, whatever_after (b == 10) bytes rest other (omega (arith, before)))
 whatever_after true (b ∷ bytes) rest other e = by (is_bar (b ∷ (bytes ++ bar rest))) refl (whatever_after (b == 10) bytes rest other)
   where
     by : (t : Bool) → is_bar (b ∷ (bytes ++ bar rest)) ≡ t → (before_bar (b == 10) (bytes ++ bar rest) ≡ length bytes → before_bar (b == 10) (bytes ++ bar other) ≡ length bytes)
@@ -154,8 +147,7 @@ pub read_before : (bytes rest : List ℕ) → plant_text (bytes ++ bar rest) ≡
 unfolding plant_text
 read_before bytes rest e other =
     let most = most_before true (bytes ++ bar rest) in
-    let long = length_take (before_bar true (bytes ++ bar rest)) (bytes ++ bar rest) most in
-    whatever_after true bytes rest other (sym long ∙ ap length e)
+    whatever_after true bytes rest other (sym (length_take (before_bar true (bytes ++ bar rest)) (bytes ++ bar rest) most) ∙ ap length e)
 
 -- ---- a text that has such a line
 

@@ -107,8 +107,7 @@ module _ (plant : PlantFields) (start : Start) (steps : List Step) (outs : List 
 
   pub at_row : (i : ℕ) (book : BookView) → slice_get live.books i ≡ Some book → IsAtRow i book
   at_row i book here =
-      let within = slice_get_within live.books i book here in
-      let row = some_at plant.rows i (omega (arith, within, as_many)) in
+      let row = some_at plant.rows i (omega (arith, slice_get_within live.books i book here, as_many)) in
       let stands = stands_now plant start steps outs live after i row.0 book row.1 here in
       record {
         row_there = row.1 ∙ ap (λ (r : RowFields). let o : Option RowFields = Some r in o) (sym stands.0);

@@ -41,8 +41,7 @@ no_bar_here (a ∷ b ∷ c ∷ d ∷ more) left none other = grind (arith, nat_t
 walk : (bytes left : List ℕ) → HasNoBreak bytes → before_bar false ((bytes ++ 10 ∷ []) ++ left) ≡ length (bytes ++ 10 ∷ []) + before_bar true left
 walk [] left none = refl
 walk (b ∷ bytes) left none =
-    let later = walk bytes left none.1 in
-    ap (λ (t : Bool). 1 + before_bar t ((bytes ++ 10 ∷ []) ++ left)) (ne_eqb b 10 none.0) ∙ omega (arith, later)
+    ap (λ (t : Bool). 1 + before_bar t ((bytes ++ 10 ∷ []) ++ left)) (ne_eqb b 10 none.0) ∙ omega (arith, walk bytes left none.1)
 
 after_line : (line rest : List ℕ) → (line ++ 10 ∷ []) ++ rest ≡ line ++ 10 ∷ rest
 after_line [] rest = refl
@@ -52,8 +51,7 @@ one_line : (line : List ℕ) → HasNoBreak line → line ≢ dashes → IsPasse
 one_line [] none other rest = refl
 one_line (b ∷ line) none other rest =
     let no_bar : is_bar (b ∷ ((line ++ 10 ∷ []) ++ rest)) ≡ false = ap is_bar (after_line (b ∷ line) rest) ∙ no_bar_here (b ∷ line) rest none other in
-    let later = walk line rest none.1 in
-    rw (no_bar, ne_eqb b 10 none.0) (omega (arith, later))
+    rw (no_bar, ne_eqb b 10 none.0) (omega (arith, walk line rest none.1))
 
 abbrev pub HaveNoBreaks : List (List ℕ) → Type 0
 HaveNoBreaks lines = AllByRecursion HasNoBreak lines

@@ -101,12 +101,11 @@ module _ (op : Operator) (h : IsToCome op.state.frame op.state.next) where
       let r : SliceFrom = record { from = from; slice = record { start = slice_row.start; length = slice_row.length } } in
       let past = passed (nat_le from op.state.frame) NotPast _ fit in
       let free = passed (is_some op.state.next) Unfinished _ past.1 in
-      let none = none_waits op.state.next free.0 in
       record {
         on = omega arith;
         waits =
             sym (ap (λ (t : Bool). cond t (r ∷ []) []) (lt-ltb op.state.frame from (leb-false from op.state.frame past.0)))
-            ∙ ap (λ (o : Option NextShare). to_come op.state.frame (waiting_slice o ++ r ∷ [])) (sym none);
+            ∙ ap (λ (o : Option NextShare). to_come op.state.frame (waiting_slice o ++ r ∷ [])) (sym (none_waits op.state.next free.0));
       }
 
   step_waits : (action : Action) → IsAllowed op action → Waits op.state (cons_option (slice_from action) []) (own_step op action).state

@@ -91,8 +91,7 @@ module _ (old : InService) (line : List ℕ) (answer : ItemAnswer) (is : IsFrame
 
 pub numbers_keep_modems : NumbersKeepModems
 numbers_keep_modems old line answer is starts i row there =
-    let here = subst (λ (p : PlantFields). slice_get p.rows i ≡ Some row) is.changed.same_plant there in
-    own_modems old line answer is i row here starts
+    own_modems old line answer is i row (subst (λ (p : PlantFields). slice_get p.rows i ≡ Some row) is.changed.same_plant there) starts
 
 pub not_noticed : NumbersAreNotNoticed
 not_noticed old line answer is i row actions here may numbers =

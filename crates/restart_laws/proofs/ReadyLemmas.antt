@@ -169,9 +169,7 @@ module _ (old : InService) (live : CoreView) (frame : ℕ) (ready : IsReadyToSav
       frame_small : frame < 2 ^ 32
       frame_small =
           let book = some_at live.books 0 (let some = valid.some in let many = cores.as_many plant old.run.start old.run.steps old.run.outs live frame ready.leads valid ready.rests in omega (arith, some, many)) in
-          let fits = (typed 0 book.0 book.1).frame in
-          let at = ready.rests.before 0 book.0 book.1 in
-          omega (arith, fits, at)
+          omega (arith, (typed 0 book.0 book.1).frame, ready.rests.before 0 book.0 book.1)
 
       named : (i : ℕ) (book : BookView) → slice_get live.books i ≡ Some book → IsOperatorName book.row.name
       named i book here =

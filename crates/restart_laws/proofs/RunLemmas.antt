@@ -181,11 +181,8 @@ module _ (plant : PlantFields) (start : Start) (done : List Step) (outs : List O
         let b = ap length (numbers_are (isolated_run_from plant.consts start row i done).outputs ∙ puts.numbers) in
         let c = length-range_with_len first.frame (count_by is_tick own) in
         let put = put_so_far plant start done outs core starts reached held i row here in
-        let started = held.started in
         let channel = ap (λ (x : Channel). x.first_frame) reached.gathered.channel_is in
-        let at = starts.at_one_frame i row here in
-        let next = puts.next in
-        omega (arith, a, b, c, put, started, channel, at, next, collected)
+        omega (arith, a, b, c, put, held.started, channel, starts.at_one_frame i row here, puts.next, collected)
 
 -- ---- nothing is put
 

@@ -153,20 +153,13 @@ next_saved consts frame committed (Some next) channel is small = record { from =
 
 pub operator_saved : (consts : ConstsFields) (book : BookView) → IsChannel consts.channel → IsRowOf consts book.row → IsOperatorName book.row.name → IsSound (operator consts book.row book.state) → FitsTypes book.state → IsSavedOperator (saved_book book)
 operator_saved consts book channel row name sound fits =
-    let flows = length-map book.state.flows saved_flow in
-    let few_flows = sound.few_flows in
-    let few_kept = sound.few_kept in
-    let few_heard = sound.few_heard in
-    let most_flows = row.keys.flows.high in
-    let most_kept = row.keys.transactions.high in
-    let most_heard = row.keys.inbox.high in
     record {
       name = name;
       share = share_saved consts book.state.share channel sound.share;
       next = next_saved consts book.state.frame _ book.state.next channel sound.next fits.next;
-      few_flows = omega (arith, flows, few_flows, most_flows);
-      few_kept = omega (arith, few_kept, most_kept);
-      few_heard = omega (arith, few_heard, most_heard);
+      few_flows = omega (arith, length-map book.state.flows saved_flow, sound.few_flows, row.keys.flows.high);
+      few_kept = omega (arith, sound.few_kept, row.keys.transactions.high);
+      few_heard = omega (arith, sound.few_heard, row.keys.inbox.high);
       flows = fits.flows;
       ascending = flows_follow book.state.flows sound.ascending;
       kept = fits.responses;
@@ -178,16 +171,13 @@ operator_saved consts book channel row name sound fits =
 
 plant_within : (saved : Snapshot) → length saved.plant ≤ length (text_of_snapshot saved)
 plant_within saved =
-    let whole = ap length (text_parts saved) in
     let a = length-append (version_line saved ++ saved.plant) (bar (state_lines saved)) in
-    let b = length-append (version_line saved) saved.plant in
-    omega (arith, whole, a, b)
+    omega (arith, ap length (text_parts saved), a, length-append (version_line saved) saved.plant)
 
 lines_within : (saved : Snapshot) → line_count (body_text saved) ≤ length (text_of_snapshot saved)
 lines_within saved =
     let a = count_by-le-length (λ (b : ℕ). b == 10) (body_text saved) in
-    let b = length-append (body_text saved) (closing_line (body_text saved)) in
-    omega (arith, a, b)
+    omega (arith, a, length-append (body_text saved) (closing_line (body_text saved)))
 
 pub snapshot_saved : (saved : Snapshot) → length (text_of_snapshot saved) < 2 ^ 32 → saved.frame < 2 ^ 32 → length saved.operators ≤ 32 → AllByRecursion IsSavedOperator saved.operators → AllFollow operator_follows [] saved.operators → IsSnapshot saved
 snapshot_saved saved short frame few operators own = record {

@@ -188,9 +188,8 @@ share_rest : (share : Share) → IsSavedShare share → IsRestOfLine (share_text
 unfolding share_text
 share_rest share is =
     let some = is.slice.some in
-    let range = is.slice.in_range in
-    goes_on (decimal share.slice.start) (short share.slice.start (omega (arith, range))) (goes_on (codes " ") space
-    (goes_on (decimal share.slice.length) (short share.slice.length (omega (arith, range))) (goes_on (codes " ") space
+    goes_on (decimal share.slice.start) (short share.slice.start (omega (arith, is.slice.in_range))) (goes_on (codes " ") space
+    (goes_on (decimal share.slice.length) (short share.slice.length (omega (arith, is.slice.in_range))) (goes_on (codes " ") space
     (goes_on (decimal share.budget) (short share.budget is.budget) line_end))))
 
 slice_passed : (share : Share) → IsSavedShare share → IsPassed (codes "slice " ++ share_text share)

@@ -54,12 +54,10 @@ module _ (input rest : List ℕ) (first number next : ℕ) (held : List ℕ) (is
       let more = parts_from 10 [] rest in
       let kept = removed is.before (subst (λ (p : List ℕ). IsKeptUpTo most_kept keeping bytes (is.before ++ p)) ((bytes_eq-Decides is.part (codes "---")).0 dashes) is.is_kept) in
       let text : file_text (lines_of input) ≡ is.before = is.text_is ∙ ap (λ (t : List ℕ). is.before ++ t) (no_text_here is.part more dashes) ∙ append-nil is.before in
-      let taken = one_taken is.part more dashes in
-      let all = is.counted in
       record {
         is_kept = (is.ended ∙ ended_here is.part more dashes, subst (λ (t : List ℕ). IsKeptUpTo most_bytes new_keeping new_bytes t) (sym text) kept);
         left = is.left ∙ one_left is.part more dashes;
-        counted = omega (arith, counted, all, taken);
+        counted = omega (arith, counted, is.counted, one_taken is.part more dashes);
       }
 
   -- it ends another line
@@ -71,8 +69,6 @@ module _ (input rest : List ℕ) (first number next : ℕ) (held : List ℕ) (is
       let more = parts_from 10 [] rest in
       let line = is.part ++ 10 ∷ [] in
       let whole : (is.before ++ is.part) ++ 10 ∷ [] ≡ (is.before ++ line) ++ [] = append_assoc is.before is.part (10 ∷ []) ∙ sym (append-nil (is.before ++ line)) in
-      let taken = more_taken is.part more other in
-      let all = is.counted in
       record {
         before = is.before ++ line;
         part = [];
@@ -80,7 +76,7 @@ module _ (input rest : List ℕ) (first number next : ℕ) (held : List ℕ) (is
         is_kept = subst (λ (t : List ℕ). IsKeptUpTo most_kept new_keeping new_bytes t) whole (kept (is.before ++ is.part) is.is_kept);
         text_is = is.text_is ∙ ap (λ (t : List ℕ). is.before ++ t) (text_here is.part more other) ∙ sym (append_assoc is.before line (file_text more));
         ended = is.ended ∙ ended_later is.part more other;
-        counted = omega (arith, counted, all, taken);
+        counted = omega (arith, counted, is.counted, more_taken is.part more other);
         left = is.left ∙ left_later is.part more other;
       }
 

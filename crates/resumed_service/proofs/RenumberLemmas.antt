@@ -109,8 +109,7 @@ module _ (live : CoreView) (plant : PlantFields) (start : Start) (before : List 
 
   row_there : (i : ℕ) (book : BookView) → slice_get live.books i ≡ Some book → slice_get plant.rows i ≡ Some book.row
   row_there i book here =
-      let within = slice_get_within live.books i book here in
-      let row = some_at plant.rows i (omega (arith, within, as_many)) in
+      let row = some_at plant.rows i (omega (arith, slice_get_within live.books i book here, as_many)) in
       let stands = stands_now plant start before told live after i row.0 book row.1 here in
       row.1 ∙ ap (λ (r : RowFields). let o : Option RowFields = Some r in o) (sym stands.0)
 

@@ -46,7 +46,6 @@ loop-line-preserved g c =
 pub returns-clause-done : goal.returns-clause-done
 returns-clause-done g c plant start before shown after =
     let at = c.loop-line in
-    let lines = c.args.lines.now in
-    let all = all_taken lines at.line-index (omega (arith, c.loop-line-test.false, at.auto.line-index-end)) in
+    let all = all_taken c.args.lines.now at.line-index (omega (arith, c.loop-line-test.false, at.auto.line-index-end)) in
     subst (λ (ls : List (List ℕ)). LinesAreDone plant start before shown (c.args.count.now + 1) ls (live_view at.core) c.args.text.now.items at.text.items) all
     (at.invariant.done plant start before shown after)

@@ -13,8 +13,7 @@ no_one (Some b) a p q = cc
 
 pub unreachable-requires : goal.unreachable-requires
 unreachable-requires g c =
-    let book = view_of c.args.book.now in
-    no_one (stranger_of book.row c.args.action) c.in-Err-NotMine.field-0-0
+    no_one (stranger_of (view_of c.args.book.now).row c.args.action) c.in-Err-NotMine.field-0-0
     (ap (λ (row : RowFields). stranger_of row c.args.action) c.requires.of_a.row_is ∙ c.requires.allowed.mine)
     ((c.in-Err-NotMine.ensures.not_mine c.in-Err-NotMine.field-0-0).0 (ap Err c.in-Err-NotMine.field-0-is))
 

@@ -8,8 +8,7 @@ use Rattle.resumed_service.proofs.last_state.last_state.Goals as goal
 pub returns-in-Err-Unfinished : goal.returns-in-Err-Unfinished
 returns-in-Err-Unfinished g c =
     let live = live_view c.args.service.now.core in
-    let why = c.in-Err-Unfinished.why in
-    restless c.args.at_end c.args.service.now.file live why c.name_at.result c.in-Snapshot.is
-    (c.in-Err-Unfinished.ensures.fault why (let is = c.in-Err-Unfinished.field-0-is in cc))
-    (c.in-Err-Unfinished.ensures.none why (let is = c.in-Err-Unfinished.field-0-is in cc))
+    restless c.args.at_end c.args.service.now.file live c.in-Err-Unfinished.why c.name_at.result c.in-Snapshot.is
+    (c.in-Err-Unfinished.ensures.fault c.in-Err-Unfinished.why (let is = c.in-Err-Unfinished.field-0-is in cc))
+    (c.in-Err-Unfinished.ensures.none c.in-Err-Unfinished.why (let is = c.in-Err-Unfinished.field-0-is in cc))
     (c.name_at.ensures ∙ (ap (λ (plant : PlantFields). name_at plant.rows c.restless_operator.result) c.plant.ensures ∙ ap (name_at live.plant.rows) c.restless_operator.ensures))

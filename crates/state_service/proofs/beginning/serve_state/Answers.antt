@@ -30,89 +30,58 @@ returns-clause-served g c =
 
 pub returns-in_err-state-clause-any_moment : goal.returns-in_err-state-clause-any_moment
 returns-in_err-state-clause-any_moment g c =
-    let moment = g.D.Device.moment in
-    let left = g.D.Device.left_since in
-    let old = c.args.journal.now.device in
-    let mid = c.open_state.new.device in
-    let seen = g.D.Device.seen old in
-    let file = c.in_ok-given.given.file.items in
-    let opening =
-    subst (λ (f : List ℕ). LeavesOnly moment left old mid (λ d. IsLeftByOpening seen f (journal_content d))) c.as_slice.ensures.value c.open_state.ensures.any_moment in
-    weaker moment left old mid (λ d. IsLeftByOpening seen file (journal_content d)) (λ d. IsUnharmed seen (journal_content d)) opening (λ d here. opening_unharmed seen file (journal_content d) here)
+    let seen = g.D.Device.seen c.args.journal.now.device in
+    let opening = subst (λ (f : List ℕ). LeavesOnly g.D.Device.moment g.D.Device.left_since c.args.journal.now.device c.open_state.new.device (λ d. IsLeftByOpening seen f (journal_content d))) c.as_slice.ensures.value c.open_state.ensures.any_moment in
+    weaker g.D.Device.moment g.D.Device.left_since _ _ _ (λ d. IsUnharmed seen (journal_content d)) opening (λ d here. opening_unharmed seen c.in_ok-given.given.file.items (journal_content d) here)
 
 pub returns-in_err-state-clause-named : goal.returns-in_err-state-clause-named
 returns-in_err-state-clause-named g c =
-    let moment = g.D.Device.moment in
-    let left = g.D.Device.left_since in
-    let old = c.args.journal.now.device in
-    let mid = c.open_state.new.device in
-    let seen = g.D.Device.seen old in
-    let file = c.in_ok-given.given.file.items in
-    let opening =
-    subst (λ (f : List ℕ). LeavesOnly moment left old mid (λ d. IsLeftByOpening seen f (journal_content d))) c.as_slice.ensures.value c.open_state.ensures.any_moment in
-    opening_named moment left seen (g.R.Read.remaining c.args.reader.now) old mid file c.in_ok-given.ensures.file opening
+    let seen = g.D.Device.seen c.args.journal.now.device in
+    let opening = subst (λ (f : List ℕ). LeavesOnly g.D.Device.moment g.D.Device.left_since c.args.journal.now.device c.open_state.new.device (λ d. IsLeftByOpening seen f (journal_content d))) c.as_slice.ensures.value c.open_state.ensures.any_moment in
+    opening_named g.D.Device.moment g.D.Device.left_since seen (g.R.Read.remaining c.args.reader.now) _ _ _ c.in_ok-given.ensures.file opening
 
 pub returns-in_err-given-clause-named : goal.returns-in_err-given-clause-named
 returns-in_err-given-clause-named g c =
-    let old = c.args.journal.now.device in
-    let seen = g.D.Device.seen old in
-    still_named g.D.Device.moment g.D.Device.left_since seen (g.R.Read.remaining c.args.reader.now) old
-    (unchanged g.D.Device.moment g.D.Device.left_since old g.D.Device.seen g.D.Device.may_leave (λ o. o ≡ journal_content seen) (g.met.D.Device.only_now old) c.requires refl)
+    let seen = g.D.Device.seen c.args.journal.now.device in
+    still_named g.D.Device.moment g.D.Device.left_since seen (g.R.Read.remaining c.args.reader.now) _
+    (unchanged g.D.Device.moment g.D.Device.left_since _ g.D.Device.seen g.D.Device.may_leave (λ o. o ≡ journal_content seen) (g.met.D.Device.only_now _) c.requires refl)
 
 pub returns-in_err-lines-clause-named : goal.returns-in_err-lines-clause-named
 returns-in_err-lines-clause-named g c =
-    let old = c.args.journal.now.device in
-    let seen = g.D.Device.seen old in
-    still_named g.D.Device.moment g.D.Device.left_since seen (g.R.Read.remaining c.args.reader.now) old
-    (unchanged g.D.Device.moment g.D.Device.left_since old g.D.Device.seen g.D.Device.may_leave (λ o. o ≡ journal_content seen) (g.met.D.Device.only_now old) c.requires refl)
+    let seen = g.D.Device.seen c.args.journal.now.device in
+    still_named g.D.Device.moment g.D.Device.left_since seen (g.R.Read.remaining c.args.reader.now) _
+    (unchanged g.D.Device.moment g.D.Device.left_since _ g.D.Device.seen g.D.Device.may_leave (λ o. o ≡ journal_content seen) (g.met.D.Device.only_now _) c.requires refl)
 
 pub returns-clause-any_moment : goal.returns-clause-any_moment
 returns-clause-any_moment g c =
-    let moment = g.D.Device.moment in
-    let left = g.D.Device.left_since in
-    let old = c.args.journal.now.device in
-    let mid = c.open_state.new.device in
-    let new = c.serve_restored.new.journal.device in
-    let seen = g.D.Device.seen old in
-    let file = c.in_ok-given.given.file.items in
-    let found = journal_content (g.D.Device.seen mid) in
-    let opening =
-    subst (λ (f : List ℕ). LeavesOnly moment left old mid (λ d. IsLeftByOpening seen f (journal_content d))) c.as_slice.ensures.value c.open_state.ensures.any_moment in
+    let seen = g.D.Device.seen c.args.journal.now.device in
+    let opening = subst (λ (f : List ℕ). LeavesOnly g.D.Device.moment g.D.Device.left_since c.args.journal.now.device c.open_state.new.device (λ d. IsLeftByOpening seen f (journal_content d))) c.as_slice.ensures.value c.open_state.ensures.any_moment in
+    let found = journal_content (g.D.Device.seen c.open_state.new.device) in
     let is_found = subst (λ (f : List ℕ). IsFoundIn seen f found) c.as_slice.ensures.value c.in_ok-state.ensures.is_found in
-    joined moment left old mid new (λ d. IsUnharmed seen (journal_content d))
-    (weaker moment left old mid (λ d. IsLeftByOpening seen file (journal_content d)) (λ d. IsUnharmed seen (journal_content d)) opening (λ d here. opening_unharmed seen file (journal_content d) here))
-    (weaker moment left mid new _ (λ d. IsUnharmed seen (journal_content d)) c.serve_restored.ensures.any_moment
-    (λ d under. unharmed_from seen file found (journal_content d) is_found under.loses_none))
+    joined g.D.Device.moment g.D.Device.left_since _ c.open_state.new.device _ (λ d. IsUnharmed seen (journal_content d))
+    (weaker g.D.Device.moment g.D.Device.left_since _ _ _ (λ d. IsUnharmed seen (journal_content d)) opening (λ d here. opening_unharmed seen c.in_ok-given.given.file.items (journal_content d) here))
+    (weaker g.D.Device.moment g.D.Device.left_since _ _ _ (λ d. IsUnharmed seen (journal_content d)) c.serve_restored.ensures.any_moment
+    (λ d under. unharmed_from seen c.in_ok-given.given.file.items found (journal_content d) is_found under.loses_none))
 
 pub returns-clause-named : goal.returns-clause-named
 returns-clause-named g c =
-    let moment = g.D.Device.moment in
-    let left = g.D.Device.left_since in
-    let old = c.args.journal.now.device in
-    let mid = c.open_state.new.device in
-    let new = c.serve_restored.new.journal.device in
-    let seen = g.D.Device.seen old in
-    let file = c.in_ok-given.given.file.items in
-    let found = journal_content (g.D.Device.seen mid) in
-    let opening =
-    subst (λ (f : List ℕ). LeavesOnly moment left old mid (λ d. IsLeftByOpening seen f (journal_content d))) c.as_slice.ensures.value c.open_state.ensures.any_moment in
+    let seen = g.D.Device.seen c.args.journal.now.device in
+    let opening = subst (λ (f : List ℕ). LeavesOnly g.D.Device.moment g.D.Device.left_since c.args.journal.now.device c.open_state.new.device (λ d. IsLeftByOpening seen f (journal_content d))) c.as_slice.ensures.value c.open_state.ensures.any_moment in
+    let found = journal_content (g.D.Device.seen c.open_state.new.device) in
+    let is_found = subst (λ (f : List ℕ). IsFoundIn seen f found) c.as_slice.ensures.value c.in_ok-state.ensures.is_found in
     let rest = g.R.Read.remaining c.read_given.new.reader in
     let lines = c.in_ok-lines.lines in
     let same : reader_remaining (λ (r : _). g.R.Read.remaining r.now) lines ≡ rest =
     unread_same (λ (r : _). g.R.Read.remaining r.now) lines c.in_ok-lines.ensures.empty c.in_ok-lines.ensures.capacity ∙ ap (λ (r : _). g.R.Read.remaining r.now) c.in_ok-lines.ensures.inner in
-    let is_found = subst (λ (f : List ℕ). IsFoundIn seen f found) c.as_slice.ensures.value c.in_ok-state.ensures.is_found in
-    service_named moment left seen (g.R.Read.remaining c.args.reader.now) rest old mid new file found c.in_ok-given.ensures.file c.in_ok-given.ensures.lines is_found opening
-    (subst (λ (o : Option (List ℕ)). LeavesOnly moment left mid new (λ d. IsLeftUnder found file o (journal_content d))) same c.serve_restored.ensures.any_moment)
+    service_named g.D.Device.moment g.D.Device.left_since seen (g.R.Read.remaining c.args.reader.now) rest _ c.open_state.new.device c.serve_restored.new.journal.device c.in_ok-given.given.file.items found c.in_ok-given.ensures.file c.in_ok-given.ensures.lines is_found opening
+    (subst (λ (o : Option (List ℕ)). LeavesOnly g.D.Device.moment g.D.Device.left_since c.open_state.new.device c.serve_restored.new.journal.device (λ d. IsLeftUnder found c.in_ok-given.given.file.items o (journal_content d))) same c.serve_restored.ensures.any_moment)
 
 pub returns-clause-fault : goal.returns-clause-fault
 returns-clause-fault g c =
     let seen = g.D.Device.seen c.args.journal.now.device in
     let found = journal_content (g.D.Device.seen c.open_state.new.device) in
-    let file = c.in_ok-given.given.file.items in
-    let old = g.D.Device.faults c.args.journal.now.device in
-    let mid = g.D.Device.faults c.open_state.new.device in
-    let new = g.D.Device.faults c.serve_restored.new.journal.device in
     let is_found = subst (λ (f : List ℕ). IsFoundIn seen f found) c.as_slice.ensures.value c.in_ok-state.ensures.is_found in
+    let new = g.D.Device.faults c.serve_restored.new.journal.device in
     if_err c.serve_restored.result _ _
-    (λ e is. start_fault (g.R.Read.remaining c.args.reader.now) seen file found mid new old new e c.in_ok-given.ensures.file is_found c.open_state.ensures.counted (le_refl new) is)
+    (λ e is. start_fault (g.R.Read.remaining c.args.reader.now) seen c.in_ok-given.given.file.items found _ new _ new e c.in_ok-given.ensures.file is_found c.open_state.ensures.counted (le_refl new) is)
     c.serve_restored.ensures.fault

@@ -8,9 +8,8 @@ returns-clause-outcome g c =
     let file = c.args.service.now.file in
     let live = live_view c.args.service.now.core in
     let saved = c.in-Ok.saved in
-    let is = c.in-Ok.ensures.ok in
     inl (record {
       requests = c.requires;
-      given = snapshot_given file live saved is _ c.in_ok-answer.ensures.text;
-      kept = record { saved = saved; of_core = core_snapshot_is file live saved is; kept = c.in_ok-kept.ensures };
+      given = snapshot_given file live saved c.in-Ok.ensures.ok _ c.in_ok-answer.ensures.text;
+      kept = record { saved = saved; of_core = core_snapshot_is file live saved c.in-Ok.ensures.ok; kept = c.in_ok-kept.ensures };
     })

@@ -72,34 +72,22 @@ returns-then-is_empty-clause-any_moment g c origin has =
 
 pub returns-in_err-answer_lines-clause-any_moment : goal.returns-in_err-answer_lines-clause-any_moment
 returns-in_err-answer_lines-clause-any_moment g c origin has =
-    let old = c.args.journal.now.device in
-    let content = journal_content (g.D.Device.seen old) in
     let read = c.in_ok-lines.field-0 in
     let lines = texts c.as_slice.result.now in
-    let a = g.B.Read.remaining c.args.reader.now in
     let b = g.B.Read.remaining c.read_batch.new.reader in
-    let old_part = c.args.part.now.items in
-    let new_part = c.read_batch.new.part.items in
     let same : texts read.lines.items ≡ lines = sym (ap (λ (ls : List (Vec ℕ Global)). texts ls) c.as_slice.ensures.value) in
-    put_moments g.D.Device.moment g.D.Device.left_since old c.answer_lines.new.journal.device (λ o. IsLeftFrom origin o) content (with_lines lines content) (journal_left origin Open content a old_part has)
-    (journal_left origin read.end (with_lines lines content) b new_part
-    (batch_more origin read.end content (with_lines lines content) lines old_part new_part a b
-    (λ k before taken. subst (λ (ls : List (List ℕ)). WhereKnown k b (λ input rest. IsAfterBatch read.end input rest (before ++ ls) new_part)) same (c.in_ok-lines.ensures.taken k before taken)) refl has))
+    put_moments g.D.Device.moment g.D.Device.left_since _ _ (λ o. IsLeftFrom origin o) _ (with_lines lines _) (journal_left origin Open _ _ _ has)
+    (journal_left origin read.end _ b c.read_batch.new.part.items (batch_more origin read.end _ _ lines _ _ _ b
+    (λ k before taken. subst (λ (ls : List (List ℕ)). WhereKnown k b (λ input rest. IsAfterBatch read.end input rest (before ++ ls) c.read_batch.new.part.items)) same (c.in_ok-lines.ensures.taken k before taken)) refl has))
     c.answer_lines.ensures.any_moment
 
 pub returns-clause-any_moment : goal.returns-clause-any_moment
 returns-clause-any_moment g c origin has =
-    let old = c.args.journal.now.device in
-    let content = journal_content (g.D.Device.seen old) in
     let read = c.in_ok-lines.field-0 in
     let lines = texts c.as_slice.result.now in
-    let a = g.B.Read.remaining c.args.reader.now in
     let b = g.B.Read.remaining c.read_batch.new.reader in
-    let old_part = c.args.part.now.items in
-    let new_part = c.read_batch.new.part.items in
     let same : texts read.lines.items ≡ lines = sym (ap (λ (ls : List (Vec ℕ Global)). texts ls) c.as_slice.ensures.value) in
-    put_moments g.D.Device.moment g.D.Device.left_since old c.answer_lines.new.journal.device (λ o. IsLeftFrom origin o) content (with_lines lines content) (journal_left origin Open content a old_part has)
-    (journal_left origin read.end (with_lines lines content) b new_part
-    (batch_more origin read.end content (with_lines lines content) lines old_part new_part a b
-    (λ k before taken. subst (λ (ls : List (List ℕ)). WhereKnown k b (λ input rest. IsAfterBatch read.end input rest (before ++ ls) new_part)) same (c.in_ok-lines.ensures.taken k before taken)) refl has))
+    put_moments g.D.Device.moment g.D.Device.left_since _ _ (λ o. IsLeftFrom origin o) _ (with_lines lines _) (journal_left origin Open _ _ _ has)
+    (journal_left origin read.end _ b c.read_batch.new.part.items (batch_more origin read.end _ _ lines _ _ _ b
+    (λ k before taken. subst (λ (ls : List (List ℕ)). WhereKnown k b (λ input rest. IsAfterBatch read.end input rest (before ++ ls) c.read_batch.new.part.items)) same (c.in_ok-lines.ensures.taken k before taken)) refl has))
     c.answer_lines.ensures.any_moment

@@ -10,73 +10,42 @@ use Rattle.state_service.proofs.serving.serve_first.Goals as goal
 
 pub returns-in_default-clause-any_moment : goal.returns-in_default-clause-any_moment
 returns-in_default-clause-any_moment g c =
-    let old = c.args.journal.now.device in
-    let content = journal_content (g.D.Device.seen old) in
-    let state = c.args.state in
-    let least = state.start.count + length state.lines.items in
-    let has = stands_has content state.start.count state.start.plant state.start.saved state.lines.items c.requires.found in
-    let given = c.args.given.file.items in
+    let content = journal_content (g.D.Device.seen c.args.journal.now.device) in
     let known = g.B.Read.remaining c.args.reader.now in
-    unchanged g.D.Device.moment g.D.Device.left_since old g.D.Device.seen g.D.Device.may_leave (λ o. IsLeftUnder content given known o) (g.met.D.Device.only_now old) c.requires.settled.durable
-    (found_left content given known least has)
+    unchanged g.D.Device.moment g.D.Device.left_since _ g.D.Device.seen g.D.Device.may_leave (λ o. IsLeftUnder content c.args.given.file.items known o) (g.met.D.Device.only_now _) c.requires.settled.durable
+    (found_left content _ known _ (stands_has content _ _ _ c.args.state.lines.items c.requires.found))
 
 pub returns-then-is_err-clause-any_moment : goal.returns-then-is_err-clause-any_moment
 returns-then-is_err-clause-any_moment g c =
-    let old = c.args.journal.now.device in
-    let content = journal_content (g.D.Device.seen old) in
-    let state = c.args.state in
-    let least = state.start.count + length state.lines.items in
-    let has = stands_has content state.start.count state.start.plant state.start.saved state.lines.items c.requires.found in
-    let given = c.args.given.file.items in
+    let content = journal_content (g.D.Device.seen c.args.journal.now.device) in
     let known = g.B.Read.remaining c.args.reader.now in
-    unchanged g.D.Device.moment g.D.Device.left_since old g.D.Device.seen g.D.Device.may_leave (λ o. IsLeftUnder content given known o) (g.met.D.Device.only_now old) c.requires.settled.durable
-    (found_left content given known least has)
+    unchanged g.D.Device.moment g.D.Device.left_since _ g.D.Device.seen g.D.Device.may_leave (λ o. IsLeftUnder content c.args.given.file.items known o) (g.met.D.Device.only_now _) c.requires.settled.durable
+    (found_left content _ known _ (stands_has content _ _ _ c.args.state.lines.items c.requires.found))
 
 pub returns-in_default-new-clause-any_moment : goal.returns-in_default-new-clause-any_moment
 returns-in_default-new-clause-any_moment g c =
-    let old = c.args.journal.now.device in
-    let content = journal_content (g.D.Device.seen old) in
-    let state = c.args.state in
-    let least = state.start.count + length state.lines.items in
-    let has = stands_has content state.start.count state.start.plant state.start.saved state.lines.items c.requires.found in
-    let given = c.args.given.file.items in
+    let content = journal_content (g.D.Device.seen c.args.journal.now.device) in
     let known = g.B.Read.remaining c.args.reader.now in
-    unchanged g.D.Device.moment g.D.Device.left_since old g.D.Device.seen g.D.Device.may_leave (λ o. IsLeftUnder content given known o) (g.met.D.Device.only_now old) c.requires.settled.durable
-    (found_left content given known least has)
+    unchanged g.D.Device.moment g.D.Device.left_since _ g.D.Device.seen g.D.Device.may_leave (λ o. IsLeftUnder content c.args.given.file.items known o) (g.met.D.Device.only_now _) c.requires.settled.durable
+    (found_left content _ known _ (stands_has content _ _ _ c.args.state.lines.items c.requires.found))
 
 pub returns-then-is_err-2-clause-any_moment : goal.returns-then-is_err-2-clause-any_moment
 returns-then-is_err-2-clause-any_moment g c =
-    let old = c.args.journal.now.device in
-    let content = journal_content (g.D.Device.seen old) in
-    let state = c.args.state in
-    let least = state.start.count + length state.lines.items in
-    let has = stands_has content state.start.count state.start.plant state.start.saved state.lines.items c.requires.found in
-    let given = c.args.given.file.items in
+    let content = journal_content (g.D.Device.seen c.args.journal.now.device) in
     let known = g.B.Read.remaining c.args.reader.now in
-    unchanged g.D.Device.moment g.D.Device.left_since old g.D.Device.seen g.D.Device.may_leave (λ o. IsLeftUnder content given known o) (g.met.D.Device.only_now old) c.requires.settled.durable
-    (found_left content given known least has)
+    unchanged g.D.Device.moment g.D.Device.left_since _ g.D.Device.seen g.D.Device.may_leave (λ o. IsLeftUnder content c.args.given.file.items known o) (g.met.D.Device.only_now _) c.requires.settled.durable
+    (found_left content _ known _ (stands_has content _ _ _ c.args.state.lines.items c.requires.found))
 
 pub returns-in-Err-clause-any_moment : goal.returns-in-Err-clause-any_moment
 returns-in-Err-clause-any_moment g c =
-    let old = c.args.journal.now.device in
-    let content = journal_content (g.D.Device.seen old) in
-    let state = c.args.state in
-    let least = state.start.count + length state.lines.items in
-    let has = stands_has content state.start.count state.start.plant state.start.saved state.lines.items c.requires.found in
-    let given = c.args.given.file.items in
+    let content = journal_content (g.D.Device.seen c.args.journal.now.device) in
     let known = g.B.Read.remaining c.args.reader.now in
-    unchanged g.D.Device.moment g.D.Device.left_since old g.D.Device.seen g.D.Device.may_leave (λ o. IsLeftUnder content given known o) (g.met.D.Device.only_now old) c.requires.settled.durable
-    (found_left content given known least has)
+    unchanged g.D.Device.moment g.D.Device.left_since _ g.D.Device.seen g.D.Device.may_leave (λ o. IsLeftUnder content c.args.given.file.items known o) (g.met.D.Device.only_now _) c.requires.settled.durable
+    (found_left content _ known _ (stands_has content _ _ _ c.args.state.lines.items c.requires.found))
 
 pub returns-clause-on : goal.returns-clause-on
 returns-clause-on g c =
-    let old = c.args.journal.now.device in
-    let content = journal_content (g.D.Device.seen old) in
     let state = c.args.state in
-    let least = state.start.count + length state.lines.items in
-    let has = stands_has content state.start.count state.start.plant state.start.saved state.lines.items c.requires.found in
-    let given = c.args.given.file.items in
-    let known = g.B.Read.remaining c.args.reader.now in
     let started = c.in_ok-service.ensures in
     let service = c.in_ok-service.field-0.service in
     let same = c.as_slice.ensures.value in
@@ -87,8 +56,8 @@ returns-clause-on g c =
       leads = started.leads;
       serves = started.on;
       loses_none = record {
-        least = least;
-        had = inl has;
+        least = state.start.count + length state.lines.items;
+        had = inl (stands_has (journal_content (g.D.Device.seen c.args.journal.now.device)) _ _ _ state.lines.items c.requires.found);
         has = subst (λ (ls : List (Vec ℕ Global)). HasNoFewer (state.start.count + length ls) (journal_content (g.D.Device.seen c.start_service.new.journal.device))) same started.no_fewer;
       };
       enough = subst (λ (ls : List (Vec ℕ Global)). state.start.count + length ls ≤ service.count) same started.count;

@@ -45,10 +45,9 @@ loop-preserved g c =
     let on =
     subst (λ (e : PeriodEnd). IsServedUpTo found (journal_content (g.D.Device.seen mid)) given served.file served.count e c.loop.part.items known (g.B.Read.remaining c.loop.reader) w0 (g.W.Write.contents c.loop.writer))
     c.in-Due.is c.loop.invariant.on in
-    let kept = c.in_ok-served-2.ensures in
     record {
-      settled = kept.settled;
-      on = kept.on found given known w0 on;
+      settled = c.in_ok-served-2.ensures.settled;
+      on = c.in_ok-served-2.ensures.on found given known w0 on;
       any_moment = joined g.D.Device.moment g.D.Device.left_since old mid new (λ d. IsLeftUnder found given known (journal_content d)) c.loop.invariant.any_moment (c.serve_kept.ensures.any_moment found given known w0 on);
       counted = le_trans c.loop.invariant.counted c.serve_kept.ensures.counted;
     }

@@ -2,7 +2,6 @@ use Rattle.std.proofs.Common.{rules, ◌≡◌, ◌≢◌, ◌∙◌, ℕ, ◌+�
 use Rattle.live_core.specs.LiveView.{live_view}
 use Rattle.script_format.proofs.Outcomes.{if_ok}
 use Rattle.line_service.proofs.ServiceLemmas.{known_same}
-use Rattle.line_journal.specs.Found.{texts}
 use Rattle.line_journal.specs.Journal.{journal_content}
 use Rattle.state_service.specs.Serving.{HasNoFewer}
 use Rattle.state_service.specs.Beginning.{IsServiceSoFar, IsLeftUnder}
@@ -14,16 +13,10 @@ use Rattle.state_service.proofs.starting.start_service.Goals as goal
 
 pub returns-in_err-redo_lines-clause-any_moment : goal.returns-in_err-redo_lines-clause-any_moment
 returns-in_err-redo_lines-clause-any_moment g c =
-    let old = c.args.journal.now.device in
-    let content = journal_content (g.D.Device.seen old) in
-    let lines = c.args.lines.now in
-    let least = c.args.service.count + length lines in
-    let restored = c.requires.restored in
-    let has = stands_has content c.args.service.count restored.plant restored.saved lines restored.stands in
-    let given = c.args.given.file.items in
+    let content = journal_content (g.D.Device.seen c.args.journal.now.device) in
     let known = g.B.Read.remaining c.args.reader.now in
-    unchanged g.D.Device.moment g.D.Device.left_since old g.D.Device.seen g.D.Device.may_leave (λ o. IsLeftUnder content given known o) (g.met.D.Device.only_now old) c.requires.settled.durable
-    (found_left content given known least has)
+    unchanged g.D.Device.moment g.D.Device.left_since _ g.D.Device.seen g.D.Device.may_leave (λ o. IsLeftUnder content c.args.given.file.items known o) (g.met.D.Device.only_now _) c.requires.settled.durable
+    (found_left content _ known _ (stands_has content _ _ _ c.args.lines.now c.requires.restored.stands))
 
 pub returns-then-ne-clause-count : goal.returns-then-ne-clause-count
 returns-then-ne-clause-count g c = if_ok c.change_service.result _ _ (λ started is. omega (arith, is, c.in_ok-redo_lines.ensures.count)) c.change_service.ensures.count
@@ -36,8 +29,8 @@ returns-then-ne-clause-fault g c =
     let content = journal_content (g.D.Device.seen c.args.journal.now.device) in
     let service = c.redo_lines.new.service in
     let given = c.args.given.file.items in
-    let leads = restored_leads content c.args.service.file c.args.service.count (texts c.args.lines.now) (live_view c.args.service.core) (live_view service.core) service.count c.requires.restored c.in_ok-redo_lines.ensures.leads in
-    let is_saved = restored_saved content c.args.service.file service.file c.args.service.count (texts c.args.lines.now) (live_view c.args.service.core) c.requires.restored c.redo_lines.ensures.same in
+    let leads = restored_leads content _ _ _ (live_view c.args.service.core) _ _ c.requires.restored c.in_ok-redo_lines.ensures.leads in
+    let is_saved = restored_saved content _ service.file _ _ (live_view c.args.service.core) c.requires.restored c.redo_lines.ensures.same in
     let other : given ≢ service.file = search rules in
     if_err c.change_service.result _ _
     (λ e is. change_start content given (g.D.Device.faults c.args.journal.now.device) (live_view service.core) service.count service.file c.args.given.plant e leads is_saved other c.requires.given is)
@@ -47,8 +40,8 @@ pub returns-then-ne-clause-on : goal.returns-then-ne-clause-on
 returns-then-ne-clause-on g c =
     let content = journal_content (g.D.Device.seen c.args.journal.now.device) in
     let service = c.redo_lines.new.service in
-    let leads = restored_leads content c.args.service.file c.args.service.count (texts c.args.lines.now) (live_view c.args.service.core) (live_view service.core) service.count c.requires.restored c.in_ok-redo_lines.ensures.leads in
-    let is_saved = restored_saved content c.args.service.file service.file c.args.service.count (texts c.args.lines.now) (live_view c.args.service.core) c.requires.restored c.redo_lines.ensures.same in
+    let leads = restored_leads content _ _ _ (live_view c.args.service.core) _ _ c.requires.restored c.in_ok-redo_lines.ensures.leads in
+    let is_saved = restored_saved content _ service.file _ _ (live_view c.args.service.core) c.requires.restored c.redo_lines.ensures.same in
     if_ok c.change_service.result _ _
     (λ started on.
     known_same (g.B.Read.remaining c.args.reader.now)
@@ -59,133 +52,90 @@ returns-then-ne-clause-on g c =
 
 pub returns-then-ne-clause-any_moment : goal.returns-then-ne-clause-any_moment
 returns-then-ne-clause-any_moment g c =
-    let old = c.args.journal.now.device in
-    let content = journal_content (g.D.Device.seen old) in
-    let lines = c.args.lines.now in
-    let least = c.args.service.count + length lines in
-    let restored = c.requires.restored in
-    let has = stands_has content c.args.service.count restored.plant restored.saved lines restored.stands in
-    let given = c.args.given.file.items in
+    let content = journal_content (g.D.Device.seen c.args.journal.now.device) in
     let known = g.B.Read.remaining c.args.reader.now in
-    unchanged g.D.Device.moment g.D.Device.left_since old g.D.Device.seen g.D.Device.may_leave (λ o. IsLeftUnder content given known o) (g.met.D.Device.only_now old) c.requires.settled.durable
-    (found_left content given known least has)
+    unchanged g.D.Device.moment g.D.Device.left_since _ g.D.Device.seen g.D.Device.may_leave (λ o. IsLeftUnder content c.args.given.file.items known o) (g.met.D.Device.only_now _) c.requires.settled.durable
+    (found_left content _ known _ (stands_has content _ _ _ c.args.lines.now c.requires.restored.stands))
 
 pub returns-in_err-write_greeting-clause-any_moment : goal.returns-in_err-write_greeting-clause-any_moment
 returns-in_err-write_greeting-clause-any_moment g c =
-    let old = c.args.journal.now.device in
-    let content = journal_content (g.D.Device.seen old) in
-    let lines = c.args.lines.now in
-    let least = c.args.service.count + length lines in
-    let restored = c.requires.restored in
-    let has = stands_has content c.args.service.count restored.plant restored.saved lines restored.stands in
-    let given = c.args.given.file.items in
+    let content = journal_content (g.D.Device.seen c.args.journal.now.device) in
     let known = g.B.Read.remaining c.args.reader.now in
-    unchanged g.D.Device.moment g.D.Device.left_since old g.D.Device.seen g.D.Device.may_leave (λ o. IsLeftUnder content given known o) (g.met.D.Device.only_now old) c.requires.settled.durable
-    (found_left content given known least has)
+    unchanged g.D.Device.moment g.D.Device.left_since _ g.D.Device.seen g.D.Device.may_leave (λ o. IsLeftUnder content c.args.given.file.items known o) (g.met.D.Device.only_now _) c.requires.settled.durable
+    (found_left content _ known _ (stands_has content _ _ _ c.args.lines.now c.requires.restored.stands))
 
 pub returns-then-ne-clause-no_fewer : goal.returns-then-ne-clause-no_fewer
 returns-then-ne-clause-no_fewer g c =
-    let old = c.args.journal.now.device in
-    let content = journal_content (g.D.Device.seen old) in
-    let lines = c.args.lines.now in
-    let least = c.args.service.count + length lines in
-    let restored = c.requires.restored in
-    let has = stands_has content c.args.service.count restored.plant restored.saved lines restored.stands in
-    let given = c.args.given.file.items in
-    let known = g.B.Read.remaining c.args.reader.now in
-    on_ok c.change_service.result (HasNoFewer least content) (record { count = least; has = has; enough = omega arith })
+    let content = journal_content (g.D.Device.seen c.args.journal.now.device) in
+    on_ok c.change_service.result (HasNoFewer (c.args.service.count + length c.args.lines.now) content)
+    (record { count = _; has = stands_has content _ _ _ c.args.lines.now c.requires.restored.stands; enough = omega arith })
 
 pub returns-clause-count : goal.returns-clause-count
 returns-clause-count g c = omega (arith, c.in_ok-redo_lines.ensures.count, c.in_ok-end.ensures.count)
 
 pub returns-clause-same_file : goal.returns-clause-same_file
 returns-clause-same_file g c =
-    let service = c.redo_lines.new.service in
-    let same : c.args.given.file.items ≡ service.file = search rules in
+    let same : c.args.given.file.items ≡ c.redo_lines.new.service.file = search rules in
     c.in_ok-end.ensures.same_file ∙ sym same
 
 pub returns-clause-leads : goal.returns-clause-leads
 returns-clause-leads g c =
     let content = journal_content (g.D.Device.seen c.args.journal.now.device) in
     let service = c.redo_lines.new.service in
-    let leads = restored_leads content c.args.service.file c.args.service.count (texts c.args.lines.now) (live_view c.args.service.core) (live_view service.core) service.count c.requires.restored c.in_ok-redo_lines.ensures.leads in
+    let leads = restored_leads content _ _ _ (live_view c.args.service.core) _ _ c.requires.restored c.in_ok-redo_lines.ensures.leads in
     c.in_ok-end.ensures.leads leads
 
 pub returns-clause-no_fewer : goal.returns-clause-no_fewer
 returns-clause-no_fewer g c =
-    let old = c.args.journal.now.device in
-    let content = journal_content (g.D.Device.seen old) in
-    let lines = c.args.lines.now in
-    let least = c.args.service.count + length lines in
-    let restored = c.requires.restored in
-    let has = stands_has content c.args.service.count restored.plant restored.saved lines restored.stands in
+    let content = journal_content (g.D.Device.seen c.args.journal.now.device) in
+    let has = stands_has content _ _ _ c.args.lines.now c.requires.restored.stands in
     let given = c.args.given.file.items in
-    let known = g.B.Read.remaining c.args.reader.now in
     let service = c.redo_lines.new.service in
-    let live = live_view service.core in
-    let leads = restored_leads content c.args.service.file c.args.service.count (texts lines) (live_view c.args.service.core) live service.count restored c.in_ok-redo_lines.ensures.leads in
-    let is_saved = restored_saved content c.args.service.file service.file c.args.service.count (texts lines) (live_view c.args.service.core) restored c.redo_lines.ensures.same in
+    let leads = restored_leads content _ _ _ (live_view c.args.service.core) (live_view service.core) _ c.requires.restored c.in_ok-redo_lines.ensures.leads in
+    let is_saved = restored_saved content _ service.file _ _ (live_view c.args.service.core) c.requires.restored c.redo_lines.ensures.same in
     let same : given ≡ service.file = search rules in
-    let later = journal_content (g.D.Device.seen c.serve_period.new.journal.device) in
-    let left = begun_left content service.file given live service.count least known c.args.part.now.items leads is_saved same c.requires.part has later c.in_ok-end.ensures.left in
+    let left = begun_left content service.file given (live_view service.core) service.count _ (g.B.Read.remaining c.args.reader.now) c.args.part.now.items leads is_saved same c.requires.part has _ c.in_ok-end.ensures.left in
     left.no_fewer
 
 pub returns-in_err-end-clause-any_moment : goal.returns-in_err-end-clause-any_moment
 returns-in_err-end-clause-any_moment g c =
-    let old = c.args.journal.now.device in
-    let content = journal_content (g.D.Device.seen old) in
-    let lines = c.args.lines.now in
-    let least = c.args.service.count + length lines in
-    let restored = c.requires.restored in
-    let has = stands_has content c.args.service.count restored.plant restored.saved lines restored.stands in
+    let content = journal_content (g.D.Device.seen c.args.journal.now.device) in
+    let has = stands_has content _ _ _ c.args.lines.now c.requires.restored.stands in
     let given = c.args.given.file.items in
-    let known = g.B.Read.remaining c.args.reader.now in
     let service = c.redo_lines.new.service in
-    let live = live_view service.core in
-    let leads = restored_leads content c.args.service.file c.args.service.count (texts lines) (live_view c.args.service.core) live service.count restored c.in_ok-redo_lines.ensures.leads in
-    let is_saved = restored_saved content c.args.service.file service.file c.args.service.count (texts lines) (live_view c.args.service.core) restored c.redo_lines.ensures.same in
+    let leads = restored_leads content _ _ _ (live_view c.args.service.core) (live_view service.core) _ c.requires.restored c.in_ok-redo_lines.ensures.leads in
+    let is_saved = restored_saved content _ service.file _ _ (live_view c.args.service.core) c.requires.restored c.redo_lines.ensures.same in
     let same : given ≡ service.file = search rules in
-    begun_leaves content service.file given live service.count least known c.args.part.now.items leads is_saved same c.requires.part has g.D.Device.moment g.D.Device.left_since old
-    c.serve_period.new.journal.device c.serve_period.ensures.any_moment
+    begun_leaves content service.file given (live_view service.core) service.count _ (g.B.Read.remaining c.args.reader.now) c.args.part.now.items leads is_saved same c.requires.part has g.D.Device.moment g.D.Device.left_since _ _
+    c.serve_period.ensures.any_moment
 
 pub returns-clause-any_moment : goal.returns-clause-any_moment
 returns-clause-any_moment g c =
-    let old = c.args.journal.now.device in
-    let content = journal_content (g.D.Device.seen old) in
-    let lines = c.args.lines.now in
-    let least = c.args.service.count + length lines in
-    let restored = c.requires.restored in
-    let has = stands_has content c.args.service.count restored.plant restored.saved lines restored.stands in
+    let content = journal_content (g.D.Device.seen c.args.journal.now.device) in
+    let has = stands_has content _ _ _ c.args.lines.now c.requires.restored.stands in
     let given = c.args.given.file.items in
-    let known = g.B.Read.remaining c.args.reader.now in
     let service = c.redo_lines.new.service in
-    let live = live_view service.core in
-    let leads = restored_leads content c.args.service.file c.args.service.count (texts lines) (live_view c.args.service.core) live service.count restored c.in_ok-redo_lines.ensures.leads in
-    let is_saved = restored_saved content c.args.service.file service.file c.args.service.count (texts lines) (live_view c.args.service.core) restored c.redo_lines.ensures.same in
+    let leads = restored_leads content _ _ _ (live_view c.args.service.core) (live_view service.core) _ c.requires.restored c.in_ok-redo_lines.ensures.leads in
+    let is_saved = restored_saved content _ service.file _ _ (live_view c.args.service.core) c.requires.restored c.redo_lines.ensures.same in
     let same : given ≡ service.file = search rules in
-    begun_leaves content service.file given live service.count least known c.args.part.now.items leads is_saved same c.requires.part has g.D.Device.moment g.D.Device.left_since old
-    c.serve_period.new.journal.device c.serve_period.ensures.any_moment
+    begun_leaves content service.file given (live_view service.core) service.count _ (g.B.Read.remaining c.args.reader.now) c.args.part.now.items leads is_saved same c.requires.part has g.D.Device.moment g.D.Device.left_since _ _
+    c.serve_period.ensures.any_moment
 
 pub returns-clause-on : goal.returns-clause-on
 returns-clause-on g c =
-    let old = c.args.journal.now.device in
-    let content = journal_content (g.D.Device.seen old) in
-    let lines = c.args.lines.now in
-    let least = c.args.service.count + length lines in
-    let restored = c.requires.restored in
-    let has = stands_has content c.args.service.count restored.plant restored.saved lines restored.stands in
+    let content = journal_content (g.D.Device.seen c.args.journal.now.device) in
+    let has = stands_has content _ _ _ c.args.lines.now c.requires.restored.stands in
     let given = c.args.given.file.items in
-    let known = g.B.Read.remaining c.args.reader.now in
     let service = c.redo_lines.new.service in
-    let live = live_view service.core in
-    let leads = restored_leads content c.args.service.file c.args.service.count (texts lines) (live_view c.args.service.core) live service.count restored c.in_ok-redo_lines.ensures.leads in
-    let is_saved = restored_saved content c.args.service.file service.file c.args.service.count (texts lines) (live_view c.args.service.core) restored c.redo_lines.ensures.same in
+    let leads = restored_leads content _ _ _ (live_view c.args.service.core) (live_view service.core) _ c.requires.restored c.in_ok-redo_lines.ensures.leads in
+    let is_saved = restored_saved content _ service.file _ _ (live_view c.args.service.core) c.requires.restored c.redo_lines.ensures.same in
     let same : given ≡ service.file = search rules in
+    let known = g.B.Read.remaining c.args.reader.now in
     let part = c.args.part.now.items in
     let later = journal_content (g.D.Device.seen c.serve_period.new.journal.device) in
     let mid = g.W.Write.contents c.write_greeting.new.writer in
-    let left = begun_left content service.file given live service.count least known part leads is_saved same c.requires.part has later c.in_ok-end.ensures.left in
-    first_served content later given c.serve_period.new.part.items c.in_ok-end.end live (live_view c.serve_period.new.service.core) service.count c.serve_period.new.service.count c.resting_frame.result
+    let left = begun_left content service.file given (live_view service.core) service.count _ known part leads is_saved same c.requires.part has later c.in_ok-end.ensures.left in
+    first_served content later given c.serve_period.new.part.items c.in_ok-end.end (live_view service.core) (live_view c.serve_period.new.service.core) service.count c.serve_period.new.service.count c.resting_frame.result
     known (g.B.Read.remaining c.serve_period.new.reader) (g.W.Write.contents c.args.writer.now) mid (g.W.Write.contents c.serve_period.new.writer)
-    (saved_first content service.file given live service.count least known part leads is_saved same c.requires.part has) c.resting_frame.ensures c.in_ok-write_greeting.ensures left.named
-    (c.in_ok-end.ensures.on given live service.count known mid (sym same) (none_read_where given live service.count part known mid c.requires.part))
+    (saved_first content service.file given (live_view service.core) service.count _ known part leads is_saved same c.requires.part has) c.resting_frame.ensures c.in_ok-write_greeting.ensures left.named
+    (c.in_ok-end.ensures.on given (live_view service.core) service.count known mid (sym same) (none_read_where given (live_view service.core) service.count part known mid c.requires.part))
