@@ -65,11 +65,32 @@ def last_name(text):
     return re.findall(r"\w+", text.split("::")[-1])[0]
 
 
+def in_angles(text):
+    """Returns the parts between the angle brackets with which a text begins, and what stands after these."""
+    parts, depth, begin = [], 0, 1
+    for at, sign in enumerate(text):
+        depth += (sign == "<") - (sign == ">" and text[at - 1] not in "-=")
+        if depth == 0 or depth == 1 and sign == ",":
+            parts.append(text[begin:at].strip())
+            begin = at + 1
+        if depth == 0:
+            return parts, text[begin:]
+    raise ValueError("an angle bracket has no end")
+
+
 def name_of_impl(header):
-    """Returns the name that the prover gives an `impl`: its type, and its trait after it."""
-    header = re.split(r"\b(?:where|requires|ensures)\b", without_angles(header))[0]
-    first, is_trait, second = header.partition(" for ")
-    return last_name(second) + last_name(first) if is_trait else last_name(first)
+    """Returns the name that the prover gives an `impl`: its type, then its trait unless that is `Drop`, and the types that it gives the trait."""
+    header = re.split(r"\b(?:where|requires|ensures)\b|\{", header)[0].strip()
+    own, header = in_angles(header) if header.startswith("<") else ([], header)
+    trait, is_trait, typed = header.partition(" for ")
+    if not is_trait:
+        return last_name(without_angles(header))
+    if trait.strip() == "Drop":
+        return last_name(without_angles(typed))
+    parameters = {re.match(r"(?:const\s+)?'?(\w+)", part)[1] for part in own}
+    given = in_angles(trait[trait.index("<") :])[0] if "<" in trait else []
+    types = [last_name(without_angles(part)) for part in given if not part.startswith("'")]
+    return "".join([last_name(without_angles(typed)), last_name(without_angles(trait)), *(name for name in types if name not in parameters)])
 
 
 def module_of(file):

@@ -12,7 +12,7 @@ from unittest import mock
 from tools.ci import edits
 from tools.ci.edits import Edit, WrongEdit, batch_of, read_edit, refused_goals, try_edits
 from tools.proving import prover as proving
-from tools.proving.functions import functions_of, functions_of_crate, with_holes
+from tools.proving.functions import functions_of, functions_of_crate, name_of_impl, with_holes
 from tools.proving.prover import Prover, crates_of, is_proved, reports_of
 
 SOURCE = """\
@@ -78,6 +78,19 @@ class Functions(unittest.TestCase):
             with self.subTest(file=file):
                 self.assertEqual([it.path for it in functions_of("fn last() {}\n", file, {})], [path])
 
+
+    def test_an_impl_is_named_by_its_type_its_trait_and_the_types_that_it_gives_the_trait(self):
+        for header, name in (
+            ("From<AllocError> for Fault", "FaultFromAllocError"),
+            ("<T: Drop> From<AllocFailed<T>> for Fault", "FaultFromAllocFailed"),
+            ("<W: Write> Notes<Lines<'_, W>> for Checks", "ChecksNotesLines"),
+            ("<R: Wait, G: Gate<R>> Chores<R, G> for Shared<'_>", "SharedChores"),
+            ("<'a, W: Write> Write for Lines<'a, W>", "LinesWrite"),
+            ("<T> Drop for Held<T>", "Held"),
+            ("<T: Clone> Held<T>", "Held"),
+        ):
+            with self.subTest(header=header):
+                self.assertEqual(name_of_impl(f" {header} {{"), name)
 
     def test_a_method_is_named_by_the_module_of_its_type(self):
         texts = {"src/held.rt": SOURCE, "src/more.rt": "impl<T> Held<T> {\n    fn less(&self) {}\n}\n"}
