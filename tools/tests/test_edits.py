@@ -78,7 +78,6 @@ class Functions(unittest.TestCase):
             with self.subTest(file=file):
                 self.assertEqual([it.path for it in functions_of("fn last() {}\n", file, {})], [path])
 
-
     def test_an_impl_is_named_by_its_type_its_trait_and_the_types_that_it_gives_the_trait(self):
         for header, name in (
             ("From<AllocError> for Fault", "FaultFromAllocError"),
