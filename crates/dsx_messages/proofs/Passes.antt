@@ -89,9 +89,6 @@ survey_cut list rest left_out flows s none some =
       place_is = ap (λ (x : List ℕ). length list - length x) (sym same);
     }
 
-pub survey_start : (list : List ℕ) → IsSurveyedUpTo list list None 0
-survey_start list = record { room = omega arith; same_rest = refl; left_out_is = refl; flows_are = omega arith }
-
 -- ---- the flows
 
 pub fails : {Y : Type 0} (fault : MessageFault) (read : Result Y MessageFault) → read ≡ Err fault → Fails (message_cause fault) read

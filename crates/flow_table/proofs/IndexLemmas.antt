@@ -15,7 +15,7 @@ use Rattle.flow_table.specs.declared.flow.Flow.{Flow}
 use Rattle.flow_table.specs.Flow.{committed_of}
 use Rattle.flow_table.specs.Table.{HaveOwnSids, flow_at, flow_with, sid_if, is_sid, sids_of, with_flow, committed_minislots, committed_elements}
 use Rattle.flow_table.specs.Index.{IsIndex, IsFlowTable, sfid_at, with_sid_of, without_sid_of, budgets_of}
-use Rattle.flow_table.proofs.EntryLemmas.{looked_first, looked_past, none_later, put_here, put_elsewhere, taken_here, taken_elsewhere, ascending_put, ascending_taken, ascending_none, length_put_there, length_taken}
+use Rattle.flow_table.proofs.EntryLemmas.{looked_first, looked_past, none_later, put_here, put_elsewhere, taken_here, taken_elsewhere, ascending_put, ascending_taken, length_put_there, length_taken}
 use Rattle.flow_table.proofs.RowLemmas.{rows_put, rows_taken, length_rows, minislots_rows, elements_rows}
 
 -- ---- a SID
@@ -163,9 +163,6 @@ module _ {flows after : List (ℕ × Flow)} {index index_after : List (ℕ × �
   edited : IsIndex after index_after
   edited = record { ascending = edit.ascending; sids_ascend = edit.sids_ascend; finds = λ sid b. (finds_flow sid b, finds_sid sid b) }
 
-pub index_none : IsIndex [] []
-index_none = record { ascending = ascending_none; sids_ascend = ascending_none; finds = λ sid b. (λ h. absurd (none-some b h), λ h. absurd (none-some sid h)) }
-
 module _ {flows : List (ℕ × Flow)} {index : List (ℕ × ℕ)} (kept : IsIndex flows index) (sfid : ℕ) where
   pub index_put : (flow : Flow) → IfSome flow.sid (λ sid. (¬ Contains (sids_of flows) sid) ⊎ (sid_if (flow_at sfid flows) ≡ Some sid))
       → IsIndex (with_flow sfid flow flows) (without_sid_of (sid_if (flow_at sfid flows)) flow.sid (with_sid_of flow.sid sfid index))
@@ -239,6 +236,3 @@ module _ {capacity : ℕ} {units : UnitSizes} {flows : List (ℕ × Flow)} {inde
     room = kept.room;
     rows = ap (λ (l : List _). remove_entry (is_at (nat_cmp sfid)) l) kept.rows ∙ rows_taken units flows sfid;
   }
-
-pub table_none : (capacity : ℕ) (units : UnitSizes) → IsFlowTable capacity units [] [] (record { room = capacity; rows = [] })
-table_none capacity units = record { within = omega arith; indexed = index_none; room = refl; rows = refl }

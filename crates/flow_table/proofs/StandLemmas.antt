@@ -10,7 +10,7 @@ use Rattle.admission.specs.Free.{Numbers, least_free_of}
 use Rattle.admission.proofs.FreeLemmas.{least_free_iff}
 use Rattle.flow_table.specs.declared.flow.Flow.{Flow}
 use Rattle.flow_table.specs.declared.flow.Pending.{Pending}
-use Rattle.flow_table.specs.Flow.{flow_after_ack, taken_back, flow_after_request, flow_after_grant, with_pending, without_pending}
+use Rattle.flow_table.specs.Flow.{flow_after_ack, taken_back, with_pending, without_pending}
 use Rattle.flow_table.specs.Table.{FlowTable, HasRoomFor, HaveOwnSids, flow_at, flow_with, sid_if, sids_of, with_flow}
 use Rattle.flow_table.proofs.EntryLemmas.{looked_first, looked_past, none_later, put_here, put_elsewhere, length_put, length_put_there}
 use Rattle.flow_table.proofs.IndexLemmas.{cases_sid, is_sid_yes, is_sid_no, found}
@@ -53,28 +53,10 @@ unused_or : (o : Option ℕ) (flows : List (ℕ × Flow)) (sfid : ℕ) → IfSom
 unused_or None flows sfid h = tt
 unused_or (Some sid) flows sfid h = inl h
 
-same_or : (o : Option ℕ) (flows : List (ℕ × Flow)) (sfid : ℕ) → sid_if (flow_at sfid flows) ≡ o → IfSome o (λ n. (¬ Contains (sids_of flows) n) ⊎ (sid_if (flow_at sfid flows) ≡ Some n))
-same_or None flows sfid e = tt
-same_or (Some sid) flows sfid e = inr e
-
 pub new_with_unused_sid : (table : FlowTable) (sfid : ℕ) (flow : Flow) → IfSome flow.sid (λ n. ¬ Contains (sids_of table.flows) n) → length table.flows < table.capacity → HasRoomFor table sfid flow
 new_with_unused_sid table sfid flow unused room = record {
   sid = unused_or flow.sid table.flows sfid unused;
   room = omega (arith, length_put table.flows sfid flow);
-}
-
-pub known_with_unused_sid : (table : FlowTable) (sfid : ℕ) (flow : Flow) → IfSome flow.sid (λ n. ¬ Contains (sids_of table.flows) n) → IsSome (flow_at sfid table.flows)
-    → IsStrictlySortedBy nat_cmp (keys_of table.flows) → length table.flows ≤ table.capacity → HasRoomFor table sfid flow
-known_with_unused_sid table sfid flow unused there ascending within = record {
-  sid = unused_or flow.sid table.flows sfid unused;
-  room = omega (arith, length_put_there table.flows sfid flow ascending there);
-}
-
-pub known_with_its_sid : (table : FlowTable) (sfid : ℕ) (flow : Flow) → sid_if (flow_at sfid table.flows) ≡ flow.sid → IsSome (flow_at sfid table.flows)
-    → IsStrictlySortedBy nat_cmp (keys_of table.flows) → length table.flows ≤ table.capacity → HasRoomFor table sfid flow
-known_with_its_sid table sfid flow same there ascending within = record {
-  sid = same_or flow.sid table.flows sfid same;
-  room = omega (arith, length_put_there table.flows sfid flow ascending there);
 }
 
 -- ---- what is found
@@ -126,9 +108,3 @@ taken_back_keeps flows sfid flow at =
       | None ↦ sid_of_flow flows sfid flow at
       | Some pending ↦ elim pending.sid_is_new as (λ b. IfSome (cond b None flow.sid) (λ sid. sid_if (flow_at sfid flows) ≡ Some sid)) [ true ↦ tt | false ↦ sid_of_flow flows sfid flow at ]
     ]
-
-pub requested_keeps : (flows : List (ℕ × Flow)) (sfid : ℕ) (flow : Flow) (minislots frame : ℕ) → flow_at sfid flows ≡ Some flow → IfSome (flow_after_request minislots frame flow).sid (λ sid. sid_if (flow_at sfid flows) ≡ Some sid)
-requested_keeps flows sfid flow minislots frame at = sid_of_flow flows sfid flow at
-
-pub granted_keeps : (flows : List (ℕ × Flow)) (sfid : ℕ) (flow : Flow) (minislots frame : ℕ) → flow_at sfid flows ≡ Some flow → IfSome (flow_after_grant minislots frame flow).sid (λ sid. sid_if (flow_at sfid flows) ≡ Some sid)
-granted_keeps flows sfid flow minislots frame at = sid_of_flow flows sfid flow at

@@ -19,8 +19,7 @@ use Rattle.run_model.specs.declared.step.Step.TheVariants as steps
 use Rattle.run_model.specs.declared.step.Out.{Out}
 use Rattle.run_model.specs.Steps.{Acts, Steps}
 use Rattle.operator_model.specs.declared.action.Action.{Action}
-use Rattle.operator_model.specs.State.{Operator}
-use Rattle.operator_model.specs.Machine.{stranger_of, unfit_of}
+use Rattle.operator_model.specs.Machine.{stranger_of}
 use Rattle.operator_model.specs.Replay.{BookView}
 use Rattle.map_assembly.specs.Gathering.{Gathering}
 use Rattle.map_assembly.specs.LettingGo.{has_begun}
@@ -62,20 +61,6 @@ pub step_is : (step named : Step) (old new : CoreView) (now : List Out) → step
 step_is step named old new now same performs = subst (λ (s : Step). Performs (Steps s) old new now) (sym same) performs
 
 -- ---- the action of a step
-
--- it is no slice change, so no machine finds it unfit
-pub step_fits : (plant : PlantFields) (op : ℕ) (action : Action) (machine : Operator) → IsOfAStep plant op action → unfit_of machine action ≡ None
-step_fits plant op action machine goal = by goal.0 goal.1
-  where
-    fits : (heard : Action) → heard ≡ action → unfit_of machine heard ≡ None → unfit_of machine action ≡ None
-    fits heard same fit = subst (λ (a : Action). unfit_of machine a ≡ None) same fit
-
-    by : (step : Step) → target plant step ≡ Some (op, action) → unfit_of machine action ≡ None
-    by (steps.Arrive modem heard) goes = fits (actions.Arrive modem heard) (goes_to (holder plant.rows modem) op (actions.Arrive modem heard) action goes).1 refl
-    by (steps.Work i) goes = fits actions.Work (some_pair_parts i op actions.Work action goes).1 refl
-    by (steps.Tick i) goes = fits actions.Tick (some_pair_parts i op actions.Tick action goes).1 refl
-    by (steps.Collect i) goes = absurd (cc)
-    by (steps.Reslice from rows) goes = absurd (cc)
 
 -- what is received of a modem goes to the operator whose row lists it
 listed_there : (plant : PlantFields) (modem : Modem) (heard : Heard) (op : ℕ) (row : RowFields) → holder plant.rows modem ≡ Some op

@@ -61,10 +61,6 @@ module _ (plant : PlantFields) (gathering : Gathering) (books : List BookView) (
     none_waits = λ i waiting e. rest.none_waits i waiting (ap (λ (xs : List (List (ℕ × ElementsFields))). slice_get xs i) (take_all op queues q) ∙ e);
   }
 
--- a core rests before one frame alone
-pub one_frame_alone : (live : CoreView) (a b : ℕ) (first : BookView) → slice_get live.books 0 ≡ Some first → Rests live a → Rests live b → a ≡ b
-one_frame_alone live a b first is rests too = sym (rests.before 0 first is) ∙ too.before 0 first is
-
 -- and a core that rests has no fault
 pub no_fault : (live : CoreView) (fault : RestFault) (frame : ℕ) → IsRestFault live fault → Rests live frame → ⊥
 no_fault live (FrameWaits at) frame is rests = is.why.1 (rests.none_waits is.op is.waiting is.waiting_is)

@@ -91,10 +91,6 @@ null_iuc = 7
 
 -- ---- limits
 
--- the most minislots of a frame
-abbrev pub longest_frame : ℕ
-longest_frame = 4096
-
 -- the most elements of a MAP
 abbrev pub element_limit : ℕ
 element_limit = 240

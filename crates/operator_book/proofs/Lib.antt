@@ -1,7 +1,6 @@
 pub mod Few
 pub mod Opens
 pub mod Replies
-pub mod Faults
 pub mod Inbox
 pub mod Judged
 pub mod Nested

@@ -3,7 +3,7 @@ use Rattle.std.proofs.Common.{◌≡◌, ℕ, ◌+◌, ◌==◌, ◌≤◌, not,
 use Rattle.std.proofs.lemmas.Bool.{eqb-false}
 use Rattle.std.proofs.lemmas.List.Elements.{All-map, All-filter, filter_passes}
 use Rattle.transactions.specs.declared.entry.KeptEntry.{KeptEntry}
-use Rattle.transactions.specs.Timers.{is_response_due, is_resent, is_given_up, is_forgotten, given_up_of, given_up_in, kept_after}
+use Rattle.transactions.specs.Timers.{is_forgotten, given_up_in, kept_after}
 use Rattle.transactions.specs.Timers as timers
 use Rattle.slice_scheduler.specs.Schedule.{granted_of}
 use Rattle.plant.specs.declared.consts.ConstsFields.{ConstsFields}

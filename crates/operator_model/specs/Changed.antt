@@ -1,8 +1,5 @@
 -- An operator of which one thing differs (implementation-specific).
-use Rattle.std.specs.Prelude.{ℕ, Bool, List, [], ◌∷◌, ◌++◌}
-use Rattle.dsx_messages.specs.declared.modem.Modem.{Modem}
-use Rattle.dsx_messages.specs.declared.kind.Kind.{Kind}
-use Rattle.transactions.specs.Keeping.{begun_entry}
+use Rattle.std.specs.Prelude.{ℕ, List}
 use Rattle.flow_table.specs.declared.flow.Flow.{Flow}
 use Rattle.flow_table.specs.Moved.{change_at}
 use Rattle.operator_model.specs.declared.heard.Arrival.{Arrival}
@@ -17,8 +14,3 @@ with_change op sfid change = with_flows op (change_at sfid change op.state.flows
 
 abbrev pub with_inbox : Operator → List Arrival → Operator
 with_inbox op inbox = record op { state = record op.state { inbox = inbox } }
-
--- one response more is kept
-abbrev pub with_response : Operator → Modem → ℕ → Kind → List ℕ → ℕ → Bool → Operator
-with_response op modem tid kind reply sfid waits =
-    record op { state = record op.state { kept = op.state.kept ++ begun_entry op.consts.timers modem tid kind reply sfid waits ∷ [] } }

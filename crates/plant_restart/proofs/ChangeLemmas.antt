@@ -133,7 +133,3 @@ module _ (old : CoreView) (plant : PlantFields) (frame : ℕ) (shared : KeepsCon
         ap (λ (f : RestartFault). Restart f)
         (memory_alone plant policies frame (states_by_name old) why
         (subst (λ (n : ℕ). CanRestart plant policies n (states_by_name old)) (sym same) can.can) fault_here)
-
--- memory ran out before the operators were saved
-pub saved_nothing : (old : CoreView) (plant : PlantFields) (frame : ℕ) (policies : List Policy) → KeepsConsts old.plant.consts plant.consts → Rests old frame → IsChangeRefused old plant policies NoMemory
-saved_nothing old plant frame policies shared rests = record { frame = frame; rests = rests; shared = shared; is = tt }

@@ -19,8 +19,8 @@ use Rattle.live_core.specs.After.{IsAfterFrom}
 use Rattle.live_core.proofs.ResumeLemmas.{over_map}
 use Rattle.plant_restart.specs.declared.fault.RestartFault.{RestartFault}
 use Rattle.plant_restart.specs.declared.fault.RestartFault.TheVariants.{RankingsMismatch, State, Core, NoMemory}
-use Rattle.plant_restart.specs.ByName.{state_under, operator_by_name, operators_by_name}
-use Rattle.plant_restart.specs.Restarted.{IsFaultOfState, IsRowFault, IsRowsFault, IsRestarted, IsRestartFault}
+use Rattle.plant_restart.specs.ByName.{operator_by_name, operators_by_name}
+use Rattle.plant_restart.specs.Restarted.{IsRowFault, IsRowsFault, IsRestarted, IsRestartFault}
 
 -- ---- row by row
 
@@ -33,26 +33,12 @@ next_policy rows n row policy policies lt is are =
     let both : policy ∷ policies ≡ row.policy ∷ map (λ (r : RowFields). r.policy) (drop (n + 1) rows) = are ∙ here in
     (cc, cc)
 
--- what a fault says of a state under a name is what it says of the row with the name
-pub under_name : (consts : ConstsFields) (states : List (List ℕ × OperatorState)) (op : ℕ) (row : RowFields) (state : OperatorState) (fault : RestartFault) → state_under states row.name ≡ Some state
-    → IsFaultOfState consts op row state fault → IsRowFault consts states op row fault
-under_name consts states op row state RankingsMismatch there is = is
-under_name consts states op row state (State at why) there is = (is.0, record { state = state; state_is = there; wrong = is.1 })
-under_name consts states op row state (Core why) there is = is
-under_name consts states op row state NoMemory there is = is
-
 pub of_row : (consts : ConstsFields) (states : List (List ℕ × OperatorState)) (rows : List RowFields) (op : ℕ) (row : RowFields) (fault : RestartFault) → slice_get rows op ≡ Some row
     → IsRowFault consts states op row fault → IsRowsFault consts states rows fault
 of_row consts states rows op row RankingsMismatch there is = is
 of_row consts states rows op row (State at why) there is = record { row = row; row_is = ap (λ (n : ℕ). slice_get rows n) is.0 ∙ there; wrong = is.1 }
 of_row consts states rows op row (Core why) there is = is
 of_row consts states rows op row NoMemory there is = is
-
-pub of_rows_fault : (plant : PlantFields) (policies : List Policy) (frame : ℕ) (states : List (List ℕ × OperatorState)) (fault : RestartFault) → IsRowsFault plant.consts states plant.rows fault → IsRestartFault plant policies frame states fault
-of_rows_fault plant policies frame states RankingsMismatch is = absurd is
-of_rows_fault plant policies frame states (State op why) is = is
-of_rows_fault plant policies frame states (Core why) is = absurd is
-of_rows_fault plant policies frame states NoMemory is = tt
 
 -- ---- all of them
 

@@ -1,7 +1,7 @@
 -- The states of a core's operators, as they are saved.
-use Rattle.std.proofs.Common.{◌≡◌, ℕ, zero, suc, ◌+◌, ◌≤◌, List, [], ◌∷◌, ◌++◌, length, map, take, Option, Some, None, option_map, sym, ap, ap₂, ◌∙◌, add-one}
+use Rattle.std.proofs.Common.{◌≡◌, ℕ, zero, suc, ◌+◌, ◌≤◌, List, [], ◌∷◌, ◌++◌, map, take, Option, Some, None, option_map, sym, ap, ap₂, ◌∙◌, add-one}
 use Rattle.std.specs.Prelude.{slice_get}
-use Rattle.std.proofs.lemmas.List.{length-map, map-append, take_all}
+use Rattle.std.proofs.lemmas.List.{length-map, map-append}
 use Rattle.std.proofs.lemmas.Option.{none-some, same_Some, slice_get-map}
 use Rattle.operator_model.specs.State.{OperatorState, Operator}
 use Rattle.operator_model.specs.Replay.{BookView}
@@ -28,9 +28,6 @@ saved_more books op o saved more one here is grows so_far =
     ∙ (ap₂ (λ (xs : List SavedOperator) (x : SavedOperator). xs ++ x ∷ []) so_far is
     ∙ (sym (map-append saved_book (take op books) (book_of o ∷ []))
     ∙ ap (map saved_book) (sym (take_one books op (book_of o) here) ∙ ap (λ (n : ℕ). take n books) (sym (add-one op)))))
-
-pub saved_all : (books : List BookView) (n : ℕ) (saved : List SavedOperator) → length books ≤ n → saved ≡ map saved_book (take n books) → saved ≡ map saved_book books
-saved_all books n saved le is = is ∙ ap (map saved_book) (take_all n books le)
 
 -- ---- the states
 

@@ -3,11 +3,8 @@ use Rattle.std.proofs.Common.{◌≡◌, ◌≢◌, ◌⊎◌, inl, inr, ℕ, Bo
 use Rattle.std.specs.Prelude.{MatchResult}
 use Rattle.std.specs.Io.KnownBytes.{Appends}
 use Rattle.command_line.specs.Order.{Order, order_of}
-use Rattle.command_line.specs.declared.asked.BatchWord.{BatchWord}
-use Rattle.command_line.specs.declared.asked.BatchWord.TheVariants as batch
 use Rattle.command_line.specs.declared.asked.Word.{Word}
 use Rattle.command_line.specs.declared.asked.WordsFault.{WordsFault}
-use Rattle.command_line.specs.declared.asked.WordsFault.TheVariants as faults
 use Rattle.command_line.specs.CommandLine.{NamesOrder, AsksHelp, AreWrong, GivesOrder, GivesHelp, GivesWrong}
 use Rattle.plant_script.specs.declared.answer.Answer.{Answer}
 use Rattle.plant_script.specs.declared.progress.Progress.{Progress}

@@ -8,7 +8,6 @@ use Rattle.std.proofs.lemmas.Option.{slice_get-get_or, slice_get_within}
 use Rattle.plant.specs.declared.plant.PlantFields.{PlantFields}
 use Rattle.run_model.specs.declared.step.Step.{Step}
 use Rattle.run_model.specs.declared.step.Step.TheVariants as steps
-use Rattle.run_receipts.specs.declared.run_fault.RunFault.TheVariants as faults
 use Rattle.run_audit.specs.Outcome.{ticks_of}
 use Rattle.run_plan.specs.Spending.{IsSpentAt, IsFirstSpent, is_reslice, before_reslice}
 use Rattle.script_format.specs.declared.script.LineStep.{LineStep}

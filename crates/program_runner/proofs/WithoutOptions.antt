@@ -20,7 +20,7 @@ use Rattle.program_runner.specs.Answered.{IsProgramAnswer, IsWordAnswer, IsRunAn
 use Rattle.resumed_service.specs.Beginning.{is_snapshot_head}
 use Rattle.program_runner.specs.declared.service_word.ServiceWord.{ServiceWord}
 use Rattle.program_runner.specs.declared.service_word.ServiceWord.TheVariants.{Resume, Restore, Snapshot}
-use Rattle.program_runner.specs.Resume.{IsResumeAnswer, IsRestoreAnswer, IsSnapshotAnswer}
+use Rattle.program_runner.specs.Resume.{IsResumeAnswer, IsRestoreAnswer}
 use Rattle.program_runner.specs.ServiceWords.{service_word, is_run, NamesNoService}
 
 -- ---- a fault

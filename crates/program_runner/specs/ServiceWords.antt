@@ -1,5 +1,5 @@
 -- The commands of a service that may begin with a snapshot, and the command `run` (implementation-specific).
-use Rattle.std.specs.Prelude.{◌≡◌, ◌&&◌, ◌||◌, ℕ, Bool, false, List, [], ◌∷◌, Option, Some, None, cond, is_some, bytes_eq, codes}
+use Rattle.std.specs.Prelude.{◌≡◌, ◌&&◌, ◌||◌, ℕ, Bool, false, List, [], ◌∷◌, Option, Some, None, cond, bytes_eq, codes}
 use Rattle.program_runner.specs.declared.service_word.ServiceWord.{ServiceWord}
 use Rattle.program_runner.specs.declared.service_word.ServiceWord.TheVariants.{Resume, Restore, Snapshot}
 

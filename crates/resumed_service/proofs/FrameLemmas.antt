@@ -14,8 +14,6 @@ use Rattle.line_service.specs.Lines.{lines_left}
 use Rattle.line_service.specs.SoFar.{IsHeld}
 use Rattle.snapshot_format.specs.declared.saved.Snapshot.{Snapshot}
 use Rattle.snapshot_format.specs.States.{states_of}
-use Rattle.plant_restart.specs.declared.fault.RestoreFault.{RestoreFault}
-use Rattle.plant_restart.specs.declared.fault.RestoreFault.TheVariants as restore
 use Rattle.plant_restart.specs.declared.fault.RestartFault.TheVariants.{NoMemory}
 use Rattle.plant_restart.specs.Restarted.{IsRestarted}
 use Rattle.line_service.specs.declared.line_break.LineBreak.{LineBreak}

@@ -2,7 +2,6 @@
 use Rattle.std.specs.Prelude.{ℕ, ◌+◌, List, [], ◌∷◌, ◌++◌, map, take}
 use Rattle.slice_scheduler.specs.declared.elements.ElementsFields.{ElementsFields}
 use Rattle.operator_model.specs.Replay.{BookView}
-use Rattle.operator_book.specs.declared.book.Book.{Book}
 use Rattle.map_assembly.specs.declared.map_bytes.MapBytes.{MapBytes}
 use Rattle.run_model.specs.declared.step.Step.{Step}
 use Rattle.run_model.specs.declared.step.Out.{Out}
@@ -10,10 +9,6 @@ use Rattle.run_model.specs.declared.step.Out.TheVariants as outs
 use Rattle.run_model.specs.OwnSteps.{outputs_under, collects_of}
 use Rattle.plant_core.specs.Waiting.{frames_in}
 use Rattle.run_receipts.specs.OwnParts.{history_outputs}
-
--- what contracts see of a book
-abbrev pub book_view : {D : Type 0} {F : D → Type 0} {m : _} → Book D F m → BookView
-book_view book = book.kept.book
 
 -- what the books output, each under its operator, from this operator on
 abbrev pub outs_from : ℕ → List BookView → List Out

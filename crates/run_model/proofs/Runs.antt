@@ -1,6 +1,6 @@
 -- A run is carried step by step.
-use Rattle.std.proofs.Common.{◌≡◌, ℕ, ◌+◌, ◌<◌, List, [], ◌∷◌, ◌++◌, length, take, get_or, append_assoc, append-nil, sym, ap, ◌∙◌, subst, arith}
-use Rattle.std.proofs.lemmas.List.{take_more, take_all}
+use Rattle.std.proofs.Common.{◌≡◌, ℕ, ◌+◌, ◌<◌, List, [], ◌∷◌, ◌++◌, length, take, get_or, append_assoc, append-nil, sym, ap, ◌∙◌, subst}
+use Rattle.std.proofs.lemmas.List.{take_more}
 use Rattle.plant.specs.declared.plant.PlantFields.{PlantFields}
 use Rattle.plant.specs.Plant.{IsPlant}
 use Rattle.run_model.specs.declared.step.Step.{Step}
@@ -18,18 +18,12 @@ use Rattle.run_model.specs.IsStateAfter.{IsStateAfter}
 same_run : (plant : PlantFields) (start : Start) (steps others : List Step) (outs more : List Out) (core : CoreView) → steps ≡ others → outs ≡ more → IsStateAfterFrom plant start steps outs core → IsStateAfterFrom plant start others more core
 same_run plant start steps others outs more core p q reached = subst (λ (o : List Out). IsStateAfterFrom plant start others o core) q (subst (λ (s : List Step). IsStateAfterFrom plant start s outs core) p reached)
 
-pub reached_none : (plant : PlantFields) (start : Start) (before all : List Step) (outs : List Out) (core : CoreView) → IsStateAfterFrom plant start before outs core → IsStateAfterFrom plant start (before ++ take 0 all) (outs ++ []) core
-reached_none plant start before all outs core reached = same_run plant start before (before ++ []) outs (outs ++ []) core (sym (append-nil before)) (sym (append-nil outs)) reached
-
 pub more_from : (plant : PlantFields) (start : Start) (before all : List Step) (at : ℕ) (step : Step) (outs made now : List Out) (core : CoreView) → at < length all → step ≡ get_or all at step
     → IsStateAfterFrom plant start ((before ++ take at all) ++ step ∷ []) ((outs ++ made) ++ now) core → IsStateAfterFrom plant start (before ++ take (at + 1) all) (outs ++ (made ++ now)) core
 more_from plant start before all at step outs made now core within is reached =
     same_run plant start ((before ++ take at all) ++ step ∷ []) (before ++ take (at + 1) all) ((outs ++ made) ++ now) (outs ++ (made ++ now)) core
     (append_assoc before (take at all) (step ∷ []) ∙ ap (λ (s : List Step). before ++ s) (ap (λ (s : Step). take at all ++ s ∷ []) is ∙ sym (take_more all at step within)))
     (append_assoc outs made now) reached
-
-pub reached_all : (plant : PlantFields) (start : Start) (before all : List Step) (at : ℕ) (outs : List Out) (core : CoreView) → length all ≡ at → IsStateAfterFrom plant start (before ++ take at all) outs core → IsStateAfterFrom plant start (before ++ all) outs core
-reached_all plant start before all at outs core e reached = subst (λ (s : List Step). IsStateAfterFrom plant start (before ++ s) outs core) (take_all at all (omega (arith, e))) reached
 
 -- ---- over a whole run
 

@@ -79,11 +79,5 @@ pub record IsStateAfterFrom (plant : PlantFields) (start : Start) (steps : List 
 abbrev pub IsBookAfter : PlantFields → List Step → ℕ → RowFields → BookView → Type 0
 IsBookAfter plant steps i row book = IsBookFrom plant (first_start plant) steps i row book
 
-abbrev pub AreFramesAfter : PlantFields → List Step → ℕ → ℕ → RowFields → List (ℕ × ElementsFields) → List ElementsFields → Type 0
-AreFramesAfter plant steps made i row waiting put = AreFramesFrom plant (first_start plant) steps made i row waiting put
-
-abbrev pub IsGatheredAfter : PlantFields → List Step → List Out → Gathering → Type 0
-IsGatheredAfter plant steps outs gathering = IsGatheredFrom plant (first_start plant) steps outs gathering
-
 abbrev pub IsStateAfter : PlantFields → List Step → List Out → CoreView → Type 0
 IsStateAfter plant steps outs core = IsStateAfterFrom plant (first_start plant) steps outs core

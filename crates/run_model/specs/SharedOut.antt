@@ -24,8 +24,5 @@ pub record IsSharedOutFrom (plant : PlantFields) (start : Start) (steps : List S
 
 -- ---- a run from the opened plant
 
-abbrev pub IsOwnPart : PlantFields → List Step → ℕ → RowFields → MapBytes → MapView → Type 0
-IsOwnPart plant steps i row made view = IsOwnPartFrom plant (first_start plant) steps i row made view
-
 abbrev pub IsSharedOut : PlantFields → List Step → MapBytes → MapView → Type 0
 IsSharedOut plant steps made view = IsSharedOutFrom plant (first_start plant) steps made view

@@ -1,5 +1,5 @@
 -- Who has what done to an operator's book in a run on threads (implementation-specific).
-use Rattle.std.specs.Prelude.{◌≡◌, List, [], ◌∷◌, All}
+use Rattle.std.specs.Prelude.{◌≡◌, [], ◌∷◌, All}
 use Rattle.std.specs.List.{AllZip}
 use Rattle.operator_model.specs.declared.action.Action.{Action}
 use Rattle.operator_model.specs.declared.action.Action.TheVariants as actions

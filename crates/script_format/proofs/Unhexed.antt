@@ -5,7 +5,7 @@ use Rattle.std.proofs.lemmas.Nat.{le_or_l, le_or_r, or_lt, or_shifted}
 use Rattle.hex.specs.Hex.{decode_pairs, decode_sized, digit_or_error, hex_digit_value, pair_value, value_at}
 use Rattle.hex.specs.declared.error.FromHexError.{FromHexError}
 use Rattle.hex.specs.declared.error.FromHexError.TheVariants.{InvalidHexCharacter}
-use Rattle.hex.proofs.Pairs.{prepend, decode_done, decode_err, decode_sized-pairs, decode_start, decode_step}
+use Rattle.hex.proofs.Pairs.{prepend, decode_done, decode_err, decode_sized-pairs, decode_step}
 
 -- ---- the table
 
@@ -92,9 +92,6 @@ decoded_more s out i wrong high low v fits room ea eb byte before = record { rig
                   ]
             ]
       ]
-
-pub decoded_start : (s out : List ℕ) → IsDecodedSoFar s out 0 0
-decoded_start s out = record { right = λ lt. decode_start s out; refused = λ le. absurd (omega arith) }
 
 pub decoded_all : (s out : List ℕ) (i wrong n : ℕ) → length s ≡ 2 * n → length out ≡ n → n ≤ i → IsDecodedSoFar s out i wrong
     → MatchResult (decode_sized s n) (λ bytes. (nat_lt wrong 16 ≡ true) × (out ≡ bytes)) (λ e. nat_lt wrong 16 ≡ false)

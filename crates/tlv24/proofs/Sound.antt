@@ -270,12 +270,3 @@ refused bytes m e p q =
     goes_right (Twice subtype) before rest more short e sound w = no_fault_here before rest more w.0 w.1 (Twice subtype) short e sound w.2 w.3
     goes_right (Range subtype) before rest more short e sound w = no_fault_here before rest more w.0 w.1 (Range subtype) short e sound w.2 w.3
     goes_right NoMemory before rest more short e sound w = w
-
--- an answer is what the bytes say, or their first fault
-abbrev pub IsOkFlow : List ℕ → Result FlowFields FlowFault → Type 0
-IsOkFlow bytes (Ok m) = IsFlowEncoding bytes m
-IsOkFlow bytes (Err e) = IsFirstFlowFault bytes e
-
-pub is_only : (bytes : List ℕ) (result : Result FlowFields FlowFault) → IsOkFlow bytes result → (m : FlowFields) → IsFlowEncoding bytes m → result ≡ Ok m
-is_only bytes (Ok n) h m p = ap flow_ok (one_flow bytes n m h p)
-is_only bytes (Err e) h m p = absurd (refused bytes m e p h)

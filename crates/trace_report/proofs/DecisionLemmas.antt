@@ -3,10 +3,6 @@ use Rattle.std.proofs.Common.{◌≡◌, ℕ, List, Option, Some, None, option_m
 use Rattle.std.specs.Prelude.{slice_get}
 use Rattle.std.proofs.lemmas.Option.{slice_get-map}
 use Rattle.std.specs.declared.alloc.AllocError.{AllocError}
-use Rattle.dsx_messages.specs.declared.message.Message.{Message}
-use Rattle.dsx_messages.specs.declared.message.Message.TheVariants as messages
-use Rattle.dsx_messages.specs.declared.fault.MessageFault.{MessageFault}
-use Rattle.dsx_messages.specs.declared.fault.MessageFault.TheVariants as faults
 use Rattle.operator_model.specs.Replay.{BookView}
 use Rattle.operator_model.specs.State.{Operator, operator}
 use Rattle.run_model.specs.declared.step.Step.{Step}

@@ -1,8 +1,7 @@
 -- Lines with no line feed, and remarks one after the other.
-use Rattle.std.proofs.Common.{Option, ◌≡◌, ◌≢◌, ◌==◌, ℕ, zero, suc, ◌+◌, ◌-◌, ◌*◌, ◌/◌, ◌%◌, ◌^◌, ◌<◌, ◌≤◌, Bool, true, false, not, List, [], ◌∷◌, ◌++◌, length, take, drop, arith, refl, sym, ap, subst, ◌∙◌, append_assoc, append-nil, codes, eq-eqb, true≢false}
+use Rattle.std.proofs.Common.{Option, ◌≡◌, ◌≢◌, ◌==◌, ℕ, ◌+◌, ◌-◌, ◌*◌, ◌/◌, ◌%◌, ◌^◌, ◌<◌, ◌≤◌, Bool, true, false, not, List, [], ◌∷◌, ◌++◌, arith, refl, sym, ap, subst, ◌∙◌, append_assoc, append-nil, codes, eq-eqb, true≢false}
 use Rattle.std.specs.Fmt.{decimal}
-use Rattle.std.specs.List.{list_all, flat_map, AllByRecursion}
-use Rattle.std.proofs.lemmas.Bool.Decides.{nat_tests}
+use Rattle.std.specs.List.{list_all, AllByRecursion}
 use Rattle.std.proofs.lemmas.Fmt.{decimal_by_steps}
 use Rattle.std.proofs.lemmas.Grind.{flat_map-append}
 use Rattle.std.proofs.lemmas.List.{map-append}
@@ -12,7 +11,7 @@ use Rattle.std.proofs.KnownBytes.{Appends-nil, Appends-trans}
 use Rattle.std.specs.Prelude.{map}
 use Rattle.trace_report.specs.Quotes.{quote}
 use Rattle.trace_report.specs.Told.{HasWorded}
-use Rattle.trace_report.specs.Remarks.{is_check_line, IsOtherLine, with_ends, HasNoCheckLine, indented_line, AreWords, no_words_line}
+use Rattle.trace_report.specs.Remarks.{IsOtherLine, with_ends, HasNoCheckLine, indented_line, AreWords, no_words_line}
 
 -- ---- no line feed
 

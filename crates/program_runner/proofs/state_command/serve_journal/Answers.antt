@@ -1,4 +1,4 @@
-use Rattle.std.proofs.Common.{rules, ◌≡◌, inl, refl, ap, List, ℕ, Option}
+use Rattle.std.proofs.Common.{rules, ◌≡◌, inl, refl}
 use Rattle.journal_file.specs.File.{seen_bytes}
 use Rattle.program_runner.proofs.StateLemmas.{served_behind}
 use Rattle.program_runner.proofs.state_command.serve_journal.Goals as goal

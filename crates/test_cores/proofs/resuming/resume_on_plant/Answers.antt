@@ -1,4 +1,4 @@
-use Rattle.std.proofs.Common.{◌≡◌, Some, Option, slice_get, List, [], ◌∷◌, length, map, sym, ap, ap₂, ◌∙◌, arith}
+use Rattle.std.proofs.Common.{◌≡◌, Some, slice_get, List, [], ◌∷◌, length, map, sym, ap, ap₂, ◌∙◌, arith}
 use Rattle.std.proofs.lemmas.Option.{same_Some}
 use Rattle.live_core.specs.LiveOperator.{row_of}
 use Rattle.test_cores.proofs.resuming.resume_on_plant.Goals as goal

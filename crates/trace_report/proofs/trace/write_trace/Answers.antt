@@ -1,8 +1,7 @@
-use Rattle.std.proofs.Common.{◌≡◌, max, Bool, true, false, ℕ, Option, Some, None, List, [], ◌∷◌, length, ap, sym, subst, ◌∙◌}
+use Rattle.std.proofs.Common.{◌≡◌, max, Bool, true, false, ℕ, None, [], ◌∷◌, length, ap, sym, subst, ◌∙◌}
 use Rattle.std.specs.Vec.Iter.{into_iter_items, into_iter_len}
 use Rattle.std.proofs.lemmas.List.{nil_from_length}
 use Rattle.plant_core.specs.CoreView.{core_view}
-use Rattle.script_format.specs.declared.script.LineStep.{LineStep}
 use Rattle.line_service.proofs.LeftLemmas.{count_next}
 use Rattle.trace_report.specs.Quotes.{IsRestAfter}
 use Rattle.trace_report.specs.Told.{HasToldStep}
