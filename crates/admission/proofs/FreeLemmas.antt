@@ -1,15 +1,11 @@
 -- What `least_free_of` answers, and what one window of marks says of it.
 use Rattle.std.proofs.Common.{◌≡◌, ℕ, zero, suc, ◌+◌, ◌-◌, ◌<◌, ◌≤◌, Bool, true, false, cond, not, List, length, get_or, take, min, Option, Some, None, IsSome, IsNone, IfSome, ◌↔◌, ◌⊎◌, inl, inr, refl, sym, ap, subst, ◌∙◌, arith, position}
-use Rattle.std.specs.List.{Contains, position_or_len}
+use Rattle.admission.proofs.Common.{Contains, position_or_len, cases_Bool, cases_lt, cases_eq, both_ways, ltb-false, not-true, not-false, false≢true, get_or-take, length-take-le, fails_before_first, IsWindow}
 use Rattle.std.specs.Cmp.{unsigned_Decides}
-use Rattle.std.proofs.lemmas.Bool.{cases_Bool, cases_lt, cases_eq, both_ways, ltb-false, not-true, not-false, false≢true}
 use Rattle.std.proofs.lemmas.Option.{none-some, same_Some}
 use Rattle.std.proofs.lemmas.Map.Made.{is_member-Decides}
-use Rattle.std.proofs.lemmas.List.{get_or-take, length-take-le}
 use Rattle.std.proofs.lemmas.List.Quantifiers.{position-Some}
-use Rattle.std.proofs.lemmas.List.Sums.{fails_before_first}
 use Rattle.admission.specs.Free.{Numbers, IsIn, IsFree, IsLeastFree, is_used, first_free, least_free_of}
-use Rattle.admission.specs.Window.{IsWindow}
 
 -- the test says whether the list contains the number
 pub used_from_test : (used : List ℕ) (n : ℕ) → is_used used n ≡ true → Contains used n

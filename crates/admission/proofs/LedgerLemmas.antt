@@ -1,20 +1,9 @@
 -- What a ledger keeps, after each change.
 use Rattle.std.proofs.Common.{◌≡◌, ℕ, ◌+◌, ◌*◌, ◌<◌, ◌≤◌, ◌^◌, List, [], ◌∷◌, length, get_or, set, sum_by, Option, Some, None, unwrap_or, option_map, All, refl, sym, ap, ◌∙◌, subst, arith}
-use Rattle.std.specs.List.{insert, remove}
-use Rattle.std.specs.Ordering.{nat_cmp}
-use Rattle.std.specs.Map.{lookup, remove_entry, values_of}
-use Rattle.std.specs.BTreeMap.{insert_entry, is_at}
-use Rattle.std.proofs.lemmas.Cmp.{nat_cmp_total}
-use Rattle.std.proofs.lemmas.List.Elements.{All-nil, All-weaker}
-use Rattle.std.proofs.lemmas.List.{length-set}
+use Rattle.admission.proofs.Common.{insert, remove, nat_cmp, lookup, remove_entry, values_of, insert_entry, is_at, nat_cmp_total, All-nil, All-weaker, length-set, sum_by-cons, sum_by-le, All-values-insert_entry, All-map-remove_entry, Budget, IsAscending, FitsU32, total_minislots, total_elements, StandsAt, IsGap}
 use Rattle.std.proofs.lemmas.List.Edits.{length-insert, length-remove}
-use Rattle.std.proofs.lemmas.List.Sums.{sum_by-cons, sum_by-le}
 use Rattle.std.proofs.lemmas.Map.Entries.{sum_by-insert_entry, sum_by-remove_entry, length-values_of}
-use Rattle.std.proofs.lemmas.Map.Views.{All-values-insert_entry, All-map-remove_entry}
-use Rattle.admission.specs.declared.budget.Budget.{Budget}
-use Rattle.admission.specs.Ledger.{IsAscending, FitsU32, total_minislots, total_elements}
 use Rattle.admission.specs.Kept.{IsLedger, CanReplace}
-use Rattle.admission.specs.Place.{StandsAt, IsGap}
 use Rattle.admission.proofs.RowLemmas.{ascending_none, ascending-insert_entry, ascending-remove_entry}
 
 -- no minislots and no elements

@@ -1,3 +1,4 @@
+mod Common
 pub mod FreeLemmas
 pub mod MarkLemmas
 pub mod RowLemmas

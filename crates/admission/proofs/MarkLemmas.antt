@@ -1,10 +1,8 @@
 -- Each step of marking the used numbers of one window.
 use Rattle.std.proofs.Common.{◌≡◌, ℕ, ◌+◌, ◌-◌, ◌<◌, ◌≤◌, Bool, true, false, ◌||◌, eqb, List, [], length, get_or, set, take, ◌⊎◌, inl, inr, refl, replicate, sym, ap, ◌∙◌, arith}
-use Rattle.std.proofs.lemmas.Bool.{cases_eq, eq-eqb, ne_eqb, or_right}
-use Rattle.std.proofs.lemmas.List.{get_or-replicate, get_or-set_same, get_or-set_other, length-set, length-replicate}
+use Rattle.admission.proofs.Common.{cases_eq, eq-eqb, ne_eqb, or_right, get_or-replicate, get_or-set_same, get_or-set_other, length-set, length-replicate, IsWindow}
 use Rattle.std.proofs.lemmas.List.Folds.{list_any_more}
 use Rattle.admission.specs.Free.{is_used}
-use Rattle.admission.specs.Window.{IsWindow}
 
 pub marks_none : (base : ℕ) → IsWindow [] base (replicate 128 false)
 marks_none base = record { long = length-replicate 128 false; marks = λ place lt. get_or-replicate 128 place false false lt }

@@ -1,21 +1,10 @@
 -- What a search among ascending rows finds, and that the edits of a map keep the order.
 use Rattle.std.proofs.Common.{◌≡◌, ℕ, zero, suc, ◌<◌, ◌≤◌, true, false, cond, List, [], ◌∷◌, length, get_or, set, ◌⊎◌, Some, None, Result, Ok, Err, IfOk, IfErr, OnOk, OnErr, IsNone, refl, sym, ap, ◌∙◌, subst, arith, inl, inr}
-use Rattle.std.specs.List.{insert, remove, AllByRecursion}
+use Rattle.admission.proofs.Common.{insert, remove, AllByRecursion, nat_cmp, ordering_index, is_eq, match_ordering, lookup, remove_entry, keys_of, insert_entry, is_at, lt-ltb, le-ltb, eq-eqb, ne_eqb, cases_order, cases_lt, ranked, All-from_recursion, recursion_from_All, IsNonDecreasingBy-from_default, All-keys-insert_entry, All-map-remove_entry, Budget, IsAscending, HasRow, StandsAt, IsGap}
 use Rattle.std.specs.List.Sorted.{IsSearchInRange, IsBinarySearchResult, IsNonDecreasingBy, IsStrictlySortedBy}
 use Rattle.std.specs.declared.cmp.Ordering.{Ordering}
 use Rattle.std.specs.declared.cmp.Ordering.TheVariants.{Less, Equal, Greater}
-use Rattle.std.specs.Ordering.{nat_cmp, ordering_index, is_eq, match_ordering}
-use Rattle.std.specs.Map.{lookup, remove_entry, keys_of}
-use Rattle.std.specs.BTreeMap.{insert_entry, is_at}
-use Rattle.std.proofs.lemmas.Bool.{lt-ltb, le-ltb, eq-eqb, ne_eqb, cases_order, cases_lt}
 use Rattle.std.proofs.lemmas.Bool.Decides.{nat_tests}
-use Rattle.std.proofs.lemmas.Cmp.{ranked}
-use Rattle.std.proofs.lemmas.List.Elements.{All-from_recursion, recursion_from_All}
-use Rattle.std.proofs.lemmas.List.Sorted.{IsNonDecreasingBy-from_default}
-use Rattle.std.proofs.lemmas.Map.Views.{All-keys-insert_entry, All-map-remove_entry}
-use Rattle.admission.specs.declared.budget.Budget.{Budget}
-use Rattle.admission.specs.Ledger.{IsAscending, HasRow}
-use Rattle.admission.specs.Place.{StandsAt, IsGap}
 
 -- ---- the answers of a comparison
 

@@ -1,3 +1,4 @@
+mod Common
 pub mod TakeLemmas
 mod ReceiptLemmas
 mod RoomLemmas

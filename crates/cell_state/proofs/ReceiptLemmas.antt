@@ -1,12 +1,8 @@
 -- The owner's receipts, one after the other.
 use Rattle.std.proofs.Common.{◌≡◌, ℕ, zero, suc, ◌+◌, ◌<◌, List, [], ◌∷◌, ◌++◌, length, length-append, Some, ◌⊎◌, inl, inr, refl, sym, ap, ◌∙◌, subst, arith}
-use Rattle.std.specs.Prelude.{slice_get}
+use Rattle.cell_state.proofs.Common.{slice_get, same_Some, slice_get_within, SliceRow, BookView, Told}
 use Rattle.std.proofs.lemmas.Bool.{cases_eq}
-use Rattle.std.proofs.lemmas.Option.{same_Some, slice_get_within}
 use Rattle.operator_model.specs.declared.action.Action.TheVariants as actions
-use Rattle.operator_model.specs.declared.action.SliceRow.{SliceRow}
-use Rattle.operator_model.specs.Replay.{BookView}
-use Rattle.cell_state.specs.declared.told.Told.{Told}
 use Rattle.cell_state.specs.Receiving.{IsReceiptOf, IsOwnersReceipt, AreOwnersReceipts}
 
 -- the receipts of the operators before this place are there

@@ -1,18 +1,9 @@
 -- Room in each history, and what waits after a slice change.
 use Rattle.std.proofs.Common.{◌≡◌, ℕ, ◌+◌, ◌<◌, ◌≤◌, List, ◌++◌, length, map, get_or, append-nil, ap, ◌∙◌, arith}
-use Rattle.std.specs.Prelude.{slice_set}
-use Rattle.std.specs.List.{AllWithin}
-use Rattle.std.proofs.lemmas.List.{length-set}
-use Rattle.std.proofs.lemmas.List.Elements.{AllWithin-more_set}
-use Rattle.slice_scheduler.specs.declared.elements.ElementsFields.{ElementsFields}
-use Rattle.operator_model.specs.declared.action.SliceRow.{SliceRow}
+use Rattle.cell_state.proofs.Common.{slice_set, AllWithin, length-set, AllWithin-more_set, ElementsFields, SliceRow, BookView, book_after_action, frames_of, waiting_in, waiting_acted}
 use Rattle.operator_model.specs.declared.action.Action.TheVariants as actions
-use Rattle.operator_model.specs.Replay.{BookView, book_after_action}
-use Rattle.run_model.specs.IsStateAfter.{frames_of}
 use Rattle.run_model.proofs.Moving.{silent}
 use Rattle.live_core.proofs.PlaceLemmas.{seen_at, set_alike}
-use Rattle.plant_core.specs.Waiting.{waiting_in}
-use Rattle.plant_core.proofs.WaitingLemmas.{waiting_acted}
 
 -- a slice change outputs no frame
 pub waits_still : (book new : BookView) (from : ℕ) (row : SliceRow) (place : ℕ) → place ≤ length book.history → new ≡ book_after_action book (actions.Reslice from row) → waiting_in new.history place ≡ waiting_in book.history place

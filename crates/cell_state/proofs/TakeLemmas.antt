@@ -1,21 +1,11 @@
 -- Frames that are taken, and how many stand before a place.
 use Rattle.std.proofs.Common.{◌≡◌, ◌≢◌, ℕ, zero, suc, ◌+◌, ◌-◌, ◌<◌, ◌≤◌, List, [], ◌∷◌, ◌++◌, length, get_or, take, drop, All, Option, Some, cond, refl, sym, ap, subst, ◌∙◌, arith}
-use Rattle.std.specs.Prelude.{count_by, nat_lt}
-use Rattle.std.specs.List.{flat_map}
-use Rattle.std.proofs.lemmas.List.{take-append-drop, length-append}
+use Rattle.cell_state.proofs.Common.{count_by, nat_lt, flat_map, take-append-drop, length-append, filter_map-append, ElementsFields, Entry, Output, frame_with_number, frames_of, frames_in, waiting_in, IsOneFrame, waiting_more, is_frame, has_frame}
 use Rattle.std.proofs.lemmas.List.Sums.{sum_by-cons}
-use Rattle.std.proofs.lemmas.List.Elements.{filter_map-append}
 use Rattle.std.proofs.lemmas.List.Concat.{flat_map-append}
 use Rattle.std.proofs.Math.Seq.{drop-append_seam, drop-append-add}
-use Rattle.slice_scheduler.specs.declared.elements.ElementsFields.{ElementsFields}
-use Rattle.operator_model.specs.declared.action.Entry.{Entry}
-use Rattle.operator_model.specs.declared.output.Output.{Output}
 use Rattle.operator_model.specs.declared.output.Output.TheVariants.{Reply, Silent, Frame}
-use Rattle.run_model.specs.IsStateAfter.{frame_with_number, frames_of}
-use Rattle.plant_core.specs.Waiting.{frames_in, waiting_in, IsOneFrame}
-use Rattle.plant_core.proofs.WaitingLemmas.{waiting_more}
 use Rattle.cell_state.specs.Oldest.{IsOldest}
-use Rattle.cell_state.specs.Taking.{is_frame, has_frame}
 use Rattle.cell_state.specs.declared.collecting.Oldest.{Oldest}
 
 abbrev pub Numbered : Type 0

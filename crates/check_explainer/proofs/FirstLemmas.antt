@@ -1,22 +1,11 @@
 -- The first check whose test is true is the one that decides.
 use Rattle.std.proofs.Common.{◌≡◌, Bool, true, false, List, [], ◌∷◌, ◌++◌, Option, Some, unwrap_or, refl, sym, ap, ◌∙◌, subst}
-use Rattle.std.specs.Prelude.{find, MatchOption, if◌then◌else◌}
-use Rattle.std.specs.List.{AllByRecursion}
-use Rattle.std.proofs.lemmas.Bool.{true≢false}
-use Rattle.dsx_messages.specs.declared.modem.Modem.{Modem}
+use Rattle.check_explainer.proofs.Common.{find, MatchOption, if◌then◌else◌, AllByRecursion, true≢false, Modem, Operator, IsSound, IsFirst, Said, said_by, CheckApplies, Check, find-first, first_one, test_of}
 use Rattle.dsx_messages.specs.declared.message.Request.{Request}
-use Rattle.operator_model.specs.State.{Operator}
-use Rattle.operator_model.specs.Sound.{IsSound}
 use Rattle.operator_model.specs.Verdict.{verdict}
-use Rattle.lists.specs.First.{IsFirst}
-use Rattle.check_table.specs.Said.{Said, said_by}
-use Rattle.check_table.specs.Holding.{CheckApplies}
 use Rattle.check_table.specs.Table.{table, IsDecidedBy}
-use Rattle.check_table.specs.declared.check.Check.{Check}
 use Rattle.check_table.specs.declared.check.Check.TheVariants as checks
-use Rattle.check_table.proofs.ListLemmas.{find-first, first_one}
 use Rattle.check_table.proofs.RequestLemmas.{request-decided}
-use Rattle.check_explainer.specs.Deciding.{test_of}
 use Rattle.check_explainer.proofs.HoldLemmas.{right}
 
 -- the last of a list is found where it passes and no other does

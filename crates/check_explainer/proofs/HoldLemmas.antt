@@ -1,18 +1,12 @@
 -- Each test of a check decides whether the check holds.
 use Rattle.std.proofs.Common.{◌≡◌, ◌≢◌, ◌==◌, ℕ, ◌<◌, ◌≤◌, ◌&&◌, ◌||◌, Bool, not, true, false, List, [], ◌∷◌, ◌++◌, ◌⊎◌, length, map, filter, nat_lt, nat_le, Option, Some, None, Result, Ok, Err, is_some, is_none, refl, sym, ap, ◌∙◌, subst, arith, inl, inr}
-use Rattle.std.specs.Prelude.{Contains, Any, IsSome, if◌then◌else◌}
-use Rattle.std.specs.Bool.{Decides}
-use Rattle.std.specs.List.{list_any}
-use Rattle.std.proofs.lemmas.Bool.{false≢true, and_parts, and_from, not-true, not_from_false, lt-ltb, leb-true, le-leb, false_from_ne_true, true_from_ne_false}
+use Rattle.check_explainer.proofs.Common.{Contains, Any, IsSome, if◌then◌else◌, Decides, list_any, false≢true, and_parts, and_from, not-true, not_from_false, lt-ltb, leb-true, le-leb, false_from_ne_true, true_from_ne_false, All-contains, Modem, Kind, same_modem, Flow, sfids_of, sids_of, sid_if, Operator, Said, identifier, NamesFlow, IsOfFlow, IsAbout, EncodingAsksFor, set_asked, Admits, Activates, IsSetWhere, IsToBeAdmitted, IsToBeActive, IsSetType, NamesUnknownClass, AreAdmittedAndActive, AcceptsSetType, GivesNoSet, IsUsedUp, would_commit, WouldCommit, IsOverBudget, CheckApplies, Check, contains-here, contains-later, contains_cases, any_from, same_modems, modem_itself, is_addition, is_deletion, names, subject_of, is_named_in, subjects_of, is_for, ok_of, set_given, gives_for, encoding_sets, is_empty, differs_from, is_alone, do_differ, has_no_identifier, is_taken, is_wrong_alone, is_err_of, gives_none, is_unknown, names_unknown, is_of_another, flow_waits, is_outside, provisioned_of, is_outside_one, one_exceeds, has_no_sid, is_over_next, is_over_budget, does_hold}
 use Rattle.std.proofs.lemmas.Option.{none-some}
 use Rattle.std.proofs.lemmas.Bool.Decides.{Decides-eqb, Decides-like, Decides-not, Decides-and, Decides-or, Decides-ltb}
-use Rattle.std.proofs.lemmas.List.Elements.{All-contains}
 use Rattle.tlv24.specs.SetType.{set_type_number}
 use Rattle.tlv24.specs.declared.fields.FlowFields.{FlowFields}
 use Rattle.tlv24.specs.declared.set_type.SetType.{SetType}
 use Rattle.tlv24.specs.declared.set_type.SetType.TheVariants.{Null, Admitted, Active, AdmittedAndActive}
-use Rattle.dsx_messages.specs.declared.modem.Modem.{Modem}
-use Rattle.dsx_messages.specs.declared.kind.Kind.{Kind}
 use Rattle.dsx_messages.specs.declared.kind.Kind.TheVariants.{Dsa, Dsc, Dsd}
 use Rattle.admission.specs.Free.{Numbers, least_free_of}
 use Rattle.admission.specs.declared.budget.Budget.{Budget}
@@ -20,25 +14,14 @@ use Rattle.param_sets.specs.Within.{IsWithin, first_failing}
 use Rattle.param_sets.specs.declared.param_set.ParamFields.{ParamFields}
 use Rattle.param_sets.specs.declared.refusal.Refusal.{Refusal}
 use Rattle.param_sets.proofs.WithinLemmas.{is_within, nothing_fails}
-use Rattle.plant.specs.Row.{same_modem}
 use Rattle.plant.specs.declared.consts.ConstsFields.{ConstsFields}
-use Rattle.flow_table.specs.declared.flow.Flow.{Flow}
-use Rattle.flow_table.specs.Table.{sfids_of, sids_of, sid_if}
 use Rattle.operator_model.specs.declared.share.NextShare.{NextShare}
-use Rattle.operator_model.specs.State.{Operator}
 use Rattle.operator_model.specs.Asked.{is_same, has_set_type, is_unclassed, stand_together}
-use Rattle.check_table.specs.Said.{Said, identifier, NamesFlow, IsOfFlow, IsAbout, EncodingAsksFor, set_asked, Admits, Activates, IsSetWhere, IsToBeAdmitted, IsToBeActive, IsSetType}
-use Rattle.check_table.specs.Holding.{NamesUnknownClass, AreAdmittedAndActive, AcceptsSetType, GivesNoSet, IsUsedUp, would_commit, WouldCommit, IsOverBudget, CheckApplies}
-use Rattle.check_table.specs.declared.check.Check.{Check}
 use Rattle.check_table.specs.declared.check.Check.TheVariants as checks
-use Rattle.check_table.proofs.ListLemmas.{contains-here, contains-later, contains_cases, any_from}
 use Rattle.check_table.proofs.EncodingLemmas.{unclassed, classed, is_same_true, is_same_from, IsShape, together_shape, apart_more}
-use Rattle.check_table.proofs.FlowLemmas.{same_modems, modem_itself}
 use Rattle.check_table.proofs.RoomLemmas.{used_up, least_one, not_used_up}
 use Rattle.check_explainer.specs.declared.asking.Use.{Use}
 use Rattle.check_explainer.specs.declared.asking.Use.TheVariants.{Admit, Activate}
-use Rattle.check_explainer.specs.Asking.{is_addition, is_deletion, names, subject_of, is_named_in, subjects_of, is_for, ok_of, set_given, gives_for, encoding_sets}
-use Rattle.check_explainer.specs.Deciding.{is_empty, differs_from, is_alone, do_differ, has_no_identifier, is_taken, is_wrong_alone, is_err_of, gives_none, is_unknown, names_unknown, is_of_another, flow_waits, is_outside, provisioned_of, is_outside_one, one_exceeds, has_no_sid, is_over_next, is_over_budget, does_hold}
 use Rattle.check_explainer.proofs.ListLemmas.{any_decides, left_from, left_to, all_of}
 
 -- ---- single tests

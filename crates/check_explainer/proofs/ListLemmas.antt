@@ -1,15 +1,7 @@
 -- Lists that are made of what a test leaves of others.
 use Rattle.std.proofs.Common.{◌≡◌, ℕ, ◌+◌, ◌<◌, Bool, true, false, cond, List, [], ◌∷◌, ◌++◌, ◌⊎◌, length, get_or, take, map, filter, Option, Some, None, is_some, unwrap_or, refl, sym, ap, ◌∙◌, subst, inl, inr, append_assoc}
-use Rattle.std.specs.Prelude.{Any, All, Contains, if◌then◌else◌}
-use Rattle.std.specs.Bool.{Decides}
-use Rattle.std.specs.List.{AllByRecursion, list_any}
-use Rattle.std.proofs.lemmas.List.{append-nil, map-append}
-use Rattle.std.proofs.lemmas.List.Elements.{All-from_recursion, filter_more}
-use Rattle.std.proofs.lemmas.Bool.{true≢false}
+use Rattle.check_explainer.proofs.Common.{Any, All, Contains, if◌then◌else◌, Decides, AllByRecursion, list_any, append-nil, map-append, All-from_recursion, filter_more, true≢false, Flow, sids_of, contains-here, contains-later, contains_cases, contains-nothing}
 use Rattle.std.proofs.lemmas.List.Folds.{Any-from_list_any, list_any-from_Any}
-use Rattle.flow_table.specs.declared.flow.Flow.{Flow}
-use Rattle.flow_table.specs.Table.{sids_of}
-use Rattle.check_table.proofs.ListLemmas.{contains-here, contains-later, contains_cases, contains-nothing}
 
 abbrev pub has_sid : ℕ × Flow → Bool
 has_sid entry = is_some entry.1.sid

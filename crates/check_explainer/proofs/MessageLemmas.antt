@@ -1,32 +1,20 @@
 -- Each test of a check of a message decides whether the check holds, and the first that is true decides the message.
 use Rattle.std.proofs.Common.{◌≡◌, ◌==◌, ℕ, ◌≤◌, ◌&&◌, true, List, length, nat_le, Option, Some, None, IfSome, Ok, Err, is_some, unwrap_or, refl, sym, ap, ◌∙◌, subst, inl, inr}
-use Rattle.std.specs.Prelude.{Any, find, MatchOption}
-use Rattle.std.specs.Bool.{Decides}
-use Rattle.std.specs.List.{AllByRecursion, list_any}
-use Rattle.std.proofs.lemmas.Bool.{false≢true, true≢false, and_parts, and_from, eqb-true, eq-eqb, leb-true, le-leb}
+use Rattle.check_explainer.proofs.Common.{Any, find, MatchOption, Decides, AllByRecursion, list_any, false≢true, true≢false, and_parts, and_from, eqb-true, eq-eqb, leb-true, le-leb, Modem, Kind, same_modem, Operator, IsSound, IsFirst, said_by, find-first, first_one, first_contains, none_any, any_from, same_modems, modem_itself}
 use Rattle.tlv24.specs.Law.{AreBytes}
-use Rattle.dsx_messages.specs.declared.modem.Modem.{Modem}
-use Rattle.dsx_messages.specs.declared.kind.Kind.{Kind}
 use Rattle.dsx_messages.specs.declared.message.Message.TheVariants as messages
 use Rattle.dsx_messages.specs.declared.fault.MessageFault.{MessageFault}
 use Rattle.dsx_messages.specs.declared.fault.MessageFault.TheVariants as faults
 use Rattle.dsx_messages.specs.Reading.{message_of}
 use Rattle.transactions.specs.declared.entry.KeptEntry.{KeptEntry}
 use Rattle.transactions.specs.Entry.{is_of}
-use Rattle.plant.specs.Row.{same_modem}
 use Rattle.operator_model.specs.declared.heard.Heard.TheVariants as heards
 use Rattle.operator_model.specs.declared.output.Cause.{Cause}
 use Rattle.operator_model.specs.declared.output.Cause.TheVariants as causes
-use Rattle.operator_model.specs.State.{Operator}
-use Rattle.operator_model.specs.Sound.{IsSound}
 use Rattle.operator_model.specs.Handle.{handle}
-use Rattle.lists.specs.First.{IsFirst}
-use Rattle.check_table.specs.Said.{said_by}
 use Rattle.check_table.specs.Messages.{Reading, IsNoAck, ReadsAsRequest, IsCachedEntry, IsUnread, HoldsOf, message_table, IsHandledBy}
 use Rattle.check_table.specs.declared.check.MessageCheck.{MessageCheck}
 use Rattle.check_table.specs.declared.check.MessageCheck.TheVariants.{Unread, OfCmts, Repeated, KeptFull, Faulty, Judged}
-use Rattle.check_table.proofs.ListLemmas.{find-first, first_one, first_contains, none_any, any_from}
-use Rattle.check_table.proofs.FlowLemmas.{same_modems, modem_itself}
 use Rattle.check_table.proofs.MessageLemmas.{bytes-handled}
 use Rattle.check_explainer.proofs.ListLemmas.{any_decides}
 use Rattle.check_explainer.specs.Messages.{HasNoCheck, transaction_in, is_unread, is_of_cmts_in, is_kept_in, is_faulty, is_request, does_hold_of, message_test}

@@ -1,31 +1,9 @@
 -- An addition is decided.
 use Rattle.std.proofs.Common.{◌≡◌, ◌≢◌, ℕ, ◌<◌, List, [], ◌∷◌, ◌++◌, length, nat_le, Option, Some, None, Result, Ok, Err, refl, ap, subst, arith, ◌∙◌}
-use Rattle.std.specs.Prelude.{Any, MatchResult}
-use Rattle.std.specs.List.{AllByRecursion}
-use Rattle.std.proofs.lemmas.Bool.{cond_both, leb-true, leb-false}
-use Rattle.tlv24.specs.Subtype.{reference_subtype}
-use Rattle.tlv24.specs.declared.fields.FlowFields.{FlowFields}
-use Rattle.dsx_messages.specs.declared.modem.Modem.{Modem}
-use Rattle.dsx_messages.specs.declared.kind.Kind.TheVariants.{Dsa, Dsd}
-use Rattle.dsx_messages.specs.declared.code.Code.TheVariants.{RejectRequiredParameterNotPresent}
+use Rattle.check_table.proofs.Common.{Any, MatchResult, AllByRecursion, cond_both, leb-true, leb-false, reference_subtype, FlowFields, Modem, Dsa, Dsd, RejectRequiredParameterNotPresent, ReplyFields, IsLeastFree, least_free_of, ParamFields, SetsFields, Flow, sfids_of, sids_of, flow_at, with_flow, AskedSets, Addition, Refused, Put, Operator, IsSound, none-there, Said, said_by, IsAbout, Admits, IsSetWhere, would_commit, UnknownFlow, NotOwner, FlowWaits, FlowsFull, NoSfidFree, NoSidFree, ElementsOver, MinislotsOver, Accepted}
 use Rattle.dsx_messages.specs.declared.message.Request.TheVariants as requests
-use Rattle.dsx_messages.specs.declared.reply.ReplyFields.{ReplyFields}
-use Rattle.admission.specs.Free.{IsLeastFree, least_free_of}
-use Rattle.param_sets.specs.declared.param_set.ParamFields.{ParamFields}
-use Rattle.param_sets.specs.declared.sets.SetsFields.{SetsFields}
-use Rattle.flow_table.specs.declared.flow.Flow.{Flow}
-use Rattle.flow_table.specs.Table.{sfids_of, sids_of, flow_at, with_flow}
-use Rattle.operator_model.specs.declared.verdict.AskedSets.{AskedSets}
-use Rattle.operator_model.specs.declared.verdict.Addition.{Addition}
-use Rattle.operator_model.specs.declared.verdict.Verdict.TheVariants.{Refused, Put}
-use Rattle.operator_model.specs.State.{Operator}
-use Rattle.operator_model.specs.Sound.{IsSound}
 use Rattle.operator_model.specs.Asked.{transaction, refusal_naming, stated_or_refusal, first_encoding, asked_sets, nested_sets, addition_of}
 use Rattle.operator_model.specs.Verdict.{new_flow, added_reply, added_under, addition_within_limit, addition_verdict, verdict}
-use Rattle.operator_model.proofs.FreshLemmas.{none-there}
-use Rattle.check_table.specs.Said.{Said, said_by, IsAbout, Admits, IsSetWhere}
-use Rattle.check_table.specs.Holding.{would_commit}
-use Rattle.check_table.specs.declared.check.Check.TheVariants.{UnknownFlow, NotOwner, FlowWaits, FlowsFull, NoSfidFree, NoSidFree, ElementsOver, MinislotsOver, Accepted}
 use Rattle.check_table.proofs.ListLemmas.{any_from, all_more, all_append}
 use Rattle.check_table.proofs.TableLemmas.{of_encodings, up_to_flow, up_to_sets, up_to_room, Fails, IsDecided, decided}
 use Rattle.check_table.proofs.EncodingLemmas.{IsReady, IsIdentified, encodings-view, identifier-view}

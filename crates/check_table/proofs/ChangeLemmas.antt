@@ -1,32 +1,9 @@
 -- A change is decided.
 use Rattle.std.proofs.Common.{◌≡◌, ◌≢◌, ℕ, ◌&&◌, Bool, true, false, List, [], ◌∷◌, ◌++◌, Option, Some, None, Result, Ok, Err, is_some, is_none, refl, ap, subst, sym, ◌∙◌}
-use Rattle.std.specs.Prelude.{MatchResult, if◌then◌else◌}
-use Rattle.std.specs.List.{AllByRecursion}
-use Rattle.std.proofs.lemmas.Bool.{cond_both, true≢false, false≢true}
-use Rattle.tlv24.specs.Subtype.{sfid_subtype}
-use Rattle.tlv24.specs.declared.fields.FlowFields.{FlowFields}
-use Rattle.dsx_messages.specs.declared.modem.Modem.{Modem}
-use Rattle.dsx_messages.specs.declared.kind.Kind.TheVariants.{Dsc, Dsd}
-use Rattle.dsx_messages.specs.declared.code.Code.TheVariants.{Okay, RejectRequiredParameterNotPresent}
+use Rattle.check_table.proofs.Common.{MatchResult, if◌then◌else◌, AllByRecursion, cond_both, true≢false, false≢true, sfid_subtype, FlowFields, Modem, Dsc, Dsd, Okay, RejectRequiredParameterNotPresent, Given, ReplyFields, least_free_of, ParamFields, SetsFields, Flow, sids_of, sid_if, flow_at, with_flow, AskedSets, Change, Refused, Put, Operator, IsSound, Said, said_by, NamesFlow, IsOfFlow, IsAbout, IsSetWhere, Admits, would_commit, GetsSid, told_sid, FlowsFull, NoSfidFree, NoSidFree, ElementsOver, MinislotsOver, Accepted}
 use Rattle.dsx_messages.specs.declared.message.Request.TheVariants as requests
-use Rattle.dsx_messages.specs.declared.reply.Detail.TheVariants.{Given}
-use Rattle.dsx_messages.specs.declared.reply.ReplyFields.{ReplyFields}
-use Rattle.admission.specs.Free.{least_free_of}
-use Rattle.param_sets.specs.declared.param_set.ParamFields.{ParamFields}
-use Rattle.param_sets.specs.declared.sets.SetsFields.{SetsFields}
-use Rattle.flow_table.specs.declared.flow.Flow.{Flow}
-use Rattle.flow_table.specs.Table.{sids_of, sid_if, flow_at, with_flow}
-use Rattle.operator_model.specs.declared.verdict.AskedSets.{AskedSets}
-use Rattle.operator_model.specs.declared.verdict.Change.{Change}
-use Rattle.operator_model.specs.declared.verdict.Verdict.TheVariants.{Refused, Put}
-use Rattle.operator_model.specs.State.{Operator}
-use Rattle.operator_model.specs.Sound.{IsSound}
 use Rattle.operator_model.specs.Asked.{transaction, refusal_naming, stated_or_refusal, first_encoding, free_flow, asked_sets, nested_sets, change_of}
 use Rattle.operator_model.specs.Verdict.{changed_flow, changed_reply, changed_with, changed_with_new, wants_sid, change_within_limit, change_verdict, verdict}
-use Rattle.check_table.specs.Said.{Said, said_by, NamesFlow, IsOfFlow, IsAbout, IsSetWhere, Admits}
-use Rattle.check_table.specs.Holding.{would_commit}
-use Rattle.check_table.specs.Answering.{GetsSid, told_sid}
-use Rattle.check_table.specs.declared.check.Check.TheVariants.{FlowsFull, NoSfidFree, NoSidFree, ElementsOver, MinislotsOver, Accepted}
 use Rattle.check_table.proofs.ListLemmas.{any_from, all_more, all_append}
 use Rattle.check_table.proofs.TableLemmas.{up_to_sets, up_to_room, Fails, IsDecided, decided}
 use Rattle.check_table.proofs.FlowLemmas.{IsFound, is_of_flow, the_flow, free-found}

@@ -1,21 +1,8 @@
 -- A deletion is decided.
 use Rattle.std.proofs.Common.{◌≡◌, ℕ, [], None, Result, Ok, Err, refl, arith}
-use Rattle.std.specs.Prelude.{MatchResult}
-use Rattle.std.specs.List.{AllByRecursion}
-use Rattle.dsx_messages.specs.declared.modem.Modem.{Modem}
-use Rattle.dsx_messages.specs.declared.kind.Kind.TheVariants.{Dsd}
+use Rattle.check_table.proofs.Common.{MatchResult, AllByRecursion, Modem, Dsd, ReplyFields, Flow, flow_at, Refused, Operator, IsSound, transaction, free_flow, Said, said_by, Admits, Activates, EncodingAsksFor, NamesUnknownClass, GivesNoSet, Accepted}
 use Rattle.dsx_messages.specs.declared.message.Request.TheVariants as requests
-use Rattle.dsx_messages.specs.declared.reply.ReplyFields.{ReplyFields}
-use Rattle.flow_table.specs.declared.flow.Flow.{Flow}
-use Rattle.flow_table.specs.Table.{flow_at}
-use Rattle.operator_model.specs.declared.verdict.Verdict.TheVariants.{Refused}
-use Rattle.operator_model.specs.State.{Operator}
-use Rattle.operator_model.specs.Sound.{IsSound}
-use Rattle.operator_model.specs.Asked.{transaction, free_flow}
 use Rattle.operator_model.specs.Verdict.{deletion_verdict, verdict}
-use Rattle.check_table.specs.Said.{Said, said_by, Admits, Activates, EncodingAsksFor}
-use Rattle.check_table.specs.Holding.{NamesUnknownClass, GivesNoSet}
-use Rattle.check_table.specs.declared.check.Check.TheVariants.{Accepted}
 use Rattle.check_table.proofs.ListLemmas.{contains-nothing, none_any, all_append}
 use Rattle.check_table.proofs.TableLemmas.{of_encodings, up_to_flow, asking, up_to_room, Fails, IsDecided, decided}
 use Rattle.check_table.proofs.FlowLemmas.{IsFound, free-found}

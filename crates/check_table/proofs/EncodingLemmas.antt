@@ -1,34 +1,11 @@
 -- The checks of the encodings of an addition or a change: their classes, their identifiers, and which stand together.
 use Rattle.std.proofs.Common.{◌≡◌, ◌≢◌, ℕ, ◌<◌, ◌&&◌, Bool, not, true, false, List, [], ◌∷◌, ◌⊎◌, length, map, Option, Some, None, Result, is_none, option_map, refl, sym, ap, ◌∙◌, subst, arith, inl, inr}
-use Rattle.std.specs.Prelude.{Contains, find, MatchOption, MatchResult}
-use Rattle.std.specs.List.{AllByRecursion, list_all}
-use Rattle.std.proofs.lemmas.Bool.{cond_both, and_parts, and_from, or_cases, or_left, or_right, eqb-true, eq-eqb, true≢false, false≢true}
-use Rattle.std.proofs.lemmas.List.Elements.{All-from_recursion, All-contains}
-use Rattle.std.proofs.lemmas.Slice.Eq.{bytes_eq-Decides}
-use Rattle.tlv24.specs.SetType.{set_type_number}
-use Rattle.tlv24.specs.declared.fields.FlowFields.{FlowFields}
-use Rattle.tlv24.specs.declared.set_type.SetType.TheVariants.{Admitted, Active}
-use Rattle.dsx_messages.specs.declared.modem.Modem.{Modem}
-use Rattle.dsx_messages.specs.declared.kind.Kind.{Kind}
-use Rattle.dsx_messages.specs.declared.kind.Kind.TheVariants.{Dsa, Dsc, Dsd}
-use Rattle.dsx_messages.specs.declared.code.Code.{Code}
-use Rattle.dsx_messages.specs.declared.code.Code.TheVariants.{RejectPermanent, RejectRequiredParameterNotPresent}
-use Rattle.dsx_messages.specs.declared.reply.FlowId.{FlowId}
+use Rattle.check_table.proofs.Common.{Contains, find, MatchOption, MatchResult, AllByRecursion, list_all, cond_both, and_parts, and_from, or_cases, or_left, or_right, eqb-true, eq-eqb, true≢false, false≢true, All-from_recursion, All-contains, bytes_eq-Decides, set_type_number, FlowFields, Admitted, Active, Modem, Kind, Dsa, Dsc, Dsd, Code, RejectPermanent, RejectRequiredParameterNotPresent, FlowId, Errored, ReplyFields, is_class_named, asked_over, Refused, Operator, IsFirst, Said, identifier, told_identifier, identifier_subtype, IsSetType, NamesUnknownClass, AreAdmittedAndActive, refusal_verdict, naming, UnknownClass, NoEncoding, IdentifiersDiffer, NotTogether, NoIdentifier, UnknownFlow, NotOwner, FlowWaits, WrongSetType, NoParameterSet, ActiveNotWithin, AdmittedNotWithin, FlowsFull, NoSfidFree, NoSidFree, ElementsOver, MinislotsOver, Accepted}
 use Rattle.dsx_messages.specs.declared.reply.FlowId.TheVariants as ids
-use Rattle.dsx_messages.specs.declared.reply.Detail.TheVariants.{Errored}
-use Rattle.dsx_messages.specs.declared.reply.ReplyFields.{ReplyFields}
 use Rattle.param_sets.specs.Overridden.{overridden_of}
 use Rattle.plant.specs.declared.class_table.Class.{Class}
-use Rattle.plant.specs.Classes.{is_class_named, asked_over}
 use Rattle.operator_model.specs.declared.verdict.Transaction.{Transaction}
-use Rattle.operator_model.specs.declared.verdict.Verdict.TheVariants.{Refused}
-use Rattle.operator_model.specs.State.{Operator}
 use Rattle.operator_model.specs.Asked.{transaction, id_of, refusal_naming, stated_or_refusal, id_number, is_same, has_set_type, stand_together, first_of, is_unclassed, first_unless, first_encoding}
-use Rattle.lists.specs.First.{IsFirst}
-use Rattle.check_table.specs.Said.{Said, identifier, told_identifier, identifier_subtype, IsSetType}
-use Rattle.check_table.specs.Holding.{NamesUnknownClass, AreAdmittedAndActive}
-use Rattle.check_table.specs.Answering.{refusal_verdict, naming}
-use Rattle.check_table.specs.declared.check.Check.TheVariants.{UnknownClass, NoEncoding, IdentifiersDiffer, NotTogether, NoIdentifier, UnknownFlow, NotOwner, FlowWaits, WrongSetType, NoParameterSet, ActiveNotWithin, AdmittedNotWithin, FlowsFull, NoSfidFree, NoSidFree, ElementsOver, MinislotsOver, Accepted}
 use Rattle.check_table.proofs.ListLemmas.{contains-here, contains-later, contains_cases, any_from, none_any, all_more, find-first, first_contains, all_pass, one_fails}
 use Rattle.check_table.proofs.TableLemmas.{of_shape, of_encodings, Fails, IsDecided, decided}
 

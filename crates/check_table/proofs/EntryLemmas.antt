@@ -1,14 +1,8 @@
 -- Entries under numbers, ascending: what stands in the list is what is found under its number.
 use Rattle.std.proofs.Common.{◌≡◌, ℕ, true, false, List, [], ◌∷◌, ◌⊎◌, Some, sym, ap, ◌∙◌, subst, inl, inr}
-use Rattle.std.specs.Prelude.{Contains}
-use Rattle.std.specs.List.{AllByRecursion}
+use Rattle.check_table.proofs.Common.{Contains, AllByRecursion, nat_cmp, is_eq, keys_of, cases_eq, none-some, nat_cmp_equal, is_at_other, Ascends, at, at-above, found_as}
 use Rattle.std.specs.List.Sorted.{IsStrictlySortedBy}
 use Rattle.std.specs.declared.cmp.Ordering.TheVariants.{Less}
-use Rattle.std.specs.Ordering.{nat_cmp, is_eq}
-use Rattle.std.specs.Map.{keys_of}
-use Rattle.std.proofs.lemmas.Bool.{cases_eq}
-use Rattle.std.proofs.lemmas.Option.{none-some}
-use Rattle.operator_model.proofs.MapLemmas.{nat_cmp_equal, is_at_other, Ascends, at, at-above, found_as}
 use Rattle.check_table.proofs.ListLemmas.{contains-here, contains-later, contains_cases, contains-nothing}
 
 module _ {X : Type 0} where

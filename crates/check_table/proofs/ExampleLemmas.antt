@@ -1,35 +1,9 @@
 -- Which check decides, by what a request says.
 use Rattle.std.proofs.Common.{◌≡◌, ◌≢◌, ℕ, ◌<◌, ◌≤◌, List, [], ◌∷◌, ◌++◌, ◌⊎◌, length, Option, Some, None, IsSome, is_some, refl, sym, ap, ◌∙◌, subst, arith, inl, inr}
-use Rattle.std.specs.Prelude.{Contains}
-use Rattle.std.specs.List.{AllByRecursion}
-use Rattle.std.proofs.lemmas.List.Elements.{All-head, All-contains, All-from_recursion}
-use Rattle.tlv24.specs.SetType.{set_type_number}
-use Rattle.tlv24.specs.declared.fields.FlowFields.{FlowFields}
-use Rattle.tlv24.specs.declared.set_type.SetType.TheVariants.{Admitted, Active, AdmittedAndActive}
-use Rattle.dsx_messages.specs.declared.modem.Modem.{Modem}
-use Rattle.dsx_messages.specs.declared.kind.Kind.TheVariants.{Dsa, Dsc, Dsd}
-use Rattle.dsx_messages.specs.declared.code.Code.TheVariants.{RejectTemporary, RejectInvalidForContext, RejectAuthorizationFailure, RejectNotOwner, RejectFlowNotFound, RejectRequiredParameterNotPresent, RejectDuplicateReference, RejectMultipleUpstreamFlows}
-use Rattle.dsx_messages.specs.declared.reply.Detail.TheVariants.{Nothing, Errored}
+use Rattle.check_table.proofs.Common.{Contains, AllByRecursion, All-head, All-contains, All-from_recursion, set_type_number, FlowFields, Admitted, Active, AdmittedAndActive, Modem, Dsa, Dsc, Dsd, RejectTemporary, RejectInvalidForContext, RejectAuthorizationFailure, RejectNotOwner, RejectFlowNotFound, RejectRequiredParameterNotPresent, RejectDuplicateReference, RejectMultipleUpstreamFlows, Nothing, Errored, least_free_of, within_self, nothing_fails, ParamFields, Refusal, Flow, Pending, sfids_of, sids_of, Operator, new_flow, first_modem, second_modem, same_modem, true≢false, Said, said_by, identifier, NamesFlow, IsAbout, EncodingAsksFor, EncodingIsRefused, Admits, Activates, IsSetWhere, IsSetType, would_commit, NamesUnknownClass, AreAdmittedAndActive, AcceptsSetType, GivesNoSet, refusal_verdict, naming, set_type_code, IsDecidedBy, UnknownClass, NoEncoding, IdentifiersDiffer, NotTogether, NoIdentifier, UnknownFlow, NotOwner, FlowWaits, WrongSetType, NoParameterSet, ActiveNotWithin, AdmittedNotWithin, FlowsFull, NoSfidFree, NoSidFree, ElementsOver, MinislotsOver, Accepted}
 use Rattle.dsx_messages.specs.declared.message.Request.TheVariants as requests
-use Rattle.admission.specs.Free.{least_free_of}
 use Rattle.param_sets.specs.Within.{IsWithin, first_failing}
-use Rattle.param_sets.proofs.WithinLemmas.{within_self, nothing_fails}
-use Rattle.param_sets.specs.declared.param_set.ParamFields.{ParamFields}
 use Rattle.param_sets.specs.declared.scheduling.Scheduling.TheVariants.{BestEffort}
-use Rattle.param_sets.specs.declared.refusal.Refusal.{Refusal}
-use Rattle.flow_table.specs.declared.flow.Flow.{Flow}
-use Rattle.flow_table.specs.declared.flow.Pending.{Pending}
-use Rattle.flow_table.specs.Table.{sfids_of, sids_of}
-use Rattle.operator_model.specs.State.{Operator}
-use Rattle.operator_model.specs.Verdict.{new_flow}
-use Rattle.operator_model.specs.Worked.{first_modem, second_modem}
-use Rattle.plant.specs.Row.{same_modem}
-use Rattle.std.proofs.lemmas.Bool.{true≢false}
-use Rattle.check_table.specs.Said.{Said, said_by, identifier, NamesFlow, IsAbout, EncodingAsksFor, EncodingIsRefused, Admits, Activates, IsSetWhere, IsSetType}
-use Rattle.check_table.specs.Holding.{would_commit, NamesUnknownClass, AreAdmittedAndActive, AcceptsSetType, GivesNoSet}
-use Rattle.check_table.specs.Answering.{refusal_verdict, naming, set_type_code}
-use Rattle.check_table.specs.Table.{IsDecidedBy}
-use Rattle.check_table.specs.declared.check.Check.TheVariants.{UnknownClass, NoEncoding, IdentifiersDiffer, NotTogether, NoIdentifier, UnknownFlow, NotOwner, FlowWaits, WrongSetType, NoParameterSet, ActiveNotWithin, AdmittedNotWithin, FlowsFull, NoSfidFree, NoSidFree, ElementsOver, MinislotsOver, Accepted}
 use Rattle.check_table.proofs.ListLemmas.{contains-here, contains-later, contains_cases, contains-nothing, any_from, none_any, all_more, all_append, first-here}
 use Rattle.check_table.proofs.TableLemmas.{of_shape, of_encodings, up_to_flow, up_to_sets, Fails, decided_by}
 use Rattle.check_table.proofs.SetLemmas.{only_one}

@@ -1,23 +1,6 @@
 -- The checks of the flow that a request names.
 use Rattle.std.proofs.Common.{◌≡◌, ℕ, Bool, not, true, false, List, [], ◌∷◌, ◌++◌, ◌⊎◌, Option, Some, None, Result, is_some, refl, sym, ap, ◌∙◌, subst, inl, inr}
-use Rattle.std.specs.Prelude.{Contains, MatchResult}
-use Rattle.std.specs.List.{AllByRecursion}
-use Rattle.std.proofs.lemmas.Bool.{cond_both, cases_eq, true≢false}
-use Rattle.std.proofs.lemmas.Option.{none-some}
-use Rattle.std.specs.Ordering.{is_eq}
-use Rattle.std.proofs.lemmas.Slice.Eq.{bytes_eq-Decides}
-use Rattle.dsx_messages.specs.declared.modem.Modem.{Modem}
-use Rattle.dsx_messages.specs.declared.reply.ReplyFields.{ReplyFields}
-use Rattle.plant.specs.Row.{same_modem}
-use Rattle.flow_table.specs.declared.flow.Flow.{Flow}
-use Rattle.flow_table.specs.Table.{sfids_of, flow_at}
-use Rattle.operator_model.specs.declared.verdict.Verdict.TheVariants.{Refused}
-use Rattle.operator_model.specs.State.{Operator}
-use Rattle.operator_model.specs.Asked.{transaction, free_flow}
-use Rattle.operator_model.proofs.MapLemmas.{Ascends, nat_cmp_equal, is_at_other, found_as}
-use Rattle.operator_model.proofs.FreshLemmas.{used_sfid}
-use Rattle.check_table.specs.Said.{Said, NamesFlow, IsOfFlow}
-use Rattle.check_table.specs.declared.check.Check.TheVariants.{UnknownFlow, NotOwner, FlowWaits, WrongSetType, NoParameterSet, ActiveNotWithin, AdmittedNotWithin, FlowsFull, NoSfidFree, NoSidFree, ElementsOver, MinislotsOver, Accepted}
+use Rattle.check_table.proofs.Common.{Contains, MatchResult, AllByRecursion, cond_both, cases_eq, true≢false, none-some, is_eq, bytes_eq-Decides, Modem, ReplyFields, same_modem, Flow, sfids_of, flow_at, Refused, Operator, transaction, free_flow, Ascends, nat_cmp_equal, is_at_other, found_as, used_sfid, Said, NamesFlow, IsOfFlow, UnknownFlow, NotOwner, FlowWaits, WrongSetType, NoParameterSet, ActiveNotWithin, AdmittedNotWithin, FlowsFull, NoSfidFree, NoSidFree, ElementsOver, MinislotsOver, Accepted}
 use Rattle.check_table.proofs.ListLemmas.{contains_cases, contains-nothing, all_more}
 use Rattle.check_table.proofs.EntryLemmas.{at_contains, contained_at}
 use Rattle.check_table.proofs.TableLemmas.{of_encodings, up_to_flow, Fails, IsDecided, decided}

@@ -1,24 +1,10 @@
 -- What handling a message comes to is one.
 use Rattle.std.proofs.Common.{◌≡◌, ℕ, Ok, Err, sym, ap, ◌∙◌, subst, inl, inr}
-use Rattle.dsx_messages.specs.declared.modem.Modem.{Modem}
-use Rattle.dsx_messages.specs.declared.kind.Kind.{Kind}
-use Rattle.dsx_messages.specs.declared.code.Code.{Code}
-use Rattle.dsx_messages.specs.declared.reply.Detail.{Detail}
-use Rattle.dsx_messages.specs.declared.message.Request.{Request}
+use Rattle.check_table.proofs.Common.{Modem, Kind, Code, Detail, Request, MessageFault, KeptEntry, Operator, IsSound, StepResult, silent, said_by, IsDecidedBy, Reading, ReadsAsRequest, IsCachedEntry, IsUnread, IsRefusedFor, IsRepeatOf, HoldsOf, AnswersOf, message_table, IsHandledBy, MessageCheck, Unread, OfCmts, Repeated, KeptFull, Faulty, Judged}
 use Rattle.dsx_messages.specs.declared.message.Message.TheVariants as messages
-use Rattle.dsx_messages.specs.declared.fault.MessageFault.{MessageFault}
 use Rattle.dsx_messages.specs.declared.fault.MessageFault.TheVariants as faults
 use Rattle.tlv24.specs.declared.tlv.TlvFault.TheVariants as tlv_faults
-use Rattle.transactions.specs.declared.entry.KeptEntry.{KeptEntry}
 use Rattle.operator_model.specs.declared.output.Cause.{Cause}
-use Rattle.operator_model.specs.State.{Operator}
-use Rattle.operator_model.specs.Sound.{IsSound}
-use Rattle.operator_model.specs.Handle.{StepResult, silent}
-use Rattle.check_table.specs.Said.{said_by}
-use Rattle.check_table.specs.Table.{IsDecidedBy}
-use Rattle.check_table.specs.Messages.{Reading, ReadsAsRequest, IsCachedEntry, IsUnread, IsRefusedFor, IsRepeatOf, HoldsOf, AnswersOf, message_table, IsHandledBy}
-use Rattle.check_table.specs.declared.check.MessageCheck.{MessageCheck}
-use Rattle.check_table.specs.declared.check.MessageCheck.TheVariants.{Unread, OfCmts, Repeated, KeptFull, Faulty, Judged}
 use Rattle.check_table.proofs.ListLemmas.{first_one}
 use Rattle.check_table.proofs.OnceLemmas.{decided_once}
 

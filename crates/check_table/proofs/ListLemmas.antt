@@ -1,10 +1,6 @@
 -- Lists: what they contain, and the first that passes a test.
 use Rattle.std.proofs.Common.{◌≡◌, ℕ, zero, suc, ◌<◌, Bool, true, false, List, [], ◌∷◌, ◌++◌, length, ◌⊎◌, Option, Some, None, refl, sym, ap, ◌∙◌, subst, arith, inl, inr}
-use Rattle.std.specs.Prelude.{Contains, Any, find, MatchOption}
-use Rattle.std.specs.List.{AllByRecursion, list_all, slice_index_or}
-use Rattle.std.proofs.lemmas.Bool.{cond_both, and_parts, and_cases, true≢false}
-use Rattle.std.proofs.lemmas.List.Elements.{All-nil, All-cons, All-contains, All-from_recursion, recursion_from_All, Contains-append_right}
-use Rattle.lists.specs.First.{IsFirst}
+use Rattle.check_table.proofs.Common.{Contains, Any, find, MatchOption, AllByRecursion, list_all, slice_index_or, cond_both, and_parts, and_cases, true≢false, All-nil, All-cons, All-contains, All-from_recursion, recursion_from_All, Contains-append_right, IsFirst}
 
 module _ {X : Type 0} where
   -- ---- what is contained

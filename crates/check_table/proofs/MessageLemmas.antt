@@ -1,45 +1,17 @@
 -- A message is decided.
 use Rattle.std.proofs.Common.{◌≡◌, ◌≢◌, ℕ, ◌<◌, ◌⊎◌, ◌==◌, true, false, List, [], ◌∷◌, ◌++◌, length, nat_le, Option, Some, None, Result, Ok, Err, refl, sym, ap, ◌∙◌, subst, arith, inl, inr}
-use Rattle.std.specs.Prelude.{find, MatchOption}
-use Rattle.std.specs.List.{AllByRecursion}
-use Rattle.std.proofs.lemmas.Bool.{cond_both, and_parts, and_from, eqb-true, eq-eqb, leb-true, leb-false, true≢false, false≢true}
-use Rattle.std.proofs.lemmas.List.Elements.{All-from_recursion}
+use Rattle.check_table.proofs.Common.{find, MatchOption, AllByRecursion, cond_both, and_parts, and_from, eqb-true, eq-eqb, leb-true, leb-false, true≢false, false≢true, All-from_recursion, Modem, Kind, Dsa, Dsc, Dsd, Code, RejectOther, RejectUnrecognizedSetting, RejectInvalidForContext, FlowId, Detail, Nothing, Errored, Request, Message, MessageFault, message_of, KeptEntry, same_kind, is_of, Verdict, Refused, Operator, IsSound, verdict, encoding_refusal, StepResult, repeat_result, new_unless, transaction_result, carried_out, is_of_cmts, message_handled, handle, MessageCheck, Unread, OfCmts, Repeated, KeptFull, Faulty, Judged, IsFirst, said_by, IsNoAck, ReadsAsRequest, IsCachedEntry, IsUnread, IsRefusedFor, IsRepeatOf, HoldsOf, AnswersOf, message_table, IsHandledBy}
 use Rattle.tlv24.specs.Law.{AreBytes}
 use Rattle.tlv24.specs.Flow.{GoesWrong}
 use Rattle.tlv24.specs.declared.tlv.TlvFault.{TlvFault}
 use Rattle.tlv24.specs.declared.tlv.TlvFault.TheVariants as tlv_faults
-use Rattle.dsx_messages.specs.declared.modem.Modem.{Modem}
-use Rattle.dsx_messages.specs.declared.kind.Kind.{Kind}
-use Rattle.dsx_messages.specs.declared.kind.Kind.TheVariants.{Dsa, Dsc, Dsd}
-use Rattle.dsx_messages.specs.declared.code.Code.{Code}
-use Rattle.dsx_messages.specs.declared.code.Code.TheVariants.{RejectOther, RejectUnrecognizedSetting, RejectInvalidForContext}
-use Rattle.dsx_messages.specs.declared.reply.FlowId.{FlowId}
-use Rattle.dsx_messages.specs.declared.reply.Detail.{Detail}
-use Rattle.dsx_messages.specs.declared.reply.Detail.TheVariants.{Nothing, Errored}
-use Rattle.dsx_messages.specs.declared.message.Request.{Request}
 use Rattle.dsx_messages.specs.declared.message.Request.TheVariants as requests
-use Rattle.dsx_messages.specs.declared.message.Message.{Message}
 use Rattle.dsx_messages.specs.declared.message.Message.TheVariants as messages
-use Rattle.dsx_messages.specs.declared.fault.MessageFault.{MessageFault}
 use Rattle.dsx_messages.specs.declared.fault.MessageFault.TheVariants as faults
-use Rattle.dsx_messages.specs.Reading.{message_of}
 use Rattle.dsx_messages.specs.Message.{IsFirstMessageFault, IsCutList, IsFaultyFlow}
 use Rattle.dsx_messages.proofs.Grammar.{message_fault, message_memory}
-use Rattle.transactions.specs.declared.entry.KeptEntry.{KeptEntry}
-use Rattle.transactions.specs.Entry.{same_kind, is_of}
 use Rattle.operator_model.specs.declared.heard.Heard.TheVariants as heards
 use Rattle.operator_model.specs.declared.output.Cause.TheVariants as causes
-use Rattle.operator_model.specs.declared.verdict.Verdict.{Verdict}
-use Rattle.operator_model.specs.declared.verdict.Verdict.TheVariants.{Refused}
-use Rattle.operator_model.specs.State.{Operator}
-use Rattle.operator_model.specs.Sound.{IsSound}
-use Rattle.operator_model.specs.Verdict.{verdict, encoding_refusal}
-use Rattle.operator_model.specs.Handle.{StepResult, repeat_result, new_unless, transaction_result, carried_out, is_of_cmts, message_handled, handle}
-use Rattle.check_table.specs.declared.check.MessageCheck.{MessageCheck}
-use Rattle.check_table.specs.declared.check.MessageCheck.TheVariants.{Unread, OfCmts, Repeated, KeptFull, Faulty, Judged}
-use Rattle.lists.specs.First.{IsFirst}
-use Rattle.check_table.specs.Said.{said_by}
-use Rattle.check_table.specs.Messages.{IsNoAck, ReadsAsRequest, IsCachedEntry, IsUnread, IsRefusedFor, IsRepeatOf, HoldsOf, AnswersOf, message_table, IsHandledBy}
 use Rattle.check_table.proofs.ListLemmas.{find-first, first_none, all_more}
 use Rattle.check_table.proofs.FlowLemmas.{same_modems, modem_itself}
 use Rattle.check_table.proofs.RequestLemmas.{request-decided}

@@ -1,29 +1,7 @@
 -- Where a check decides there is one answer.
 use Rattle.std.proofs.Common.{◌≡◌, ◌≢◌, ℕ, ◌<◌, Bool, true, false, List, [], ◌∷◌, ◌++◌, length, map, Option, Some, None, option_map, refl, sym, ap, ◌∙◌, subst}
-use Rattle.std.specs.Prelude.{Contains}
-use Rattle.std.specs.List.{AllByRecursion}
-use Rattle.std.proofs.lemmas.Bool.{true≢false}
-use Rattle.std.proofs.lemmas.List.Elements.{recursion_from_All}
-use Rattle.tlv24.specs.declared.fields.FlowFields.{FlowFields}
-use Rattle.dsx_messages.specs.declared.modem.Modem.{Modem}
-use Rattle.dsx_messages.specs.declared.kind.Kind.{Kind}
-use Rattle.dsx_messages.specs.declared.kind.Kind.TheVariants.{Dsa, Dsc, Dsd}
+use Rattle.check_table.proofs.Common.{Contains, AllByRecursion, true≢false, recursion_from_All, FlowFields, Modem, Kind, Dsa, Dsc, Dsd, least_free_one, ParamFields, Flow, sids_of, flow_at, Verdict, Operator, is_same, stand_together, Ascends, IsFirst, Said, identifier, told_identifier, NamesFlow, IsOfFlow, EncodingIsRefused, Admits, Activates, IsSetWhere, CheckApplies, AreAdmittedAndActive, NamesUnknownClass, GivesNoSet, IsAdded, GetsSid, IsAnswerToChange, IsDeleted, IsAccepted, AnswersCheck, table, IsDecidedBy, Check, UnknownClass, NoEncoding, IdentifiersDiffer, NotTogether, NoIdentifier, UnknownFlow, NotOwner, FlowWaits, WrongSetType, NoParameterSet, ActiveNotWithin, AdmittedNotWithin, FlowsFull, NoSfidFree, NoSidFree, ElementsOver, MinislotsOver, Accepted}
 use Rattle.dsx_messages.specs.declared.reply.FlowId.TheVariants as ids
-use Rattle.admission.proofs.FreeLemmas.{least_free_one}
-use Rattle.param_sets.specs.declared.param_set.ParamFields.{ParamFields}
-use Rattle.flow_table.specs.declared.flow.Flow.{Flow}
-use Rattle.flow_table.specs.Table.{sids_of, flow_at}
-use Rattle.operator_model.specs.declared.verdict.Verdict.{Verdict}
-use Rattle.operator_model.specs.State.{Operator}
-use Rattle.operator_model.specs.Asked.{is_same, stand_together}
-use Rattle.operator_model.proofs.MapLemmas.{Ascends}
-use Rattle.lists.specs.First.{IsFirst}
-use Rattle.check_table.specs.Said.{Said, identifier, told_identifier, NamesFlow, IsOfFlow, EncodingIsRefused, Admits, Activates, IsSetWhere}
-use Rattle.check_table.specs.Holding.{CheckApplies, AreAdmittedAndActive, NamesUnknownClass, GivesNoSet}
-use Rattle.check_table.specs.Answering.{IsAdded, GetsSid, IsAnswerToChange, IsDeleted, IsAccepted, AnswersCheck}
-use Rattle.check_table.specs.Table.{table, IsDecidedBy}
-use Rattle.check_table.specs.declared.check.Check.{Check}
-use Rattle.check_table.specs.declared.check.Check.TheVariants.{UnknownClass, NoEncoding, IdentifiersDiffer, NotTogether, NoIdentifier, UnknownFlow, NotOwner, FlowWaits, WrongSetType, NoParameterSet, ActiveNotWithin, AdmittedNotWithin, FlowsFull, NoSfidFree, NoSidFree, ElementsOver, MinislotsOver, Accepted}
 use Rattle.check_table.proofs.ListLemmas.{contains-nothing, first_one}
 use Rattle.check_table.proofs.EntryLemmas.{contained_at}
 use Rattle.check_table.proofs.TableLemmas.{Fails}

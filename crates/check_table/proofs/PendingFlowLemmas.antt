@@ -1,25 +1,9 @@
 -- The flows: of which sets are pending, and who waits for them.
 use Rattle.std.proofs.Common.{◌≡◌, ◌≢◌, ◌==◌, ℕ, List, [], ◌∷◌, ◌⊎◌, inl, inr, Option, Some, None, IsSome, IfSome, is_some, refl, sym, ap, ◌∙◌, subst}
-use Rattle.std.specs.List.{AllByRecursion}
-use Rattle.std.proofs.lemmas.Bool.{cases_eq, cond_both, true≢false}
-use Rattle.std.proofs.lemmas.Option.{none-some, same_Some}
-use Rattle.dsx_messages.specs.declared.kind.Kind.{Kind}
-use Rattle.dsx_messages.specs.declared.kind.Kind.TheVariants.{Dsa, Dsc, Dsd}
-use Rattle.transactions.specs.declared.tick.GivenUp.{GivenUp}
-use Rattle.plant.specs.declared.operator_row.RowFields.{RowFields}
+use Rattle.check_table.proofs.Common.{AllByRecursion, cases_eq, cond_both, true≢false, none-some, same_Some, Kind, Dsa, Dsc, Dsd, GivenUp, RowFields, Flow, Pending, with_pending, flow_after_ack, without_pending, taken_back, flow_after_grant, flow_at, without_flow, undone, flows_acked, all_undone, all_granted, IsWaitingOf, Ascends, at-insert_same, at-remove_same, MayStep, undone-MayStep, at-change_other, at-undone_other, HaveFlows}
 use Rattle.param_sets.specs.Units.{UnitSizes}
-use Rattle.flow_table.specs.declared.flow.Flow.{Flow}
-use Rattle.flow_table.specs.declared.flow.Pending.{Pending}
-use Rattle.flow_table.specs.Flow.{with_pending, flow_after_ack, without_pending, taken_back, flow_after_grant}
-use Rattle.flow_table.specs.Table.{flow_at}
-use Rattle.operator_model.specs.Handle.{without_flow, undone, flows_acked}
 use Rattle.flow_table.specs.Moved.{change_if, change_at}
-use Rattle.operator_model.specs.Frame.{all_undone, all_granted}
-use Rattle.operator_model.specs.Sound.{IsWaitingOf}
-use Rattle.operator_model.proofs.MapLemmas.{Ascends, at-insert_same, at-remove_same}
 use Rattle.operator_model.proofs.FlowsLemmas.{AreFlows}
-use Rattle.operator_model.proofs.ChangeLemmas.{MayStep, undone-MayStep, at-change_other, at-undone_other}
-use Rattle.operator_model.proofs.KeptLemmas.{HaveFlows}
 
 -- the flow of the SFID has sets that are pending
 abbrev pub IsPending : List (ℕ × Flow) → ℕ → Type 0

@@ -1,11 +1,6 @@
 -- A request is decided.
-use Rattle.dsx_messages.specs.declared.modem.Modem.{Modem}
-use Rattle.dsx_messages.specs.declared.message.Request.{Request}
+use Rattle.check_table.proofs.Common.{Modem, Request, Operator, IsSound, verdict, said_by}
 use Rattle.dsx_messages.specs.declared.message.Request.TheVariants.{Dsa, Dsc, Dsd}
-use Rattle.operator_model.specs.State.{Operator}
-use Rattle.operator_model.specs.Sound.{IsSound}
-use Rattle.operator_model.specs.Verdict.{verdict}
-use Rattle.check_table.specs.Said.{said_by}
 use Rattle.check_table.proofs.TableLemmas.{IsDecided}
 use Rattle.check_table.proofs.AdditionLemmas.{addition-decided}
 use Rattle.check_table.proofs.ChangeLemmas.{change-decided}

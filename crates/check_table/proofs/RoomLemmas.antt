@@ -1,27 +1,7 @@
 -- The checks of the room: what is free, and what would be committed.
 use Rattle.std.proofs.Common.{◌≡◌, ◌≢◌, ℕ, ◌<◌, Bool, true, false, List, [], ◌∷◌, ◌++◌, ◌⊎◌, min, nat_lt, Option, Some, None, unwrap_or, option_map, refl, sym, ap, ◌∙◌, subst, arith, inl, inr}
-use Rattle.std.specs.List.{AllByRecursion}
-use Rattle.std.proofs.lemmas.Bool.{cond_both, ltb-true, ltb-false}
-use Rattle.dsx_messages.specs.declared.modem.Modem.{Modem}
-use Rattle.dsx_messages.specs.declared.kind.Kind.TheVariants.{Dsd}
-use Rattle.admission.specs.Free.{Numbers, IsFree, IsLeastFree, least_free_of}
-use Rattle.admission.proofs.FreeLemmas.{least_free_cases, least_free_iff}
-use Rattle.param_sets.specs.declared.param_set.ParamFields.{ParamFields}
-use Rattle.flow_table.specs.declared.flow.Flow.{Flow}
-use Rattle.flow_table.specs.Flow.{committed_of}
-use Rattle.flow_table.specs.Table.{flow_at, with_flow, committed_minislots, committed_elements}
+use Rattle.check_table.proofs.Common.{AllByRecursion, cond_both, ltb-true, ltb-false, Modem, Dsd, Numbers, IsFree, IsLeastFree, least_free_of, least_free_cases, least_free_iff, ParamFields, Flow, committed_of, flow_at, with_flow, committed_minislots, committed_elements, Change, Addition, Verdict, Operator, limit_of, minislots_allowed, within_limit, new_flow, changed_flow, Ascends, sum-insert, sum-remove, Said, IsAbout, IsToBeAdmitted, IsUsedUp, would_commit, IsOverBudget, Check, FlowsFull, NoSfidFree, NoSidFree, ElementsOver, MinislotsOver, Accepted}
 use Rattle.operator_model.specs.declared.share.NextShare.{NextShare}
-use Rattle.operator_model.specs.declared.verdict.Change.{Change}
-use Rattle.operator_model.specs.declared.verdict.Addition.{Addition}
-use Rattle.operator_model.specs.declared.verdict.Verdict.{Verdict}
-use Rattle.operator_model.specs.State.{Operator}
-use Rattle.operator_model.specs.Verdict.{limit_of, minislots_allowed, within_limit, new_flow, changed_flow}
-use Rattle.operator_model.proofs.MapLemmas.{Ascends}
-use Rattle.operator_model.proofs.EntryLemmas.{sum-insert, sum-remove}
-use Rattle.check_table.specs.Said.{Said, IsAbout, IsToBeAdmitted}
-use Rattle.check_table.specs.Holding.{IsUsedUp, would_commit, IsOverBudget}
-use Rattle.check_table.specs.declared.check.Check.{Check}
-use Rattle.check_table.specs.declared.check.Check.TheVariants.{FlowsFull, NoSfidFree, NoSidFree, ElementsOver, MinislotsOver, Accepted}
 use Rattle.check_table.proofs.ListLemmas.{all_more}
 use Rattle.check_table.proofs.TableLemmas.{up_to_sets, up_to_room, Fails, IsDecided, decided}
 

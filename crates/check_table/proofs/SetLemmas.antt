@@ -1,37 +1,10 @@
 -- The checks of the sets that an addition or a change asks for.
 use Rattle.std.proofs.Common.{◌≡◌, ◌≢◌, ℕ, ◌==◌, true, List, [], ◌∷◌, ◌++◌, ◌⊎◌, Option, Some, None, IfSome, Result, Ok, Err, is_none, option_map, find, refl, sym, ap, ◌∙◌, subst, inl, inr}
-use Rattle.std.specs.Prelude.{Contains, MatchResult}
-use Rattle.std.specs.List.{AllByRecursion}
-use Rattle.std.proofs.lemmas.Bool.{cond_both, cond-true, cond-false, eqb-true, true≢false, false≢true}
-use Rattle.std.proofs.lemmas.List.Elements.{All-from_recursion, All-contains}
+use Rattle.check_table.proofs.Common.{Contains, MatchResult, AllByRecursion, cond_both, cond-true, cond-false, eqb-true, true≢false, false≢true, All-from_recursion, All-contains, set_type_subtype, set_type_number, known_set_types, set_type_of, FlowFields, Null, Provisioned, Admitted, ProvisionedAndAdmitted, Active, AdmittedAndActive, AllSets, Modem, Kind, Dsa, Dsc, Dsd, Code, RejectRequiredParameterNotPresent, RejectInvalidForContext, RejectAuthorizationFailure, ReplyFields, ParamFields, SetsFields, Refusal, is_within, nothing_fails, asked_of, Flow, AskedSets, Refused, Operator, IsAbout, EncodingAsksFor, EncodingIsRefused, Admits, Activates, IsSetWhere, IsSetType, NamesUnknownClass, AcceptsSetType, GivesNoSet, set_type_code, Check, WrongSetType, NoParameterSet, ActiveNotWithin, AdmittedNotWithin, FlowsFull, NoSfidFree, NoSidFree, ElementsOver, MinislotsOver, Accepted}
 use Rattle.lists.specs.Results.{◌>>=◌}
-use Rattle.tlv24.specs.Subtype.{set_type_subtype}
-use Rattle.tlv24.specs.SetType.{set_type_number, known_set_types, set_type_of}
-use Rattle.tlv24.specs.declared.fields.FlowFields.{FlowFields}
 use Rattle.tlv24.specs.declared.set_type.SetType.{SetType}
-use Rattle.tlv24.specs.declared.set_type.SetType.TheVariants.{Null, Provisioned, Admitted, ProvisionedAndAdmitted, Active, AdmittedAndActive, AllSets}
-use Rattle.dsx_messages.specs.declared.modem.Modem.{Modem}
-use Rattle.dsx_messages.specs.declared.kind.Kind.{Kind}
-use Rattle.dsx_messages.specs.declared.kind.Kind.TheVariants.{Dsa, Dsc, Dsd}
-use Rattle.dsx_messages.specs.declared.code.Code.{Code}
-use Rattle.dsx_messages.specs.declared.code.Code.TheVariants.{RejectRequiredParameterNotPresent, RejectInvalidForContext, RejectAuthorizationFailure}
-use Rattle.dsx_messages.specs.declared.reply.ReplyFields.{ReplyFields}
 use Rattle.param_sets.specs.Reading.{parameter_set_of}
-use Rattle.param_sets.specs.declared.param_set.ParamFields.{ParamFields}
-use Rattle.param_sets.specs.declared.sets.SetsFields.{SetsFields}
-use Rattle.param_sets.specs.declared.refusal.Refusal.{Refusal}
-use Rattle.param_sets.proofs.WithinLemmas.{is_within, nothing_fails}
-use Rattle.plant.specs.Classes.{asked_of}
-use Rattle.flow_table.specs.declared.flow.Flow.{Flow}
-use Rattle.operator_model.specs.declared.verdict.AskedSets.{AskedSets}
-use Rattle.operator_model.specs.declared.verdict.Verdict.TheVariants.{Refused}
-use Rattle.operator_model.specs.State.{Operator}
 use Rattle.operator_model.specs.Asked.{refusal_naming, is_same, has_set_type, set_or_refusal, set_over_class, set_of, is_change, asked_by_type, asked_by_one, asked_in_order, asked_by_two, asked_sets, failing_active, failing_admitted, nested_unless, nested_sets}
-use Rattle.check_table.specs.Said.{IsAbout, EncodingAsksFor, EncodingIsRefused, Admits, Activates, IsSetWhere, IsSetType}
-use Rattle.check_table.specs.Holding.{NamesUnknownClass, AcceptsSetType, GivesNoSet}
-use Rattle.check_table.specs.Answering.{set_type_code}
-use Rattle.check_table.specs.declared.check.Check.{Check}
-use Rattle.check_table.specs.declared.check.Check.TheVariants.{WrongSetType, NoParameterSet, ActiveNotWithin, AdmittedNotWithin, FlowsFull, NoSfidFree, NoSidFree, ElementsOver, MinislotsOver, Accepted}
 use Rattle.check_table.proofs.ListLemmas.{contains-here, contains-later, contains_cases, contains-nothing, any_from, none_any, all_more, first-here, first-later}
 use Rattle.check_table.proofs.TableLemmas.{up_to_flow, up_to_sets, Fails, IsDecided, decided}
 use Rattle.check_table.proofs.EncodingLemmas.{is_same_from, unclassed, IsShape, said_of, trans, named_refusal, IsReady}

@@ -1,57 +1,26 @@
 -- Each action that is not refused leaves who waits.
 use Rattle.std.proofs.Common.{◌≡◌, ◌≢◌, ◌==◌, ◌&&◌, ◌≤◌, not, nat_le, ℕ, Bool, true, false, cond, List, [], ◌∷◌, ◌++◌, length, ◌⊎◌, inl, inr, Option, Some, None, Result, Ok, Err, IfSome, is_some, option_map, AllPairs, find, map, refl, sym, ap, ◌∙◌, subst, arith}
-use Rattle.std.specs.Ordering.{nat_cmp}
+use Rattle.check_table.proofs.Common.{nat_cmp, remove_entry, cases_eq, cond_both, and_parts, false≢true, none-some, same_Some, Modem, Kind, Dsa, Dsc, Dsd, Message, MessageFault, message_of, KeptEntry, is_waiting, is_of, same_kind, waits_for, begun_entry, given_up_in, RowFields, same_modem, IsRowOf, Flow, asks_for_grants, flow_after_ack, flow_after_request, flow_at, flow_with, with_flow, is_sid, flowing_in, Verdict, Refused, Put, Deleted, OperatorState, Operator, operator, opened_flow, opened_state, refusal, verdict, encoding_refusal, StepResult, reply_of, sfid_of, does_wait, flows_acked, carried_out, is_of_cmts, new_unless, transaction_result, acked_if, ack_result, kind_of, tid_of, message_handled, asked_of_flow, handle, at_frame, flows_left, tick_result, IsWaitingOf, HasItsFlow, IsSound, at-insert_same, at-insert_other, at-remove_same, at-remove_other, at-find, at-change_other, at-undone_other, All-find, passes-find, given_up-HaveFlows, AreOfTwo, AreAwaited}
 use Rattle.std.specs.BTreeMap.{is_at}
-use Rattle.std.specs.Map.{remove_entry}
-use Rattle.std.proofs.lemmas.Bool.{cases_eq, cond_both, and_parts, false≢true}
-use Rattle.std.proofs.lemmas.Option.{none-some, same_Some}
-use Rattle.dsx_messages.specs.declared.modem.Modem.{Modem}
-use Rattle.dsx_messages.specs.declared.kind.Kind.{Kind}
-use Rattle.dsx_messages.specs.declared.kind.Kind.TheVariants.{Dsa, Dsc, Dsd}
 use Rattle.dsx_messages.specs.declared.code.Code.TheVariants as codes
-use Rattle.dsx_messages.specs.declared.message.Message.{Message}
 use Rattle.dsx_messages.specs.declared.message.Message.TheVariants as messages
-use Rattle.dsx_messages.specs.declared.fault.MessageFault.{MessageFault}
 use Rattle.dsx_messages.specs.declared.fault.MessageFault.TheVariants as faults
-use Rattle.dsx_messages.specs.Reading.{message_of}
 use Rattle.dsx_messages.specs.Spelling.{spell_reply}
-use Rattle.transactions.specs.declared.entry.KeptEntry.{KeptEntry}
-use Rattle.transactions.specs.Entry.{is_waiting, is_of, same_kind, waits_for}
-use Rattle.transactions.specs.Keeping.{begun_entry}
 use Rattle.transactions.specs.Keeping as keeping
-use Rattle.transactions.specs.Timers.{given_up_in}
 use Rattle.slice_scheduler.specs.Schedule.{granted_of}
 use Rattle.plant.specs.declared.consts.ConstsFields.{ConstsFields}
-use Rattle.plant.specs.declared.operator_row.RowFields.{RowFields}
 use Rattle.plant.specs.Provisioned.{OpenedFlow, opened_flows}
-use Rattle.plant.specs.Row.{same_modem, IsRowOf}
-use Rattle.flow_table.specs.declared.flow.Flow.{Flow}
-use Rattle.flow_table.specs.Flow.{asks_for_grants, flow_after_ack, flow_after_request}
-use Rattle.flow_table.specs.Table.{flow_at, flow_with, with_flow, is_sid, flowing_in}
 use Rattle.operator_model.specs.declared.action.Action.{Action}
 use Rattle.operator_model.specs.declared.action.Action.TheVariants.{Arrive, Work, Tick, Reslice}
 use Rattle.operator_model.specs.declared.action.Entry.{Entry}
 use Rattle.operator_model.specs.declared.heard.Heard.{Heard}
 use Rattle.operator_model.specs.declared.heard.Heard.TheVariants as heards
 use Rattle.operator_model.specs.declared.heard.Arrival.{Arrival}
-use Rattle.operator_model.specs.declared.verdict.Verdict.{Verdict}
-use Rattle.operator_model.specs.declared.verdict.Verdict.TheVariants.{Refused, Put, Deleted}
-use Rattle.operator_model.specs.State.{OperatorState, Operator, operator, opened_flow, opened_state}
-use Rattle.operator_model.specs.Asked.{refusal}
-use Rattle.operator_model.specs.Verdict.{verdict, encoding_refusal}
-use Rattle.operator_model.specs.Handle.{StepResult, reply_of, sfid_of, does_wait, flows_acked, carried_out, is_of_cmts, new_unless, transaction_result, acked_if, ack_result, kind_of, tid_of, message_handled, asked_of_flow, handle}
-use Rattle.operator_model.specs.Frame.{at_frame, flows_left, tick_result}
 use Rattle.operator_model.specs.Machine.{work_result, own_step, own_run, IsAllowed}
 use Rattle.operator_model.specs.Replay.{actions_of, AreTold, IsReplay}
-use Rattle.operator_model.specs.Sound.{IsWaitingOf, HasItsFlow, IsSound}
-use Rattle.operator_model.proofs.MapLemmas.{at-insert_same, at-insert_other, at-remove_same, at-remove_other}
-use Rattle.operator_model.proofs.EntryLemmas.{at-find}
-use Rattle.operator_model.proofs.ChangeLemmas.{at-change_other, at-undone_other}
-use Rattle.operator_model.proofs.KeptLemmas.{All-find, passes-find, given_up-HaveFlows}
 use Rattle.operator_model.proofs.SoundLemmas.{sound-AreFlows}
 use Rattle.operator_model.proofs.OpenedLemmas.{opened_sound}
 use Rattle.operator_model.proofs.StepLemmas.{step_sound}
-use Rattle.check_table.specs.Awaited.{AreOfTwo, AreAwaited}
 use Rattle.check_table.proofs.WaitLemmas.{Awaits, awaits-any, any-awaits, awaits-push, awaits-last, awaits-acked, own-acked, awaits-ticked, own-ticked, own-push}
 use Rattle.check_table.proofs.PendingFlowLemmas.{IsPending, acked_none, still_pending, all_granted_pending}
 

@@ -1,16 +1,6 @@
 -- The table, check by check.
 use Rattle.std.proofs.Common.{◌≡◌, List, [], ◌∷◌, ◌++◌}
-use Rattle.std.specs.List.{AllByRecursion}
-use Rattle.std.proofs.lemmas.List.Elements.{All-from_recursion}
-use Rattle.dsx_messages.specs.declared.modem.Modem.{Modem}
-use Rattle.operator_model.specs.declared.verdict.Verdict.{Verdict}
-use Rattle.operator_model.specs.State.{Operator}
-use Rattle.check_table.specs.Said.{Said}
-use Rattle.check_table.specs.Holding.{CheckApplies}
-use Rattle.check_table.specs.Answering.{AnswersCheck}
-use Rattle.check_table.specs.Table.{table, IsDecidedBy}
-use Rattle.check_table.specs.declared.check.Check.{Check}
-use Rattle.check_table.specs.declared.check.Check.TheVariants.{UnknownClass, NoEncoding, IdentifiersDiffer, NotTogether, NoIdentifier, UnknownFlow, NotOwner, FlowWaits, WrongSetType, NoParameterSet, ActiveNotWithin, AdmittedNotWithin, FlowsFull, NoSfidFree, NoSidFree, ElementsOver, MinislotsOver}
+use Rattle.check_table.proofs.Common.{AllByRecursion, All-from_recursion, Modem, Verdict, Operator, Said, CheckApplies, AnswersCheck, table, IsDecidedBy, Check, UnknownClass, NoEncoding, IdentifiersDiffer, NotTogether, NoIdentifier, UnknownFlow, NotOwner, FlowWaits, WrongSetType, NoParameterSet, ActiveNotWithin, AdmittedNotWithin, FlowsFull, NoSfidFree, NoSidFree, ElementsOver, MinislotsOver}
 
 -- the checks of which encodings stand together, with that of the identifier, and up to those of the flow
 abbrev pub of_shape : List Check

@@ -1,24 +1,11 @@
 -- The kept responses: who waits for a flow, and whose they are.
 use Rattle.std.proofs.Common.{◌≡◌, ◌≢◌, ◌==◌, ◌&&◌, ◌||◌, ◌-◌, not, ℕ, zero, suc, ◌<◌, Bool, true, false, cond, List, [], ◌∷◌, ◌++◌, length, get_or, ◌⊎◌, inl, inr, Some, None, All, AllPairs, find, map, filter, refl, sym, ap, ◌∙◌, subst, arith}
 use Rattle.std.specs.Str.{bytes_eq}
-use Rattle.std.specs.List.{AllByRecursion, slice_index_or}
-use Rattle.std.proofs.lemmas.Bool.{cond_both, and_parts, eqb-true, true≢false}
-use Rattle.std.proofs.lemmas.List.Elements.{All-head, All-tail, All-cons}
+use Rattle.check_table.proofs.Common.{AllByRecursion, slice_index_or, cond_both, and_parts, eqb-true, true≢false, All-head, All-tail, All-cons, none-some, same_Some, bytes_eq-Decides, Modem, Kind, KeptEntry, GivenUp, is_waiting, is_of, same_kind, waits_for, held_entry, entry_after_ack, is_response_due, is_resent, is_given_up, is_forgotten, given_up_of, given_up_in, kept_after, pairs-head, pairs-tail, pairs-map, IsAwaited, AreOfTwo}
 use Rattle.std.proofs.lemmas.List.Kept.{AllPairs-filter}
 use Rattle.std.proofs.lemmas.List.Quantifiers.{all_pairs_push}
-use Rattle.std.proofs.lemmas.Option.{none-some, same_Some}
-use Rattle.std.proofs.lemmas.Slice.Eq.{bytes_eq-Decides}
-use Rattle.dsx_messages.specs.declared.modem.Modem.{Modem}
-use Rattle.dsx_messages.specs.declared.kind.Kind.{Kind}
-use Rattle.transactions.specs.declared.entry.KeptEntry.{KeptEntry}
-use Rattle.transactions.specs.declared.tick.GivenUp.{GivenUp}
 use Rattle.transactions.specs.Waits.{Waits}
-use Rattle.transactions.specs.Entry.{is_waiting, is_of, same_kind, waits_for}
-use Rattle.transactions.specs.Keeping.{held_entry, entry_after_ack}
-use Rattle.transactions.specs.Timers.{is_response_due, is_resent, is_given_up, is_forgotten, given_up_of, given_up_in, kept_after}
 use Rattle.transactions.specs.Timers as timers
-use Rattle.operator_model.proofs.KeptLemmas.{pairs-head, pairs-tail, pairs-map}
-use Rattle.check_table.specs.Awaited.{IsAwaited, AreOfTwo}
 
 -- ---- who waits
 

@@ -1,13 +1,9 @@
 -- What clap makes of a flag, or of a word that is none, at each place of the command line.
 use Rattle.std.proofs.Common.{◌≡◌, ℕ, true, false, ◌==◌, List, [], ◌∷◌, Some, None, Option, refl, codes}
-use Rattle.std.specs.Prelude.{slice_get}
-use Rattle.std.specs.Str.{bytes_eq, chars}
-use Rattle.clap.specs.Lexer.{long_of, short_of}
-use Rattle.clap.specs.Walk.{Text}
+use Rattle.command_line.proofs.Common.{slice_get, bytes_eq, chars, long_of, short_of, Text, hyphens}
 use Rattle.clap.specs.declared.error.kind.ErrorKind.TheVariants as kind
 use Rattle.clap.proofs.OnLiterals.{clap_on_literals}
 use Rattle.command_line.specs.ClapLine.{faults}
-use Rattle.command_line.specs.CommandLine.{hyphens}
 use Rattle.command_line.proofs.WalkSteps.{plain_shape, history_shape, sub_fault}
 
 -- ---- behind `one`, `check`, `run`, `threads`, `capture`, `serve` or `trace`

@@ -1,13 +1,7 @@
 -- What every list of words comes to: an order as it is spelled, clap's word `help`, help alone, or another fault.
 use Rattle.std.proofs.Common.{◌≡◌, ◌⊎◌, ◌∙◌, inl, inr, Bool, true, false, List, [], ◌∷◌, refl, sym, ap, subst, codes}
-use Rattle.std.specs.Str.{bytes_eq}
-use Rattle.std.proofs.lemmas.Slice.Eq.{bytes_eq-Decides}
-use Rattle.clap.specs.Kinds.{IsAmong, Kinds}
-use Rattle.clap.specs.Walk.{Text}
+use Rattle.command_line.proofs.Common.{bytes_eq, bytes_eq-Decides, IsAmong, Kinds, Text, Order, one, check, run, threads, capture, serve, trace, history, faults, AsksHelp, IsHelpFlag, IsHelpWord, IsOperand, MayLead, NamesOrder, StandsAlone, hyphens}
 use Rattle.clap.specs.declared.error.kind.ErrorKind.TheVariants as kind
-use Rattle.command_line.specs.Order.{Order, one, check, run, threads, capture, serve, trace, history}
-use Rattle.command_line.specs.ClapLine.{faults}
-use Rattle.command_line.specs.CommandLine.{AsksHelp, IsHelpFlag, IsHelpWord, IsOperand, MayLead, NamesOrder, StandsAlone, hyphens}
 use Rattle.command_line.proofs.FlagSteps as step
 use Rattle.command_line.proofs.FlagSteps.{IsNoName}
 use Rattle.command_line.proofs.WalkSteps.{plain_shape, history_shape, sub_fault, one_below, check_below, run_below, threads_below, capture_below, serve_below, trace_below, history_below}

@@ -1,17 +1,10 @@
 -- From what clap says of the words to what they come to.
 use Rattle.std.proofs.Common.{◌≡◌, ◌≢◌, ◌⊎◌, ◌∙◌, inl, inr, ℕ, Bool, true, false, List, [], ◌∷◌, ◌++◌, Some, None, Option, Result, Ok, Err, IfOk, IfErr, refl, sym, ap, subst, codes, slice_index, ◌+◌, arith}
-use Rattle.std.specs.Prelude.{IfSome, IfNone, IsSomeAnd, ⊤}
+use Rattle.command_line.proofs.Common.{IfSome, IfNone, IsSomeAnd, ⊤, bytes_eq, bytes_eq-Decides, IsAmong, Kinds, Row, Text, ErrorKind, Allows, AreWrong, AsksHelp, GivesHelp, GivesOrder, GivesWrong, IsHelpFlag, IsHelpWord, MayLead, NamesOrder, first_flag, hyphens, Order, one, check, run, threads, capture, serve, trace, history, order_of}
 use Rattle.std.specs.Option.{ok_or}
-use Rattle.std.specs.Str.{bytes_eq}
-use Rattle.std.proofs.lemmas.Slice.Eq.{bytes_eq-Decides}
-use Rattle.clap.specs.Kinds.{IsAmong, Kinds}
-use Rattle.clap.specs.Walk.{Row, Text}
-use Rattle.clap.specs.declared.error.kind.ErrorKind.{ErrorKind}
 use Rattle.clap.specs.declared.error.kind.ErrorKind.TheVariants as kind
 use Rattle.clap.proofs.OnLiterals.{clap_on_literals}
 use Rattle.command_line.specs.ClapLine.{IsWordsFault, StandsFor, entered_subcommand, faults}
-use Rattle.command_line.specs.CommandLine.{Allows, AreWrong, AsksHelp, GivesHelp, GivesOrder, GivesWrong, IsHelpFlag, IsHelpWord, MayLead, NamesOrder, first_flag, hyphens}
-use Rattle.command_line.specs.Order.{Order, one, check, run, threads, capture, serve, trace, history, order_of}
 use Rattle.command_line.specs.declared.asked.Word.{Word}
 use Rattle.command_line.specs.declared.asked.WordsFault.{WordsFault}
 use Rattle.command_line.specs.declared.asked.WordsFault.TheVariants as fault

@@ -1,15 +1,7 @@
 -- The shapes of a word: what clap reads of its hyphens.
 use Rattle.std.proofs.Common.{◌≡◌, ◌≢◌, ◌⊎◌, ◌∙◌, inl, inr, ℕ, Bool, true, false, ◌==◌, ◌&&◌, [], ◌∷◌, Some, None, Option, refl, sym, ap, subst, codes, eqb-true, suc, ◌+◌, not, arith}
-use Rattle.std.specs.List.{after_first, before_first, list_any, prefix_len}
-use Rattle.std.proofs.lemmas.Slice.Eq.{bytes_eq-Decides}
-use Rattle.std.specs.Prelude.{slice_get}
-use Rattle.std.specs.Str.{bytes_eq, chars}
-use Rattle.clap.specs.Lexer.{long_of, short_of, name_and_value}
-use Rattle.clap.specs.Kinds.{IsAmong, Kinds}
-use Rattle.clap.specs.Walk.{Text}
-use Rattle.clap.specs.declared.error.kind.ErrorKind.{ErrorKind}
+use Rattle.command_line.proofs.Common.{after_first, before_first, list_any, prefix_len, bytes_eq-Decides, slice_get, bytes_eq, chars, long_of, short_of, name_and_value, IsAmong, Kinds, Text, ErrorKind, IsHelpFlag, IsOperand, first_flag, hyphens}
 use Rattle.clap.specs.declared.error.kind.ErrorKind.TheVariants as kind
-use Rattle.command_line.specs.CommandLine.{IsHelpFlag, IsOperand, first_flag, hyphens}
 
 pub data WordShape (w : Text) : Type 0 where
   two_hyphens : w ≡ hyphens → WordShape w

@@ -1,10 +1,8 @@
 -- What clap makes of words whose number and letters are not known.
 use Rattle.std.proofs.Common.{◌≡◌, ◌∙◌, false, ◌++◌, List, [], ◌∷◌, Some, refl, sym, ap, codes, append-nil, append_assoc}
-use Rattle.std.specs.List.{fold}
+use Rattle.command_line.proofs.Common.{fold, Kinds, or_else, Shape, built, built_leaf, inherited, marked_built, names_of, new_shape, on_top, with_leaf_noted}
 use Rattle.clap.specs.Walk.{Names, Rule, Text, Walk, idle, nothing_held, walked}
 use Rattle.clap.specs.Faults.{level_fault, walk_fault}
-use Rattle.clap.specs.Kinds.{Kinds, or_else}
-use Rattle.clap.specs.Simple.{Shape, built, built_leaf, inherited, marked_built, names_of, new_shape, on_top, with_leaf_noted}
 use Rattle.clap.proofs.OnLiterals.{clap_on_literals}
 use Rattle.command_line.specs.ClapLine.{faults, history_app, program}
 

@@ -1,11 +1,8 @@
 -- What words come to that are written out, and which words come to what.
 use Rattle.std.proofs.Common.{◌≡◌, ◌≢◌, ◌⊎◌, ◌∙◌, inl, inr, ℕ, false, ◌==◌, List, [], ◌∷◌, None, refl, sym, ap, ne_eqb, codes, slice_index, arith}
-use Rattle.clap.specs.Lexer.{short_of}
-use Rattle.clap.specs.Walk.{Text}
+use Rattle.command_line.proofs.Common.{short_of, Text, Order, history, AreWrong, AsksHelp, IsHelpFlag, IsHelpWord, IsOperand, NamesOrder}
 use Rattle.clap.proofs.OnLiterals.{clap_on_literals}
 use Rattle.command_line.specs.ClapLine.{entered_subcommand, faults}
-use Rattle.command_line.specs.Order.{Order, history}
-use Rattle.command_line.specs.CommandLine.{AreWrong, AsksHelp, IsHelpFlag, IsHelpWord, IsOperand, NamesOrder}
 use Rattle.command_line.proofs.Outcomes.{named, helped, failing, outcome}
 use Rattle.command_line.proofs.ReadLemmas.{help_faults, help_word_faults, names_taken, refused_wrong, stands_once}
 

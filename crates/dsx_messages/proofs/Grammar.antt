@@ -1,29 +1,17 @@
 -- What reading answers is what the grammar says.
 use Rattle.std.proofs.Common.{◌≡◌, ◌≢◌, ℕ, zero, suc, ◌+◌, ◌-◌, ◌<◌, inl, inr, Bool, true, false, cond, eqb, List, [], ◌∷◌, ◌++◌, length, take, drop, Option, Some, None, Result, Ok, Err, refl, sym, ap, subst, ◌∙◌, append-nil, append_assoc, length-append, arith}
-use Rattle.std.specs.Prelude.{IfOk, IfErr}
+use Rattle.dsx_messages.proofs.Common.{IfOk, IfErr, take_at, drop_at, ◌>>=◌, Gives, Tlv, FlowFields, spelled_one, spelled, IsTlvList, NoTlvBegins, Front, front_of, word, long, values_of, flow_of, IsFlowEncoding, IsFront-end, IsFront-stuck, Kind, Dsa, Dsc, Dsd, Message, MessageFault, upstream_service_flow}
 use Rattle.std.specs.Option.{option_map}
 use Rattle.std.specs.List.{find, AllByRecursion}
-use Rattle.std.proofs.lemmas.List.{take_at, drop_at}
 use Rattle.std.proofs.lemmas.Bool.{eqb-true, eqb-false}
-use Rattle.lists.specs.Results.{◌>>=◌, Gives}
-use Rattle.tlv24.specs.declared.tlv.Tlv.{Tlv}
 use Rattle.tlv24.specs.declared.tlv.TlvFault.TheVariants.{Cut}
-use Rattle.tlv24.specs.declared.fields.FlowFields.{FlowFields}
 use Rattle.tlv24.specs.declared.fault.FlowFault.{FlowFault}
-use Rattle.tlv24.specs.Tlv.{spelled_one, spelled, IsTlvList, NoTlvBegins, Front, front_of}
-use Rattle.tlv24.specs.Flow.{word, long, values_of, flow_of, IsFlowEncoding}
 use Rattle.tlv24.specs.Law.{AreBytes}
-use Rattle.tlv24.proofs.Lists.{IsFront-end, IsFront-stuck}
 use Rattle.tlv24.proofs.Law.{IsWholeFront, whole_front, answers_flow, answers_fault, flow_answered}
-use Rattle.dsx_messages.specs.declared.kind.Kind.{Kind}
-use Rattle.dsx_messages.specs.declared.kind.Kind.TheVariants.{Dsa, Dsc, Dsd}
 use Rattle.dsx_messages.specs.declared.message.Request.TheVariants as requests
-use Rattle.dsx_messages.specs.declared.message.Message.{Message}
 use Rattle.dsx_messages.specs.declared.message.Message.TheVariants as messages
-use Rattle.dsx_messages.specs.declared.fault.MessageFault.{MessageFault}
 use Rattle.dsx_messages.specs.declared.fault.MessageFault.TheVariants as faults
 use Rattle.dsx_messages.specs.MessageType.{dsa_req, dsa_ack, dsc_req, dsc_ack, dsd_req}
-use Rattle.dsx_messages.specs.TlvType.{upstream_service_flow}
 use Rattle.dsx_messages.specs.Reading.{message_cause, is_left_out, left_out_in, flow_told, flow_in, flows_read_after, flows_unless, flows_in_front, flows_in, request_with_flows, flows_request_of, deletion_of, ack_of, message_of}
 use Rattle.dsx_messages.specs.Message.{IsHeaded, AreSaid, SaysFlows, SaysSfid, Says, HasType, IsShortBody, IsForeign, IsRequest, IsFirstMessageFault}
 use Rattle.dsx_messages.proofs.Passes.{values-flow, values-other}

@@ -1,3 +1,4 @@
+mod Common
 pub mod Passes
 pub mod Grammar
 pub mod Replies

@@ -1,16 +1,7 @@
 -- The two passes over the TLVs of a request.
 use Rattle.std.proofs.Common.{◌≡◌, ◌≢◌, ℕ, ◌+◌, ◌-◌, ◌<◌, ◌≤◌, Bool, true, false, cond, eqb, List, [], ◌∷◌, ◌++◌, length, Option, Some, None, Result, Ok, Err, refl, sym, ap, ◌∙◌, arith}
-use Rattle.lists.specs.Results.{◌>>=◌, Fails}
-use Rattle.tlv24.specs.declared.tlv.Tlv.{Tlv}
-use Rattle.tlv24.specs.declared.fields.FlowFields.{FlowFields}
-use Rattle.tlv24.specs.Tlv.{tlv, Front, first_tlv, front_of}
-use Rattle.tlv24.specs.Flow.{values_of}
-use Rattle.tlv24.proofs.Lists.{front_of-some, front_of-none, shrinks}
-use Rattle.dsx_messages.specs.TlvType.{upstream_service_flow}
-use Rattle.dsx_messages.specs.declared.kind.Kind.{Kind}
-use Rattle.dsx_messages.specs.declared.fault.MessageFault.{MessageFault}
+use Rattle.dsx_messages.proofs.Common.{◌>>=◌, Fails, Tlv, FlowFields, tlv, Front, first_tlv, front_of, values_of, front_of-some, front_of-none, shrinks, upstream_service_flow, Kind, MessageFault, message_cause, is_left_out, left_out_in, flow_in, flows_read_after}
 use Rattle.dsx_messages.specs.declared.fault.MessageFault.TheVariants as faults
-use Rattle.dsx_messages.specs.Reading.{message_cause, is_left_out, left_out_in, flow_in, flows_read_after}
 use Rattle.dsx_messages.specs.Survey.{first_some, left_out_kind, flow_count, IsSurveyed, IsCutSurvey, IsSurveyedUpTo}
 
 -- ---- values of flow encodings

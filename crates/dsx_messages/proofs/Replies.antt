@@ -1,14 +1,12 @@
 -- Every detail that goes with a kind and a code is read.
 use Rattle.std.proofs.Common.{◌≡◌, ◌≢◌, ℕ, ◌<◌, ◌^◌, List, Option, Some, None, refl, subst}
-use Rattle.dsx_messages.specs.declared.kind.Kind.{Kind}
-use Rattle.dsx_messages.specs.declared.kind.Kind.TheVariants.{Dsa, Dsc}
+use Rattle.dsx_messages.proofs.Common.{Kind, Dsa, Dsc, IsDetailSpelling}
 use Rattle.dsx_messages.specs.declared.code.Code.{Code}
 use Rattle.dsx_messages.specs.declared.code.Code.TheVariants.{Okay}
 use Rattle.dsx_messages.specs.declared.reply.FlowId.TheVariants.{Reference, Sfid}
 use Rattle.dsx_messages.specs.declared.reply.Detail.{Detail}
 use Rattle.dsx_messages.specs.declared.reply.Detail.TheVariants.{Nothing, Given, Errored}
 use Rattle.dsx_messages.specs.Spelling.{tail_of}
-use Rattle.dsx_messages.specs.Told.{IsDetailSpelling}
 use Rattle.dsx_messages.specs.Widths.{FitsDetail}
 
 module _ (tail : List ℕ) (result : Option Detail) where

@@ -1,11 +1,7 @@
 -- What a message says by its type byte.
 use Rattle.std.proofs.Common.{◌≡◌, ℕ, ◌-◌, ◌≤◌, List, [], ◌∷◌, length, get_or, take, drop, Result, Ok, Err, ◌∙◌, ap, sym, subst, arith}
-use Rattle.std.proofs.lemmas.List.{take_all}
-use Rattle.dsx_messages.specs.declared.message.Message.{Message}
-use Rattle.dsx_messages.specs.declared.fault.MessageFault.{MessageFault}
+use Rattle.dsx_messages.proofs.Common.{take_all, Message, MessageFault, Gives, message_cause, message_of, BringsFlows}
 use Rattle.dsx_messages.specs.declared.fault.MessageFault.TheVariants as faults
-use Rattle.lists.specs.Results.{Gives}
-use Rattle.dsx_messages.specs.Reading.{message_cause, message_of, BringsFlows}
 
 -- what follows the type byte
 abbrev body_of : List ℕ → List ℕ

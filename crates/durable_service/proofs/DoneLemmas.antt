@@ -1,23 +1,13 @@
 -- Lines that are done one after the other.
 use Rattle.std.proofs.Common.{◌≡◌, ℕ, suc, ◌+◌, length, arith, List, [], ◌∷◌, ◌++◌, refl, sym, ap, subst, ◌∙◌, append_assoc, append-nil, Bool, false, nat_eq, drop, ◌-◌, codes}
-use Rattle.std.specs.Prelude.{◌≢◌}
+use Rattle.durable_service.proofs.Common.{◌≢◌, PlantFields, Start, Step, Out, CoreView, IsAfterFrom, Decides-eqb, pointwise, LineRun, answer_text, end_text, AreAnswered, all_done, all_told, service_text, AreLinesDone, LineIsDone, LinesAreDone}
 use Rattle.std.proofs.lemmas.Grind.{flat_map-append}
 use Rattle.std.proofs.lemmas.List.Elements.{All-append, All-nil, All-cons}
-use Rattle.plant.specs.declared.plant.PlantFields.{PlantFields}
-use Rattle.run_model.specs.Starts.{Start}
-use Rattle.run_model.specs.declared.step.Step.{Step}
-use Rattle.run_model.specs.declared.step.Out.{Out}
-use Rattle.run_model.specs.IsStateAfter.{CoreView}
-use Rattle.live_core.specs.After.{IsAfterFrom}
 use Rattle.std.proofs.lemmas.Slice.Eq.{ends_is}
-use Rattle.std.proofs.lemmas.Bool.Decides.{Decides-eqb}
-use Rattle.std.specs.Cmp.Lexicographic.{pointwise}
 use Rattle.std.proofs.lemmas.Bool.{true≢false}
 use Rattle.script_format.specs.Text.{outs_text}
 use Rattle.line_service.specs.declared.line_outcome.LineOutcome.{LineOutcome}
 use Rattle.line_service.specs.declared.line_outcome.LineOutcome.TheVariants.{NoMemory}
-use Rattle.line_service.specs.Service.{LineRun, answer_text, end_text, AreAnswered, all_done, all_told, service_text}
-use Rattle.durable_service.specs.Durable.{AreLinesDone, LineIsDone, LinesAreDone}
 
 -- ---- what is done from other steps that are the same
 

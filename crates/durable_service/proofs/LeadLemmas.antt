@@ -1,23 +1,11 @@
 -- What a journal leads to.
 use Rattle.std.proofs.Common.{◌≡◌, inl, inr, ⊎_elim, ℕ, ◌+◌, ◌==◌, true, List, [], ◌++◌, length, Option, Vec, sym, ap, subst, ◌∙◌, arith, length-append}
-use Rattle.std.specs.declared.alloc.Global.{Global}
-use Rattle.std.proofs.lemmas.Bool.Decides.{nat_tests}
-use Rattle.std.proofs.lemmas.List.{length-map, nil_from_length}
+use Rattle.durable_service.proofs.Common.{Global, nat_tests, length-map, nil_from_length, texts, PlantFields, Start, Step, Out, CoreView, IsAfterFrom, BehindEachRun, IsReachableFromStart, JournalContent, journal_content, with_lines, fresh, all_done, all_told, SaysState, saved_start, AreLinesDone, LineIsDone, LinesAreDone, LeadsTo, IsLeading, IsOpeningState, IsBegunWith}
 use Rattle.plant_restart.specs.Restarted.{IsRestarted}
 use Rattle.snapshot_format.specs.States.{states_of}
 use Rattle.line_service.proofs.StepLemmas.{reachable_on}
-use Rattle.line_journal.specs.Found.{texts}
-use Rattle.plant.specs.declared.plant.PlantFields.{PlantFields}
-use Rattle.run_model.specs.Starts.{Start}
-use Rattle.run_model.specs.declared.step.Step.{Step}
-use Rattle.run_model.specs.declared.step.Out.{Out}
-use Rattle.run_model.specs.IsStateAfter.{CoreView}
-use Rattle.live_core.specs.After.{IsAfterFrom, BehindEachRun, IsReachableFromStart}
 use Rattle.snapshot_format.specs.declared.saved.Snapshot.{Snapshot}
 use Rattle.line_journal.specs.Device.{LeavesOnly}
-use Rattle.line_journal.specs.Journal.{JournalContent, journal_content, with_lines, fresh}
-use Rattle.line_service.specs.Service.{all_done, all_told}
-use Rattle.durable_service.specs.Durable.{SaysState, saved_start, AreLinesDone, LineIsDone, LinesAreDone, LeadsTo, IsLeading, IsOpeningState, IsBegunWith}
 use Rattle.durable_service.proofs.DoneLemmas.{none_done, done_joined}
 
 -- a batch more

@@ -1,10 +1,7 @@
 -- Lines in memory, one more at a time.
 use Rattle.std.proofs.Common.{◌≡◌, ℕ, suc, ◌+◌, ◌<◌, ◌≤◌, List, [], ◌∷◌, ◌++◌, length, take, Vec, ap, ◌∙◌, arith}
-use Rattle.std.specs.Prelude.{slice_index_or}
-use Rattle.std.specs.declared.alloc.Global.{Global}
+use Rattle.durable_service.proofs.Common.{slice_index_or, Global, map-append, length-map, length-take-le, take_all, texts}
 use Rattle.std.proofs.Math.Seq.{take-suc}
-use Rattle.std.proofs.lemmas.List.{map-append, length-map, length-take-le, take_all}
-use Rattle.line_journal.specs.Found.{texts}
 
 pub texts_more : (lines : List (Vec ℕ Global)) (i : ℕ) (line : Vec ℕ Global) → i < length lines → slice_index_or lines i line ≡ line
     → texts (take (i + 1) lines) ≡ texts (take i lines) ++ line.items ∷ []

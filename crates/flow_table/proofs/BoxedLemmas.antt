@@ -1,16 +1,7 @@
 -- What the flows in the boxes are, where the list of boxes is looked at or edited.
 use Rattle.std.proofs.Common.{◌≡◌, ℕ, true, false, cond, List, [], ◌∷◌, Option, Some, None, option_map, refl, sym, ap, ◌∙◌, subst}
 use Rattle.std.specs.Global.{Box}
-use Rattle.std.specs.List.Sorted.{IsStrictlySortedBy}
-use Rattle.std.specs.Ordering.{nat_cmp, is_eq}
-use Rattle.std.specs.Map.{remove_entry, keys_of, lookup, set_value}
-use Rattle.std.specs.BTreeMap.{insert_entry, is_at}
-use Rattle.param_sets.specs.Units.{UnitSizes}
-use Rattle.flow_table.specs.declared.flow.Flow.{Flow}
-use Rattle.flow_table.specs.declared.flows.Moved.{Moved}
-use Rattle.flow_table.specs.Table.{flow_at, with_flow}
-use Rattle.flow_table.specs.Index.{flows_of}
-use Rattle.flow_table.specs.Moved.{change_at, told_of}
+use Rattle.flow_table.proofs.Common.{IsStrictlySortedBy, nat_cmp, is_eq, remove_entry, keys_of, lookup, set_value, insert_entry, is_at, UnitSizes, Flow, Moved, flow_at, with_flow, flows_of, change_at, told_of}
 use Rattle.flow_table.proofs.RowLemmas.{put_by, taken_by}
 use Rattle.flow_table.proofs.MovedLemmas.{moved_some, moved_none}
 

@@ -1,19 +1,9 @@
 -- What a list of entries by ascending numbers holds after an edit.
 use Rattle.std.proofs.Common.{◌≡◌, ◌≢◌, ℕ, ◌+◌, ◌<◌, ◌≤◌, true, false, cond, List, [], ◌∷◌, length, Option, Some, None, IsSome, IsNone, refl, sym, ap, ◌∙◌, subst, arith, inl, inr}
-use Rattle.std.specs.List.{AllByRecursion}
+use Rattle.flow_table.proofs.Common.{AllByRecursion, Ordering, Less, Equal, Greater, nat_cmp, is_eq, match_ordering, lookup, remove_entry, set_value, keys_of, insert_entry, is_at, lt-ltb, le-ltb, eq-eqb, ne_eqb, cases_order, ranked, nat_cmp_total, eq_by_cmp_equiv, All-from_recursion, recursion_from_All, none-some, same_Some, IsDistinct-from_sorted, sorted_tail}
 use Rattle.std.specs.List.Sorted.{IsStrictlySortedBy}
-use Rattle.std.specs.declared.cmp.Ordering.{Ordering}
-use Rattle.std.specs.declared.cmp.Ordering.TheVariants.{Less, Equal, Greater}
-use Rattle.std.specs.Ordering.{nat_cmp, is_eq, match_ordering}
-use Rattle.std.specs.Map.{lookup, remove_entry, set_value, keys_of}
-use Rattle.std.specs.BTreeMap.{insert_entry, is_at}
-use Rattle.std.proofs.lemmas.Bool.{lt-ltb, le-ltb, eq-eqb, ne_eqb, cases_order}
-use Rattle.std.proofs.lemmas.Cmp.{ranked, nat_cmp_total, eq_by_cmp_equiv}
-use Rattle.std.proofs.lemmas.List.Elements.{All-from_recursion, recursion_from_All}
 use Rattle.std.proofs.lemmas.Map.{lookup-none}
-use Rattle.std.proofs.lemmas.Option.{none-some, same_Some}
 use Rattle.std.proofs.lemmas.Map.Entries.{none_past_head, none_below_head}
-use Rattle.std.proofs.lemmas.Map.Keys.{IsDistinct-from_sorted, sorted_tail}
 use Rattle.std.proofs.lemmas.Map.Views.{All-keys-insert_entry, All-map-remove_entry}
 
 -- ---- the answers of a comparison

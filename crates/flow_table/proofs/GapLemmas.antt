@@ -1,19 +1,7 @@
 -- The first number that an ascending list of numbers leaves out.
 use Rattle.std.proofs.Common.{◌≡◌, ◌≢◌, ◌||◌, ℕ, zero, suc, ◌+◌, ◌-◌, ◌<◌, ◌≤◌, nat_le, nat_eq, true, false, cond, List, [], ◌∷◌, length, Option, Some, None, refl, sym, ap, ◌∙◌, subst, arith, inl, inr}
-use Rattle.std.specs.List.{All, AllByRecursion}
-use Rattle.std.specs.Map.{keys_of}
-use Rattle.std.specs.declared.cmp.Ordering.{Ordering}
-use Rattle.std.proofs.lemmas.List.{length-map}
-use Rattle.std.proofs.lemmas.List.Elements.{recursion_from_All}
-use Rattle.std.specs.List.Sorted.{IsStrictlySortedBy}
-use Rattle.std.specs.declared.cmp.Ordering.TheVariants.{Less, Equal, Greater}
-use Rattle.std.specs.Ordering.{nat_cmp, is_lt, is_gt}
-use Rattle.std.proofs.lemmas.Bool.{cases_order, cases_lt, cases_eq, eq-eqb, ne_eqb, lt-ltb, le-ltb, le-leb, lt-leb}
-use Rattle.std.proofs.lemmas.Cmp.{ranked}
-use Rattle.std.proofs.lemmas.Map.Keys.{sorted_head, sorted_tail}
-use Rattle.flow_table.specs.Gap.{gap_from}
+use Rattle.flow_table.proofs.Common.{All, AllByRecursion, keys_of, Ordering, length-map, recursion_from_All, IsStrictlySortedBy, Less, Equal, Greater, nat_cmp, is_lt, is_gt, cases_order, cases_lt, cases_eq, eq-eqb, ne_eqb, lt-ltb, le-ltb, le-leb, lt-leb, ranked, sorted_head, sorted_tail, gap_from, first_free_past, first_free_unused, first_free_zero}
 use Rattle.admission.specs.Free.{Numbers, is_used, first_free, least_free_of}
-use Rattle.admission.proofs.FreeLemmas.{first_free_past, first_free_unused, first_free_zero}
 
 -- a number that is above the next is left out
 pub gap_here : (n k : ℕ) (ks : List ℕ) → n < k → gap_from n (k ∷ ks) ≡ n

@@ -1,20 +1,6 @@
 -- That the index by SID stays equal to the flows.
 use Rattle.std.proofs.Common.{◌≡◌, ◌≢◌, ℕ, ◌≤◌, true, false, cond, List, [], ◌∷◌, length, ◌⊎◌, Option, Some, None, IsSome, IfSome, refl, sym, ap, ◌∙◌, subst, arith, inl, inr}
-use Rattle.std.specs.List.{Contains, cons_option}
-use Rattle.std.specs.List.Sorted.{IsStrictlySortedBy}
-use Rattle.std.specs.Ordering.{nat_cmp}
-use Rattle.std.specs.Map.{remove_entry, keys_of}
-use Rattle.std.specs.BTreeMap.{insert_entry, is_at}
-use Rattle.std.proofs.lemmas.Bool.{cases_eq, eq-eqb, ne_eqb}
-use Rattle.std.proofs.lemmas.List.Elements.{Contains-append_right}
-use Rattle.std.proofs.lemmas.Map.Keys.{sorted_tail}
-use Rattle.std.proofs.lemmas.Option.{none-some, same_Some}
-use Rattle.admission.specs.Ledger.{LedgerView, total_minislots, total_elements}
-use Rattle.param_sets.specs.Units.{UnitSizes}
-use Rattle.flow_table.specs.declared.flow.Flow.{Flow}
-use Rattle.flow_table.specs.Flow.{committed_of}
-use Rattle.flow_table.specs.Table.{HaveOwnSids, flow_at, flow_with, sid_if, is_sid, sids_of, with_flow, committed_minislots, committed_elements}
-use Rattle.flow_table.specs.Index.{IsIndex, IsFlowTable, sfid_at, with_sid_of, without_sid_of, budgets_of}
+use Rattle.flow_table.proofs.Common.{Contains, cons_option, IsStrictlySortedBy, nat_cmp, remove_entry, keys_of, insert_entry, is_at, cases_eq, eq-eqb, ne_eqb, Contains-append_right, sorted_tail, none-some, same_Some, LedgerView, total_minislots, total_elements, UnitSizes, Flow, committed_of, HaveOwnSids, flow_at, flow_with, sid_if, is_sid, sids_of, with_flow, committed_minislots, committed_elements, IsIndex, IsFlowTable, sfid_at, with_sid_of, without_sid_of, budgets_of}
 use Rattle.flow_table.proofs.EntryLemmas.{looked_first, looked_past, none_later, put_here, put_elsewhere, taken_here, taken_elsewhere, ascending_put, ascending_taken, length_put_there, length_taken}
 use Rattle.flow_table.proofs.RowLemmas.{rows_put, rows_taken, length_rows, minislots_rows, elements_rows}
 

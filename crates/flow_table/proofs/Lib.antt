@@ -1,3 +1,4 @@
+mod Common
 pub mod EntryLemmas
 pub mod RowLemmas
 pub mod IndexLemmas

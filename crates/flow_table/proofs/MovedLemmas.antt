@@ -1,18 +1,6 @@
 -- That a table stays one where a flow's backlog changes.
 use Rattle.std.proofs.Common.{◌≡◌, ◌≤◌, ℕ, cond, List, length, Option, Some, None, IsSome, IfSome, refl, sym, ap, ◌∙◌, subst, arith}
-use Rattle.std.specs.List.Sorted.{IsStrictlySortedBy}
-use Rattle.std.specs.Ordering.{nat_cmp}
-use Rattle.std.specs.Map.{remove_entry, keys_of, set_value}
-use Rattle.std.specs.BTreeMap.{insert_entry, is_at}
-use Rattle.std.proofs.lemmas.Option.{none-some, same_Some}
-use Rattle.admission.specs.Ledger.{LedgerView}
-use Rattle.param_sets.specs.Units.{UnitSizes}
-use Rattle.flow_table.specs.declared.flow.Flow.{Flow}
-use Rattle.flow_table.specs.declared.flows.Moved.{Moved}
-use Rattle.flow_table.specs.Flow.{committed_of}
-use Rattle.flow_table.specs.Table.{flow_at, sid_if, with_flow}
-use Rattle.flow_table.specs.Index.{IsIndex, IsFlowTable, without_sid_of, budgets_of}
-use Rattle.flow_table.specs.Moved.{change_if, change_at, told_of}
+use Rattle.flow_table.proofs.Common.{IsStrictlySortedBy, nat_cmp, remove_entry, keys_of, set_value, insert_entry, is_at, none-some, same_Some, LedgerView, UnitSizes, Flow, Moved, committed_of, flow_at, sid_if, with_flow, IsIndex, IsFlowTable, without_sid_of, budgets_of, change_if, change_at, told_of}
 use Rattle.flow_table.proofs.EntryLemmas.{written, put_same, length_put_there}
 use Rattle.flow_table.proofs.RowLemmas.{rows_put}
 use Rattle.flow_table.proofs.IndexLemmas.{index_changed, is_sid_yes, changed_room, row_room, table_put}

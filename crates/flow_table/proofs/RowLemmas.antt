@@ -1,18 +1,7 @@
 -- The rows of the flows, and their sums.
 use Rattle.std.proofs.Common.{◌≡◌, ℕ, ◌+◌, cond, List, [], ◌∷◌, map, length, sum_by, refl, sym, ap, ◌∙◌}
-use Rattle.std.specs.declared.cmp.Ordering.{Ordering}
-use Rattle.std.specs.declared.cmp.Ordering.TheVariants.{Less, Equal, Greater}
-use Rattle.std.specs.Ordering.{nat_cmp, is_eq, match_ordering}
-use Rattle.std.specs.Map.{remove_entry}
-use Rattle.std.specs.BTreeMap.{insert_entry, is_at}
-use Rattle.std.proofs.lemmas.List.{length-map}
+use Rattle.flow_table.proofs.Common.{Ordering, Less, Equal, Greater, nat_cmp, is_eq, match_ordering, remove_entry, insert_entry, is_at, length-map, total_minislots, total_elements, UnitSizes, Flow, committed_of, with_flow, committed_minislots, committed_elements, budgets_of}
 use Rattle.std.proofs.lemmas.List.Sums.{sum_by-cons}
-use Rattle.admission.specs.Ledger.{total_minislots, total_elements}
-use Rattle.param_sets.specs.Units.{UnitSizes}
-use Rattle.flow_table.specs.declared.flow.Flow.{Flow}
-use Rattle.flow_table.specs.Flow.{committed_of}
-use Rattle.flow_table.specs.Table.{with_flow, committed_minislots, committed_elements}
-use Rattle.flow_table.specs.Index.{budgets_of}
 
 -- ---- each value by a function
 

@@ -1,17 +1,7 @@
 -- When a flow may stand under an SFID, what is found there then, and that an edit of a flow keeps its SID.
 use Rattle.std.proofs.Common.{◌≡◌, ◌≢◌, ℕ, ◌<◌, ◌≤◌, ◌↔◌, true, false, cond, List, [], ◌∷◌, length, ◌⊎◌, Option, Some, None, IsSome, IfSome, is_some, refl, sym, ap, ◌∙◌, subst, arith, inl, inr}
-use Rattle.std.specs.List.{Contains}
-use Rattle.std.specs.List.Sorted.{IsStrictlySortedBy}
-use Rattle.std.specs.Ordering.{nat_cmp}
-use Rattle.std.specs.Map.{keys_of}
-use Rattle.std.proofs.lemmas.Map.Keys.{sorted_tail}
-use Rattle.std.proofs.lemmas.Option.{none-some, same_Some, IfSome_then}
-use Rattle.admission.specs.Free.{Numbers, least_free_of}
-use Rattle.admission.proofs.FreeLemmas.{least_free_iff}
-use Rattle.flow_table.specs.declared.flow.Flow.{Flow}
+use Rattle.flow_table.proofs.Common.{Contains, IsStrictlySortedBy, nat_cmp, keys_of, sorted_tail, none-some, same_Some, IfSome_then, Numbers, least_free_of, least_free_iff, Flow, flow_after_ack, taken_back, with_pending, without_pending, FlowTable, HasRoomFor, HaveOwnSids, flow_at, flow_with, sid_if, sids_of, with_flow}
 use Rattle.flow_table.specs.declared.flow.Pending.{Pending}
-use Rattle.flow_table.specs.Flow.{flow_after_ack, taken_back, with_pending, without_pending}
-use Rattle.flow_table.specs.Table.{FlowTable, HasRoomFor, HaveOwnSids, flow_at, flow_with, sid_if, sids_of, with_flow}
 use Rattle.flow_table.proofs.EntryLemmas.{looked_first, looked_past, none_later, put_here, put_elsewhere, length_put, length_put_there}
 use Rattle.flow_table.proofs.IndexLemmas.{cases_sid, is_sid_yes, is_sid_no, found}
 

@@ -1,19 +1,7 @@
 -- That the SIDs of the index are those that flows have, so that the same number is the least free one.
 use Rattle.std.proofs.Common.{◌≡◌, ◌≢◌, ℕ, List, [], ◌∷◌, Option, Some, None, refl, sym, ap, ◌∙◌, arith, inl, inr}
-use Rattle.std.specs.List.{Contains, cons_option}
-use Rattle.std.specs.List.Sorted.{IsStrictlySortedBy}
-use Rattle.std.specs.Ordering.{nat_cmp}
-use Rattle.std.specs.Map.{keys_of}
-use Rattle.std.proofs.lemmas.Bool.{cases_eq}
-use Rattle.std.proofs.lemmas.List.Elements.{Contains-append_right}
-use Rattle.std.proofs.lemmas.Map.Keys.{sorted_tail}
+use Rattle.flow_table.proofs.Common.{Contains, cons_option, IsStrictlySortedBy, nat_cmp, keys_of, cases_eq, Contains-append_right, sorted_tail, none-some, Numbers, IsLeastFree, least_free_of, least_free_cases, least_free_iff, Flow, flow_at, sid_if, sids_of, IsIndex, sfid_at}
 use Rattle.std.proofs.lemmas.Map.Made.{Contains-tail}
-use Rattle.std.proofs.lemmas.Option.{none-some}
-use Rattle.admission.specs.Free.{Numbers, IsLeastFree, least_free_of}
-use Rattle.admission.proofs.FreeLemmas.{least_free_cases, least_free_iff}
-use Rattle.flow_table.specs.declared.flow.Flow.{Flow}
-use Rattle.flow_table.specs.Table.{flow_at, sid_if, sids_of}
-use Rattle.flow_table.specs.Index.{IsIndex, sfid_at}
 use Rattle.flow_table.proofs.EntryLemmas.{looked_first, looked_past}
 use Rattle.flow_table.proofs.IndexLemmas.{cases_sid, none_of, sid_used}
 

@@ -1,12 +1,8 @@
 -- Lists whose elements are all seen otherwise: what a search, an insert and a removal make of them.
 use Rattle.std.proofs.Common.{◌≡◌, ℕ, ◌+◌, Bool, true, false, cond, List, [], ◌∷◌, find, filter_map, map, option_map, sum_by, Option, Some, refl, sym, ap, ◌∙◌}
-use Rattle.std.specs.List.{cons_option}
+use Rattle.frame_numbers.proofs.Common.{cons_option, nat_cmp, match_ordering, remove_entry, insert_entry, sum_by-cons}
 use Rattle.std.specs.declared.cmp.Ordering.{Ordering}
 use Rattle.std.specs.declared.cmp.Ordering.TheVariants.{Less, Equal, Greater}
-use Rattle.std.specs.Ordering.{nat_cmp, match_ordering}
-use Rattle.std.specs.Map.{remove_entry}
-use Rattle.std.specs.BTreeMap.{insert_entry}
-use Rattle.std.proofs.lemmas.List.Sums.{sum_by-cons}
 
 -- ---- any elements
 

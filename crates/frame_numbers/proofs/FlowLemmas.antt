@@ -1,15 +1,7 @@
 -- What becomes of one flow as it is seen: an acknowledgement, a request, a grant, a tick.
 use Rattle.std.proofs.Common.{◌≡◌, ℕ, ◌+◌, ◌-◌, ◌%◌, ◌==◌, ◌≤◌, min, Bool, true, false, cond, is_some, Option, Some, None, refl, sym, ap, ◌∙◌, arith}
-use Rattle.std.proofs.lemmas.Bool.{eqb-false}
-use native.Mathlib.Nat.{mod-add-mod}
-use Rattle.param_sets.specs.Units.{UnitSizes}
+use Rattle.frame_numbers.proofs.Common.{eqb-false, mod-add-mod, UnitSizes, Modem, Flow, Pending, asks_for_grants, with_pending, flow_after_ack, without_pending, taken_back, flow_after_request, flow_after_grant, new_flow, interval_if, place_in, flow_seen}
 use Rattle.param_sets.specs.declared.sets.SetsFields.{SetsFields}
-use Rattle.dsx_messages.specs.declared.modem.Modem.{Modem}
-use Rattle.flow_table.specs.declared.flow.Flow.{Flow}
-use Rattle.flow_table.specs.declared.flow.Pending.{Pending}
-use Rattle.flow_table.specs.Flow.{asks_for_grants, with_pending, flow_after_ack, without_pending, taken_back, flow_after_request, flow_after_grant}
-use Rattle.operator_model.specs.Verdict.{new_flow}
-use Rattle.frame_numbers.specs.Seen.{interval_if, place_in, flow_seen}
 
 -- ---- no frame ago
 

@@ -1,7 +1,6 @@
 -- What is handled does not ask how frames are numbered.
 use Rattle.std.proofs.Common.{◌≡◌, ℕ, Bool, true, false, cond, not, List, [], ◌∷◌, ◌++◌, length, map, option_map, find, Option, Some, None, Result, Ok, Err, refl, ap, ◌∙◌, nat_le}
-use Rattle.dsx_messages.specs.declared.modem.Modem.{Modem}
-use Rattle.dsx_messages.specs.declared.kind.Kind.{Kind}
+use Rattle.frame_numbers.proofs.Common.{Modem, Kind, KeptEntry, same_modem, UnitSizes, Flow, asks_for_grants, flow_after_request, flow_with, with_flow, Heard, Verdict, Refused, Put, Deleted, OperatorState, Operator, verdict, encoding_refusal, StepResult, silent, reply_output, reply_result, carried_out, is_of_cmts, new_unless, transaction_result, acked_if, tid_of, kind_of, message_handled, asked_of_flow, bandwidth_request_result, handle, entry_seen, state_as_seen}
 use Rattle.dsx_messages.specs.declared.code.Code.TheVariants as codes
 use Rattle.dsx_messages.specs.declared.message.Message.{Message}
 use Rattle.dsx_messages.specs.declared.message.Message.TheVariants as messages
@@ -9,27 +8,14 @@ use Rattle.dsx_messages.specs.declared.fault.MessageFault.{MessageFault}
 use Rattle.dsx_messages.specs.declared.fault.MessageFault.TheVariants as faults
 use Rattle.dsx_messages.specs.Reading.{message_of}
 use Rattle.dsx_messages.specs.Spelling.{spell_reply}
-use Rattle.transactions.specs.declared.entry.KeptEntry.{KeptEntry}
 use Rattle.transactions.specs.Entry.{same_kind, is_of, waits_for}
 use Rattle.transactions.specs.Keeping.{begun_entry}
 use Rattle.transactions.specs.Keeping as keeping
-use Rattle.plant.specs.Row.{same_modem}
-use Rattle.param_sets.specs.Units.{UnitSizes}
-use Rattle.flow_table.specs.declared.flow.Flow.{Flow}
-use Rattle.flow_table.specs.Flow.{asks_for_grants, flow_after_request}
-use Rattle.flow_table.specs.Table.{flow_with, with_flow}
-use Rattle.operator_model.specs.declared.heard.Heard.{Heard}
 use Rattle.operator_model.specs.declared.heard.Heard.TheVariants as heards
 use Rattle.operator_model.specs.declared.heard.Arrival.{Arrival}
 use Rattle.operator_model.specs.declared.output.Cause.TheVariants as causes
-use Rattle.operator_model.specs.declared.verdict.Verdict.{Verdict}
-use Rattle.operator_model.specs.declared.verdict.Verdict.TheVariants.{Refused, Put, Deleted}
-use Rattle.operator_model.specs.State.{OperatorState, Operator}
 use Rattle.operator_model.specs.Asked.{refusal}
-use Rattle.operator_model.specs.Verdict.{verdict, encoding_refusal}
-use Rattle.operator_model.specs.Handle.{StepResult, silent, reply_output, reply_result, carried_out, is_of_cmts, new_unless, transaction_result, acked_if, tid_of, kind_of, message_handled, asked_of_flow, bandwidth_request_result, handle}
 use Rattle.operator_model.specs.Machine.{arrival_result, taken_out, work_result}
-use Rattle.frame_numbers.specs.Seen.{entry_seen, state_as_seen}
 use Rattle.frame_numbers.proofs.FlowLemmas.{requested-seen}
 use Rattle.frame_numbers.proofs.TableLemmas.{flows_seen, found-seen, with-seen, without-seen, acked_flows-seen}
 use Rattle.frame_numbers.proofs.VerdictLemmas.{operator_seen, verdict_seen, verdict-seen}

@@ -1,12 +1,9 @@
 -- The schedule of a frame asks of the flows what is seen of them alone.
 use Rattle.std.proofs.Common.{◌≡◌, ℕ, ◌+◌, ◌-◌, ◌%◌, ◌==◌, min, Bool, true, false, cond, List, [], ◌∷◌, ◌++◌, filter, map, sum_by, Option, Some, None, refl, sym, ap, ◌∙◌, nat_lt, unwrap_or, arith}
-use Rattle.std.specs.List.{cons_option, flat_map}
-use Rattle.std.proofs.lemmas.Simd.{map-map}
+use Rattle.frame_numbers.proofs.Common.{cons_option, flat_map, map-map, mod-mod, UnitSizes, reserve_of, by_rank, award_pieces, idle, spans_from, minislots_in, elements_of, granted_of, Flow, flowing_of_set, flowing_in, interval_if, place_in, flow_seen}
 use Rattle.std.proofs.lemmas.List.Folds.{flat_map-map}
-use native.Mathlib.Nat.{mod-mod}
 use Rattle.grant_policy.specs.Rank.{rank_of}
 use Rattle.grant_policy.specs.declared.policy.Policy.{Policy}
-use Rattle.param_sets.specs.Units.{UnitSizes, reserve_of}
 use Rattle.param_sets.specs.declared.param_set.ParamFields.{ParamFields}
 use Rattle.param_sets.specs.declared.scheduling.Scheduling.{Scheduling}
 use Rattle.param_sets.specs.declared.scheduling.Scheduling.TheVariants.{BestEffort, NonRealTimePolling, RealTimePolling, UnsolicitedGrant}
@@ -15,10 +12,6 @@ use Rattle.slice_scheduler.specs.declared.flowing.Flowing.{Flowing}
 use Rattle.slice_scheduler.specs.Due.{interval_of, ends_after, is_due, minislots_when_due, pieces_when_due, due_pieces}
 use Rattle.slice_scheduler.specs.Claims.{claim_of, claims_of, taken_of}
 use Rattle.slice_scheduler.specs.Awards.{award_of, awards_of}
-use Rattle.slice_scheduler.specs.Schedule.{by_rank, award_pieces, idle, spans_from, minislots_in, elements_of, granted_of}
-use Rattle.flow_table.specs.declared.flow.Flow.{Flow}
-use Rattle.flow_table.specs.Table.{flowing_of_set, flowing_in}
-use Rattle.frame_numbers.specs.Seen.{interval_if, place_in, flow_seen}
 use Rattle.frame_numbers.proofs.EntryLemmas.{sum_by-map}
 use Rattle.frame_numbers.proofs.TableLemmas.{flows_seen}
 

@@ -1,23 +1,12 @@
 -- A snapshot under other frame numbers holds the same states.
 use Rattle.std.proofs.Common.{◌≡◌, ℕ, ◌+◌, ◌-◌, ◌%◌, ◌==◌, ◌≤◌, min, Bool, true, false, cond, not, List, [], ◌∷◌, map, Option, Some, None, refl, sym, ap, ◌∙◌, subst, arith, nat_le}
-use Rattle.std.specs.List.{list_all, AllZip}
-use Rattle.std.proofs.lemmas.Bool.{leb-true, and_parts}
-use native.Mathlib.Nat.{mod-mod}
-use Rattle.param_sets.specs.Units.{UnitSizes}
-use Rattle.plant.specs.declared.consts.ConstsFields.{ConstsFields}
-use Rattle.flow_table.specs.declared.flow.Flow.{Flow}
+use Rattle.frame_numbers.proofs.Common.{list_all, AllZip, leb-true, and_parts, mod-mod, UnitSizes, ConstsFields, Flow, NextShare, OperatorState, operator, IsSound, interval_if, place_in, flow_seen, entry_seen, next_seen, IsRenumbered, start_distance, since_distance, flow_renumbered, saved_flow_renumbered, next_renumbered, operator_renumbered, flow_fits, flows_fit, next_fits, renumber_refusal, IsRenumberedUnder, IsRenumberedSnapshot}
 use Rattle.map_assembly.specs.Map.{frame_start}
-use Rattle.operator_model.specs.declared.share.NextShare.{NextShare}
-use Rattle.operator_model.specs.State.{OperatorState, operator}
-use Rattle.operator_model.specs.Sound.{IsSound}
 use Rattle.snapshot_format.specs.declared.saved.SavedFlow.{SavedFlow}
 use Rattle.snapshot_format.specs.declared.saved.SavedOperator.{SavedOperator}
 use Rattle.snapshot_format.specs.declared.saved.Snapshot.{Snapshot}
 use Rattle.snapshot_format.specs.States.{sfid_with_flow, state_of, states_of}
 use Rattle.frame_numbers.specs.declared.fault.RenumberFault.TheVariants.{TimeSteps, TooLow, TooHigh}
-use Rattle.frame_numbers.specs.Seen.{interval_if, place_in, flow_seen, entry_seen, next_seen}
-use Rattle.frame_numbers.specs.Renumbered.{IsRenumbered}
-use Rattle.frame_numbers.specs.Numbering.{start_distance, since_distance, flow_renumbered, saved_flow_renumbered, next_renumbered, operator_renumbered, flow_fits, flows_fit, next_fits, renumber_refusal, IsRenumberedUnder, IsRenumberedSnapshot}
 use Rattle.frame_numbers.proofs.SoundLemmas.{flows_renumbered, state_renumbered, sound-other}
 
 place-again : (interval : Option ℕ) (frames : ℕ) → place_in interval (place_in interval frames) ≡ place_in interval frames

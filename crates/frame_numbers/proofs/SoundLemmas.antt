@@ -1,29 +1,7 @@
 -- A sound state is sound under other frame numbers.
 use Rattle.std.proofs.Common.{◌≡◌, ℕ, List, [], ◌∷◌, map, option_map, Option, Some, None, IfSome, IsSome, All, refl, sym, ap, ◌∙◌, subst, arith}
-use Rattle.std.specs.List.{AllByRecursion}
+use Rattle.frame_numbers.proofs.Common.{AllByRecursion, nat_cmp, keys_of, values_of, is_at, length-map, All-from_recursion, recursion_from_All, All-weaker, lookup-map_values, map-map, Kind, Dsa, Dsc, Dsd, IsIn, KeptEntry, UnitSizes, ConstsFields, RowFields, Flow, Pending, committed_of, flow_at, sid_if, sids_of, committed_minislots, committed_elements, HaveOwnSids, NextShare, OperatorState, operator, IsSoundPending, IsSoundFlow, IsWaitingOf, HasItsFlow, IsNextShare, IsSound, flow_renumbered, next_renumbered}
 use Rattle.std.specs.List.Sorted.{IsStrictlySortedBy}
-use Rattle.std.specs.Ordering.{nat_cmp}
-use Rattle.std.specs.Map.{keys_of, values_of}
-use Rattle.std.specs.BTreeMap.{is_at}
-use Rattle.std.proofs.lemmas.List.{length-map}
-use Rattle.std.proofs.lemmas.List.Elements.{All-from_recursion, recursion_from_All, All-weaker}
-use Rattle.std.proofs.lemmas.Map.Made.{lookup-map_values}
-use Rattle.std.proofs.lemmas.Simd.{map-map}
-use Rattle.dsx_messages.specs.declared.kind.Kind.{Kind}
-use Rattle.dsx_messages.specs.declared.kind.Kind.TheVariants.{Dsa, Dsc, Dsd}
-use Rattle.admission.specs.Free.{IsIn}
-use Rattle.transactions.specs.declared.entry.KeptEntry.{KeptEntry}
-use Rattle.param_sets.specs.Units.{UnitSizes}
-use Rattle.plant.specs.declared.consts.ConstsFields.{ConstsFields}
-use Rattle.plant.specs.declared.operator_row.RowFields.{RowFields}
-use Rattle.flow_table.specs.declared.flow.Flow.{Flow}
-use Rattle.flow_table.specs.declared.flow.Pending.{Pending}
-use Rattle.flow_table.specs.Flow.{committed_of}
-use Rattle.flow_table.specs.Table.{flow_at, sid_if, sids_of, committed_minislots, committed_elements, HaveOwnSids}
-use Rattle.operator_model.specs.declared.share.NextShare.{NextShare}
-use Rattle.operator_model.specs.State.{OperatorState, operator}
-use Rattle.operator_model.specs.Sound.{IsSoundPending, IsSoundFlow, IsWaitingOf, HasItsFlow, IsNextShare, IsSound}
-use Rattle.frame_numbers.specs.Numbering.{flow_renumbered, next_renumbered}
 use Rattle.frame_numbers.proofs.EntryLemmas.{on_value, filter_map-map, sum_by-map}
 
 module _ (units : UnitSizes) (from to : ℕ) where

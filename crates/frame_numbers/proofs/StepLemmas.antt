@@ -1,32 +1,17 @@
 -- One action, and a run, of operators whose frames are numbered otherwise.
 use Rattle.std.proofs.Common.{◌≡◌, ℕ, ◌+◌, ◌-◌, ◌<◌, ◌≤◌, Bool, true, false, cond, List, [], ◌∷◌, ◌++◌, map, count_by, is_some, Option, Some, None, refl, sym, ap, ◌∙◌, arith, nat_le, nat_lt}
-use Rattle.std.proofs.lemmas.Bool.{leb-true, leb-false, le-leb, lt-leb, ne_eqb}
-use Rattle.std.proofs.lemmas.List.{map-append}
-use Rattle.std.proofs.lemmas.List.Sums.{sum_by-cons}
-use Rattle.dsx_messages.specs.declared.modem.Modem.{Modem}
-use Rattle.param_sets.specs.Units.{UnitSizes}
-use Rattle.plant.specs.declared.consts.ConstsFields.{ConstsFields}
-use Rattle.plant.specs.declared.operator_row.RowFields.{RowFields}
-use Rattle.flow_table.specs.Table.{committed_minislots}
-use Rattle.operator_model.specs.declared.heard.Heard.{Heard}
+use Rattle.frame_numbers.proofs.Common.{leb-true, leb-false, le-leb, lt-leb, ne_eqb, map-append, sum_by-cons, Modem, UnitSizes, ConstsFields, RowFields, committed_minislots, Heard, Output, NextShare, OperatorState, Operator, operator, StepResult, IsSound, next_seen, IsRenumbered, number_moved, action_moved, output_moved, IsSameRun}
 use Rattle.operator_model.specs.declared.action.Action.{Action}
 use Rattle.operator_model.specs.declared.action.Action.TheVariants.{Arrive, Work, Tick, Reslice}
 use Rattle.operator_model.specs.declared.action.SliceRow.{SliceRow}
 use Rattle.operator_model.specs.declared.action.Unfit.{Unfit}
 use Rattle.operator_model.specs.declared.action.Unfit.TheVariants.{NotPast, Unfinished, OffFrame, BudgetOverSlice, OverBudget}
-use Rattle.operator_model.specs.declared.output.Output.{Output}
 use Rattle.operator_model.specs.declared.output.Output.TheVariants as outputs
-use Rattle.operator_model.specs.declared.share.NextShare.{NextShare}
-use Rattle.operator_model.specs.State.{OperatorState, Operator, operator}
-use Rattle.operator_model.specs.Handle.{StepResult}
 use Rattle.operator_model.specs.Machine.{arrival_result, work_result, reslice_result, own_step, own_run, stranger_of, is_spent, is_off_frame, unfit_of, IsAllowed}
 use Rattle.operator_model.specs.Frames.{frame_numbers, is_tick}
 use Rattle.operator_model.specs.Slices.{MayRun}
-use Rattle.operator_model.specs.Sound.{IsSound}
 use Rattle.operator_model.proofs.FrameLemmas.{worked_none, arrived_none, step_puts}
 use Rattle.operator_model.proofs.StepLemmas.{passed, step_sound}
-use Rattle.frame_numbers.specs.Seen.{next_seen}
-use Rattle.frame_numbers.specs.Renumbered.{IsRenumbered, number_moved, action_moved, output_moved, IsSameRun}
 use Rattle.frame_numbers.proofs.TableLemmas.{minislots-seen}
 use Rattle.frame_numbers.proofs.VerdictLemmas.{operator_seen}
 use Rattle.frame_numbers.proofs.HandleLemmas.{result_seen, worked-seen, arrived-seen}

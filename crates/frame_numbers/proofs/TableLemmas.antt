@@ -1,21 +1,7 @@
 -- What becomes of the flows of an operator as they are seen.
 use Rattle.std.proofs.Common.{◌≡◌, ℕ, ◌==◌, Bool, true, false, cond, List, [], ◌∷◌, length, map, option_map, Option, Some, None, refl, ap, ◌∙◌}
-use Rattle.std.specs.Ordering.{nat_cmp}
-use Rattle.std.specs.BTreeMap.{is_at}
-use Rattle.std.proofs.lemmas.List.{length-map}
-use Rattle.std.proofs.lemmas.Simd.{map-map}
-use Rattle.std.proofs.lemmas.Map.Made.{lookup-map_values}
-use Rattle.dsx_messages.specs.declared.kind.Kind.{Kind}
-use Rattle.dsx_messages.specs.declared.kind.Kind.TheVariants.{Dsa, Dsc, Dsd}
-use Rattle.param_sets.specs.Units.{UnitSizes}
+use Rattle.frame_numbers.proofs.Common.{nat_cmp, is_at, length-map, map-map, lookup-map_values, Kind, Dsa, Dsc, Dsd, UnitSizes, Flow, flow_after_ack, taken_back, committed_of, flow_at, with_flow, flow_with, is_sid, sfids_of, sids_of, committed_minislots, committed_elements, change_if, change_at, without_flow, undone, flows_acked, all_undone, flow_seen, entry_seen}
 use Rattle.transactions.specs.declared.tick.GivenUp.{GivenUp}
-use Rattle.flow_table.specs.declared.flow.Flow.{Flow}
-use Rattle.flow_table.specs.Flow.{flow_after_ack, taken_back, committed_of}
-use Rattle.flow_table.specs.Table.{flow_at, with_flow, flow_with, is_sid, sfids_of, sids_of, committed_minislots, committed_elements}
-use Rattle.flow_table.specs.Moved.{change_if, change_at}
-use Rattle.operator_model.specs.Handle.{without_flow, undone, flows_acked}
-use Rattle.operator_model.specs.Frame.{all_undone}
-use Rattle.frame_numbers.specs.Seen.{flow_seen, entry_seen}
 use Rattle.frame_numbers.proofs.EntryLemmas.{find-map, filter_map-map, sum_by-map, insert-map, remove-map}
 use Rattle.frame_numbers.proofs.FlowLemmas.{acked-seen, taken_back-seen}
 

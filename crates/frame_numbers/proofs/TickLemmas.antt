@@ -1,31 +1,11 @@
 -- A tick of operators whose frames are numbered otherwise.
 use Rattle.std.proofs.Common.{◌≡◌, ℕ, ◌+◌, ◌-◌, ◌==◌, ◌<◌, Bool, true, false, cond, List, [], ◌∷◌, ◌++◌, map, Option, Some, None, IfSome, refl, sym, ap, ◌∙◌, arith}
-use Rattle.std.specs.List.{AllByRecursion}
-use Rattle.std.specs.Map.{values_of}
-use Rattle.std.proofs.lemmas.Bool.{eqb-true, eqb-false, eq-eqb, ne_eqb}
-use Rattle.std.proofs.lemmas.List.{map-append}
-use Rattle.std.proofs.lemmas.List.Elements.{recursion_from_All}
-use Rattle.std.proofs.lemmas.Simd.{map-map}
+use Rattle.frame_numbers.proofs.Common.{AllByRecursion, values_of, eqb-true, eqb-false, eq-eqb, ne_eqb, map-append, recursion_from_All, map-map, UnitSizes, elements_of, granted_of, ConstsFields, RowFields, Flow, flow_after_grant, flowing_in, change_at, Output, NextShare, OperatorState, operator, resent, at_frame, all_granted, share_at, next_at, flows_left, frame_elements, frame_grants, tick_result, IsSoundFlow, IsNextShare, IsSound, next_seen, IsRenumbered, number_moved, output_moved, IsSameRun}
 use Rattle.transactions.specs.Timers.{given_up_in, resent_in, kept_after}
-use Rattle.param_sets.specs.Units.{UnitSizes}
-use Rattle.slice_scheduler.specs.Schedule.{elements_of, granted_of}
-use Rattle.plant.specs.declared.consts.ConstsFields.{ConstsFields}
-use Rattle.plant.specs.declared.operator_row.RowFields.{RowFields}
-use Rattle.flow_table.specs.declared.flow.Flow.{Flow}
-use Rattle.flow_table.specs.Flow.{flow_after_grant}
-use Rattle.flow_table.specs.Table.{flowing_in}
-use Rattle.flow_table.specs.Moved.{change_at}
-use Rattle.operator_model.specs.declared.output.Output.{Output}
 use Rattle.operator_model.specs.declared.output.Output.TheVariants as outputs
 use Rattle.operator_model.specs.declared.share.Share.{Share}
-use Rattle.operator_model.specs.declared.share.NextShare.{NextShare}
-use Rattle.operator_model.specs.State.{OperatorState, operator}
-use Rattle.operator_model.specs.Frame.{resent, at_frame, all_granted, share_at, next_at, flows_left, frame_elements, frame_grants, tick_result}
-use Rattle.operator_model.specs.Sound.{IsSoundFlow, IsNextShare, IsSound}
 use Rattle.operator_model.proofs.LeftLemmas.{all_undone-MayStep}
 use Rattle.operator_model.proofs.SoundLemmas.{sound-AreFlows}
-use Rattle.frame_numbers.specs.Seen.{next_seen}
-use Rattle.frame_numbers.specs.Renumbered.{IsRenumbered, number_moved, output_moved, IsSameRun}
 use Rattle.frame_numbers.proofs.FlowLemmas.{turned_flow, turned-seen, granted_flow, granted-seen}
 use Rattle.frame_numbers.proofs.TableLemmas.{flows_seen, change-seen, all_undone-seen}
 use Rattle.frame_numbers.proofs.ScheduleLemmas.{flowing_seen, flowing_in-seen, elements-same, grants-same}

@@ -1,33 +1,20 @@
 -- The verdict on a request does not ask how frames are numbered.
 use Rattle.std.proofs.Common.{◌≡◌, ℕ, Bool, true, false, cond, not, is_some, List, length, option_map, Option, Some, None, Result, Ok, Err, refl, ap, ◌∙◌, nat_le, nat_lt}
 use Rattle.lists.specs.Results.{◌>>=◌, result_map}
-use Rattle.dsx_messages.specs.declared.modem.Modem.{Modem}
-use Rattle.dsx_messages.specs.declared.kind.Kind.{Kind}
-use Rattle.dsx_messages.specs.declared.kind.Kind.TheVariants.{Dsa, Dsc, Dsd}
+use Rattle.frame_numbers.proofs.Common.{Modem, Kind, Dsa, Dsc, Dsd, least_free_of, UnitSizes, same_modem, ConstsFields, Flow, sfids_of, sids_of, flow_at, with_flow, committed_minislots, committed_elements, NextShare, Verdict, Refused, Put, Deleted, Operator, operator, flow_seen, next_seen, state_as_seen}
 use Rattle.dsx_messages.specs.declared.code.Code.TheVariants as codes
 use Rattle.dsx_messages.specs.declared.reply.ReplyFields.{ReplyFields}
 use Rattle.dsx_messages.specs.declared.message.Request.{Request}
 use Rattle.dsx_messages.specs.declared.message.Request.TheVariants as requests
 use Rattle.tlv24.specs.declared.fields.FlowFields.{FlowFields}
 use Rattle.tlv24.specs.Subtype.{sfid_subtype}
-use Rattle.admission.specs.Free.{least_free_of}
 use Rattle.admission.specs.declared.budget.Budget.{Budget}
-use Rattle.param_sets.specs.Units.{UnitSizes}
-use Rattle.plant.specs.Row.{same_modem}
-use Rattle.plant.specs.declared.consts.ConstsFields.{ConstsFields}
-use Rattle.flow_table.specs.declared.flow.Flow.{Flow}
-use Rattle.flow_table.specs.Table.{sfids_of, sids_of, flow_at, with_flow, committed_minislots, committed_elements}
-use Rattle.operator_model.specs.declared.share.NextShare.{NextShare}
 use Rattle.operator_model.specs.declared.verdict.Transaction.{Transaction}
 use Rattle.operator_model.specs.declared.verdict.AskedSets.{AskedSets}
 use Rattle.operator_model.specs.declared.verdict.Addition.{Addition}
 use Rattle.operator_model.specs.declared.verdict.Change.{Change}
-use Rattle.operator_model.specs.declared.verdict.Verdict.{Verdict}
-use Rattle.operator_model.specs.declared.verdict.Verdict.TheVariants.{Refused, Put, Deleted}
-use Rattle.operator_model.specs.State.{Operator, operator}
 use Rattle.operator_model.specs.Asked.{transaction, refusal, refusal_naming, stated_or_refusal, first_encoding, free_flow, asked_sets, nested_sets, addition_of, change_of}
 use Rattle.operator_model.specs.Verdict.{limit_of, minislots_allowed, no_room, within_limit, put_within_limit, new_flow, added_reply, added_under, addition_within_limit, changed_flow, changed_reply, changed_with, changed_with_new, wants_sid, change_within_limit, addition_verdict, change_verdict, deletion_verdict, verdict}
-use Rattle.frame_numbers.specs.Seen.{flow_seen, next_seen, state_as_seen}
 use Rattle.frame_numbers.proofs.FlowLemmas.{new-seen}
 use Rattle.frame_numbers.proofs.TableLemmas.{flows_seen, at-seen, sfids-seen, sids-seen, length-seen, minislots-seen, elements-seen, with-seen}
 

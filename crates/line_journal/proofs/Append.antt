@@ -1,9 +1,6 @@
 -- What a crash leaves in each step of adding a batch.
 use Rattle.std.proofs.Common.{◌≡◌, inl, inr, ⊎_elim, ℕ, ◌+◌, ◌≤◌, List, [], ◌∷◌, ◌++◌, length, get_or, take, drop, ◌∙◌, ap, subst, arith, length-append}
-use Rattle.std.specs.Prelude.{Some}
-use Rattle.line_journal.specs.Device.{IsOverwritten, Torn, Follows, Only}
-use Rattle.line_journal.specs.Lines.{marked_lines, records}
-use Rattle.line_journal.specs.Journal.{JournalContent, shut_text, journal_text, journal_content, IsBeforeOrAfter}
+use Rattle.line_journal.proofs.Common.{Some, IsOverwritten, Torn, Follows, Only, marked_lines, records, JournalContent, shut_text, journal_text, journal_content, IsBeforeOrAfter}
 use Rattle.line_journal.proofs.Files.{torn_behind, written_behind, torn_gate, written_gate}
 use Rattle.line_journal.proofs.StoredLaws.{AreLines, shut_gate, front, front_and_gate, after_front, longer, text_longer, gate_byte, gate_first, gate_and_behind, any_gate}
 

@@ -1,7 +1,6 @@
 -- What a write and a cut at the end of a file may leave, whatever stands in front.
 use Rattle.std.proofs.Common.{◌≡◌, ℕ, zero, suc, ◌+◌, ◌-◌, ◌≤◌, List, [], ◌∷◌, ◌++◌, length, get_or, take, drop, sym, ◌∙◌, ap, arith, append_assoc, length-append, length-drop, take-append-drop}
-use Rattle.std.proofs.lemmas.List.{take_at, drop_at, drop_more, take_all, drop_all, append-nil}
-use Rattle.line_journal.specs.Device.{IsOverwritten, Torn, Cut}
+use Rattle.line_journal.proofs.Common.{take_at, drop_at, drop_more, take_all, drop_all, append-nil, IsOverwritten, Torn, Cut}
 
 take_past : (xs ys : List ℕ) (m n : ℕ) → m ≡ length xs + n → take m (xs ++ ys) ≡ xs ++ take n ys
 take_past [] ys m n is = let same : m ≡ n = omega arith in ap (λ (k : ℕ). take k ys) same

@@ -1,10 +1,7 @@
 -- A text in two at its first line feed.
 use Rattle.std.proofs.Common.{◌≡◌, ◌≢◌, ℕ, zero, suc, ◌-◌, ◌<◌, ◌≤◌, List, [], ◌∷◌, ◌++◌, length, take, drop, arith, sym, ap, subst, ◌∙◌, eq-eqb}
-use Rattle.std.proofs.lemmas.Bool.{eqb-true}
-use Rattle.std.proofs.lemmas.List.{take_all}
-use Rattle.std.specs.Prelude.{slice_index, Option, Some, None, IfSome, IfNone}
+use Rattle.line_journal.proofs.Common.{eqb-true, take_all, slice_index, Option, Some, None, IfSome, IfNone, IsLine, marked_lines}
 use Rattle.memchr.specs.Find.{Nowhere, NoneBefore, Passes, is_byte}
-use Rattle.line_journal.specs.Lines.{IsLine, marked_lines}
 use Rattle.line_journal.proofs.LineLaws.{marked_line, open_end, no_whole_line}
 
 no_break_before : (text : List ℕ) (place : ℕ) → Nowhere (Passes (is_byte 10) text) 0 place → IsLine (take place text)

@@ -1,7 +1,6 @@
 -- One more content joins those that a file has had.
 use Rattle.std.proofs.Common.{◌≡◌, ◌⊎◌, inl, inr, ⊎_elim, ℕ, zero, suc, ◌≤◌, List, [], ◌∷◌, ◌++◌, length, drop, Vec, refl, sym, ◌∙◌, subst, arith, length-append}
-use Rattle.std.specs.declared.alloc.Global.{Global}
-use Rattle.line_journal.specs.Device.{Elapses}
+use Rattle.line_journal.proofs.Common.{Global, Elapses}
 use Rattle.line_journal.specs.Past.{HadBeen}
 
 abbrev Contents : Type 0

@@ -1,3 +1,4 @@
+mod Common
 mod Append
 mod FirstLine
 mod Files

@@ -1,8 +1,6 @@
 -- What a text of marked_lines lines holds.
 use Rattle.std.proofs.Common.{◌≡◌, ◌≢◌, inl, inr, ℕ, zero, suc, ◌==◌, List, [], ◌∷◌, ◌++◌, take, refl, sym, ◌∙◌, ap, subst, append_assoc}
-use Rattle.std.specs.List.{AllByRecursion}
-use Rattle.std.proofs.lemmas.Bool.{cases_eq, ne_eqb, cond-true, cond-false, eq-eqb}
-use Rattle.line_journal.specs.Lines.{IsLine, with_head, whole_lines, marked_first, marked_lines, records}
+use Rattle.line_journal.proofs.Common.{AllByRecursion, cases_eq, ne_eqb, cond-true, cond-false, eq-eqb, IsLine, with_head, whole_lines, marked_first, marked_lines, records}
 
 -- a line and its line feed
 pub whole_line : (line rest : List ℕ) → IsLine line → whole_lines (line ++ 10 ∷ rest) ≡ line ∷ whole_lines rest

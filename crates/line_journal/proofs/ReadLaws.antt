@@ -1,8 +1,6 @@
 -- One line more in memory.
 use Rattle.std.proofs.Common.{◌≡◌, ℕ, ◌+◌, List, [], ◌∷◌, ◌++◌, length, Vec, refl, ◌∙◌, ap, arith, length-append}
-use Rattle.std.specs.declared.alloc.Global.{Global}
-use Rattle.line_journal.specs.Found.{texts}
-use Rattle.line_journal.specs.Lines.{records}
+use Rattle.line_journal.proofs.Common.{Global, texts, records}
 
 texts_append : (lines : List (Vec ℕ Global)) (line : Vec ℕ Global) → texts (lines ++ line ∷ []) ≡ texts lines ++ line.items ∷ []
 texts_append [] line = refl

@@ -1,10 +1,6 @@
 -- What a crash leaves so far, from one device call of `recover` to the next.
 use Rattle.std.proofs.Common.{◌≡◌, ℕ, List, [], ◌∷◌, ◌++◌, length, take, sym, ◌∙◌, ap, subst, arith, length-append}
-use Rattle.std.specs.Prelude.{Option, Some, IfSome}
-use Rattle.line_journal.specs.Device.{IsOverwritten, Torn, Cut, Follows, Only, Elapses}
-use Rattle.line_journal.specs.Lines.{records}
-use Rattle.line_journal.specs.Journal.{JournalContent, snapshot_lines, journal_text, journal_content, IsJournalSettled}
-use Rattle.line_journal.specs.Found.{texts, found_of}
+use Rattle.line_journal.proofs.Common.{Option, Some, IfSome, IsOverwritten, Torn, Cut, Follows, Only, Elapses, records, JournalContent, snapshot_lines, journal_text, journal_content, IsJournalSettled, texts, found_of}
 use Rattle.line_journal.specs.declared.recovery.Recovered.{Recovered}
 use Rattle.line_journal.proofs.Moments.{SoFar, at_start, step}
 use Rattle.line_journal.proofs.Repair.{cut_crash, is_cut, gate_crash, is_shut}

@@ -1,11 +1,6 @@
 -- What a crash leaves while the end of a file is repaired.
 use Rattle.std.proofs.Common.{◌≡◌, inl, inr, ℕ, ◌-◌, ◌≤◌, List, [], ◌∷◌, ◌++◌, length, take, drop, refl, sym, ◌∙◌, ap, subst, arith, append_assoc, length-append}
-use Rattle.std.specs.Prelude.{Some}
-use Rattle.std.proofs.lemmas.List.{append-nil}
-use Rattle.std.proofs.lemmas.Bool.{cases_eq}
-use Rattle.line_journal.specs.Device.{IsOverwritten, Torn, Cut, Follows, Only}
-use Rattle.line_journal.specs.Lines.{marked_lines, records}
-use Rattle.line_journal.specs.Journal.{JournalContent, snapshot_lines, journal_text, journal_content}
+use Rattle.line_journal.proofs.Common.{Some, append-nil, cases_eq, IsOverwritten, Torn, Cut, Follows, Only, marked_lines, records, JournalContent, snapshot_lines, journal_text, journal_content}
 use Rattle.line_journal.proofs.LineLaws.{parts, front_nothing, closed, open_end}
 use Rattle.line_journal.proofs.Files.{any_cut, cut_done, torn_end, written_end}
 use Rattle.line_journal.proofs.StoredLaws.{plus, parts_of, lines_of, after_records, front, front_and_gate, after_front}

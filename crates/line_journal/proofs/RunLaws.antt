@@ -1,11 +1,6 @@
 -- The changes of a journal, one after the other.
 use Rattle.std.proofs.Common.{◌≡◌, inr, ⊎_elim, ℕ, ◌+◌, ◌<◌, List, [], ◌∷◌, ◌++◌, length, take, refl, sym, ◌∙◌, ap, arith}
-use Rattle.std.specs.Prelude.{Option, slice_index_or}
-use Rattle.std.proofs.lemmas.List.{take_more}
-use Rattle.line_journal.specs.Device.{LeavesOnly}
-use Rattle.line_journal.specs.Journal.{JournalContent, IsBeforeOrAfter}
-use Rattle.line_journal.specs.declared.run.JournalChange.{JournalChange}
-use Rattle.line_journal.specs.Run.{content_after, after_all, IsAfterSome}
+use Rattle.line_journal.proofs.Common.{Option, slice_index_or, take_more, LeavesOnly, JournalContent, IsBeforeOrAfter, JournalChange, content_after, after_all, IsAfterSome}
 
 after_push : (changes : List JournalChange) (change : JournalChange) (stored : Option JournalContent) → after_all (changes ++ change ∷ []) stored ≡ content_after change (after_all changes stored)
 after_push [] change stored = refl

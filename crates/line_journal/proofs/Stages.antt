@@ -1,9 +1,6 @@
 -- What a crash leaves so far, from one device call of `append` to the next.
 use Rattle.std.proofs.Common.{◌≡◌, inl, ℕ, ◌+◌, ◌-◌, ◌≤◌, List, [], ◌∷◌, ◌++◌, length, take, drop, sym, ◌∙◌, ap, subst, arith, length-append}
-use Rattle.std.specs.Prelude.{Option}
-use Rattle.line_journal.specs.Device.{IsOverwritten, Torn, Follows, Only, Elapses}
-use Rattle.line_journal.specs.Lines.{marked_lines}
-use Rattle.line_journal.specs.Journal.{JournalContent, snapshot_lines, shut_text, journal_text, journal_content, with_lines, fresh, IsJournalSettled, IsBeforeOrAfter}
+use Rattle.line_journal.proofs.Common.{Option, IsOverwritten, Torn, Follows, Only, Elapses, marked_lines, JournalContent, snapshot_lines, shut_text, journal_text, journal_content, with_lines, fresh, IsJournalSettled, IsBeforeOrAfter}
 use Rattle.line_journal.proofs.LineLaws.{parts}
 use Rattle.line_journal.proofs.Moments.{SoFar, at_start, step}
 use Rattle.line_journal.proofs.StoredLaws.{AreLines, plus, equals, parts_of, lines_of, longer, of_text}

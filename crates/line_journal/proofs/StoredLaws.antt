@@ -1,11 +1,6 @@
 -- What files stand for.
 use Rattle.std.proofs.Common.{◌≡◌, ◌≢◌, ◌⊎◌, inl, inr, ℕ, ◌==◌, List, [], ◌∷◌, ◌++◌, length, take, drop, refl, sym, ◌∙◌, ap, subst, arith, append_assoc}
-use Rattle.std.specs.Prelude.{Option, Some, None, IfSome}
-use Rattle.std.specs.List.{AllByRecursion}
-use Rattle.std.proofs.lemmas.Bool.{cases_eq, ne_eqb, cond-true, cond-false, eq-eqb}
-use Rattle.std.proofs.lemmas.List.{append-nil, drop_at}
-use Rattle.line_journal.specs.Lines.{IsLine, marked_lines, records}
-use Rattle.line_journal.specs.Journal.{JournalContent, snapshot_lines, shut_text, journal_text, stored_behind, journal_content}
+use Rattle.line_journal.proofs.Common.{Option, Some, None, IfSome, AllByRecursion, cases_eq, ne_eqb, cond-true, cond-false, eq-eqb, append-nil, drop_at, IsLine, marked_lines, records, JournalContent, snapshot_lines, shut_text, journal_text, stored_behind, journal_content}
 use Rattle.line_journal.proofs.LineLaws.{marked_records, closed, open_end, parts, records_append}
 
 abbrev pub AreLines : List (List ℕ) → Type 0

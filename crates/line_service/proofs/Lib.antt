@@ -1,3 +1,4 @@
+mod Common
 pub mod FrontLemmas
 pub mod LeftLemmas
 pub mod StepLemmas

@@ -1,29 +1,11 @@
 -- What a line is answered.
-use Rattle.run_model.specs.Starts.{Start}
+use Rattle.line_service.proofs.Common.{Start, nat_tests, Appends, Appends-nil, Appends-trans, PlantFields, Step, Out, CoreView, IsAfterFrom, LineStep, TooLong, steps_without_numbers, outs_text, LineOutcome, StepsEnd, line_outcome, LineRun, steps_said, end_text, IsEndAt, IsNotDone, EndsAs, IsStepsEndAt, HasDone, IsHeld, HasAnswered, LineIsAnswered}
 use Rattle.std.proofs.Common.{◌≡◌, inl, inr, ℕ, List, [], ◌++◌, take, length, arith, ◌<◌, ◌≤◌, Bool, true, false, nat_le, Option, Some, None, Ok, Err, refl, sym, subst, ◌∙◌, append-nil}
-use Rattle.std.proofs.lemmas.Bool.Decides.{nat_tests}
 use Rattle.std.specs.Prelude.{slice_get}
-use Rattle.std.specs.Io.KnownBytes.{Appends}
-use Rattle.std.proofs.KnownBytes.{Appends-nil, Appends-trans}
-use Rattle.plant.specs.declared.plant.PlantFields.{PlantFields}
-use Rattle.run_model.specs.declared.step.Step.{Step}
-use Rattle.run_model.specs.declared.step.Out.{Out}
-use Rattle.run_model.specs.IsStateAfter.{CoreView}
-use Rattle.live_core.specs.After.{IsAfterFrom}
 use Rattle.script_format.specs.declared.fields.FieldError.{FieldError}
-use Rattle.script_format.specs.declared.script.LineStep.{LineStep}
-use Rattle.script_format.specs.declared.fields.FieldError.TheVariants.{TooLong}
 use Rattle.script_format.specs.Fields.{FieldResult}
-use Rattle.script_format.specs.Script.{steps_without_numbers}
-use Rattle.script_format.specs.Text.{outs_text}
-use Rattle.line_service.specs.declared.line_outcome.LineOutcome.{LineOutcome}
 use Rattle.line_service.specs.declared.line_outcome.LineOutcome.TheVariants.{AtFault, NoMemory}
-use Rattle.line_service.specs.declared.steps_end.StepsEnd.{StepsEnd}
 use Rattle.line_service.specs.declared.steps_end.StepsEnd.TheVariants as ends
-use Rattle.line_service.specs.Ends.{line_outcome}
-use Rattle.line_service.specs.Service.{LineRun, steps_said, end_text, IsEndAt, IsNotDone, EndsAs}
-use Rattle.line_service.specs.Steps.{IsStepsEndAt, HasDone}
-use Rattle.line_service.specs.SoFar.{IsHeld, HasAnswered, LineIsAnswered}
 
 -- a line ends as its steps do
 ends_so : (live : CoreView) (next : Option LineStep) (end : StepsEnd) → IsStepsEndAt live next end → IsEndAt live next (line_outcome end)

@@ -1,16 +1,10 @@
 -- Reading a line.
 use Rattle.std.proofs.Common.{◌≡◌, ◌<◌, ◌≤◌, ℕ, zero, suc, ◌+◌, ◌==◌, Bool, true, false, List, [], ◌∷◌, ◌++◌, length, take, drop, Option, Some, None, IfSome, refl, sym, ap, subst, ◌∙◌, arith, append_assoc, append-nil, add-one, take-append-drop}
 use Rattle.std.specs.Io.{StartsWith}
-use Rattle.std.specs.Io.KnownBytes.{Keeps}
-use Rattle.std.specs.Io.BufRead.{DropsConsumable}
+use Rattle.line_service.proofs.Common.{Keeps, DropsConsumable, drop_all, drop-append-le, Another, End, WhereKnown, IsPartRead, IsLineRead, IsHeld}
 use Rattle.std.proofs.lemmas.Bool.{false_from_ne_true}
-use Rattle.std.proofs.lemmas.List.{drop_all, drop-append-le}
 use Rattle.memchr.specs.Find.{Nowhere, NoneBefore, Passes, is_byte}
 use Rattle.script_format.specs.Lines.{parts_of, parts_from}
-use Rattle.line_service.specs.declared.line_break.LineBreak.TheVariants.{Another, End}
-use Rattle.line_service.specs.Bytes.{WhereKnown}
-use Rattle.line_service.specs.Lines.{IsPartRead, IsLineRead}
-use Rattle.line_service.specs.SoFar.{IsHeld}
 
 -- ---- bytes of a line
 

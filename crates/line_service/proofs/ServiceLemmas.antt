@@ -1,21 +1,7 @@
 -- The lines of a service, one after the other.
-use Rattle.run_model.specs.Starts.{Start}
+use Rattle.line_service.proofs.Common.{Start, Appends, Appends-nil, Appends-trans, flat_map-append, PlantFields, Step, Out, CoreView, IsAfterFrom, lines_of, LineBreak, WhereKnown, lines_left, IsLineRead, LineRun, answer_text, IsAnswer, AreAnswered, service_text, all_done, all_told, IsServiceOf, ServiceIsShown, IsHeld, LineIsAnswered, IsServedSoFar}
 use Rattle.std.proofs.Common.{◌≡◌, ℕ, suc, ◌+◌, length, arith, Bool, List, [], ◌∷◌, ◌++◌, Option, Some, None, IfSome, refl, sym, ap, subst, ◌∙◌, append_assoc, append-nil, length-append}
-use Rattle.std.specs.Io.KnownBytes.{Appends}
-use Rattle.std.proofs.KnownBytes.{Appends-nil, Appends-trans}
-use Rattle.std.proofs.lemmas.Grind.{flat_map-append}
-use Rattle.plant.specs.declared.plant.PlantFields.{PlantFields}
-use Rattle.run_model.specs.declared.step.Step.{Step}
-use Rattle.run_model.specs.declared.step.Out.{Out}
-use Rattle.run_model.specs.IsStateAfter.{CoreView}
-use Rattle.live_core.specs.After.{IsAfterFrom}
 use Rattle.live_core.proofs.LawLemmas.{live_shown, live_ordered}
-use Rattle.script_format.specs.Lines.{lines_of}
-use Rattle.line_service.specs.declared.line_break.LineBreak.{LineBreak}
-use Rattle.line_service.specs.Bytes.{WhereKnown}
-use Rattle.line_service.specs.Lines.{lines_left, IsLineRead}
-use Rattle.line_service.specs.Service.{LineRun, answer_text, IsAnswer, AreAnswered, service_text, all_done, all_told, IsServiceOf, ServiceIsShown}
-use Rattle.line_service.specs.SoFar.{IsHeld, LineIsAnswered, IsServedSoFar}
 
 -- ---- one line more
 

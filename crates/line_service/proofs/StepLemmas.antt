@@ -1,26 +1,9 @@
 -- The steps of a line, one after the other.
-use Rattle.run_model.specs.Starts.{Start, first_start}
+use Rattle.line_service.proofs.Common.{Start, first_start, Appends, Appends-nil, Appends-trans, map-append, flat_map-append, PlantFields, Step, Out, CoreView, step_fault, IsReported, IsAfter, IsAfterFrom, IsReachableFromStart, LineStep, steps_without_numbers, out_line, outs_text, StepsEnd, IsHalfDone, steps_end, IsStepsEndAt, HasDone}
 use Rattle.std.proofs.Common.{◌≡◌, ◌≢◌, Result, Ok, OnOk, OnErr, ℕ, zero, suc, List, [], ◌∷◌, ◌++◌, take, Option, Some, IsSome, Err, refl, sym, ap, subst, ◌∙◌, append_assoc, append-nil}
-use Rattle.std.specs.Io.KnownBytes.{Appends}
-use Rattle.std.proofs.KnownBytes.{Appends-nil, Appends-trans}
-use Rattle.std.proofs.lemmas.List.{map-append}
-use Rattle.std.proofs.lemmas.Grind.{flat_map-append}
-use Rattle.plant.specs.declared.plant.PlantFields.{PlantFields}
-use Rattle.run_model.specs.declared.step.Step.{Step}
-use Rattle.run_model.specs.declared.step.Out.{Out}
-use Rattle.run_model.specs.IsStateAfter.{CoreView}
 use Rattle.live_core.specs.declared.core_fault.CoreFault.{CoreFault}
 use Rattle.live_core.specs.declared.core_fault.CoreFault.TheVariants.{UnknownModem, UnknownOperator, Book, Gather, NothingToCollect, NoMemory, Reslice}
-use Rattle.live_core.specs.Faults.{step_fault, IsReported}
-use Rattle.live_core.specs.After.{IsAfter, IsAfterFrom, IsReachableFromStart}
-use Rattle.script_format.specs.declared.script.LineStep.{LineStep}
-use Rattle.script_format.specs.Script.{steps_without_numbers}
-use Rattle.script_format.specs.Text.{out_line, outs_text}
-use Rattle.line_service.specs.declared.steps_end.StepsEnd.{StepsEnd}
 use Rattle.line_service.specs.declared.steps_end.StepsEnd.TheVariants as ends
-use Rattle.line_service.specs.SoFar.{IsHalfDone}
-use Rattle.line_service.specs.Ends.{steps_end}
-use Rattle.line_service.specs.Steps.{IsStepsEndAt, HasDone}
 use Rattle.line_service.proofs.LeftLemmas.{first_left, none_left, take_next, drop_next}
 
 -- ---- one step more

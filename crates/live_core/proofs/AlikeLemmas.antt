@@ -1,22 +1,9 @@
 -- What is gathered goes on alike, whatever is put, and whatever slices are given.
 use Rattle.std.proofs.Common.{◌≡◌, ℕ, ◌+◌, ◌<◌, ◌≤◌, List, [], ◌∷◌, ◌++◌, length, map, reverse, drop, Bool, true, false, cond, refl, sym, ap, ◌∙◌, subst, arith, ltb, leb, Option, Some, None, append_assoc, All}
-use Rattle.std.specs.Prelude.{slice_get, if◌then◌else◌}
-use Rattle.std.specs.List.{find}
-use Rattle.std.proofs.lemmas.List.{reverse-append}
-use Rattle.std.proofs.lemmas.List.Elements.{All-push, recursion_from_All, All-from_recursion}
-use Rattle.std.proofs.lemmas.Bool.{ltb-false}
-use Rattle.slice_scheduler.specs.Minislots.{Minislots}
-use Rattle.slice_scheduler.specs.declared.elements.ElementsFields.{ElementsFields}
-use Rattle.map_assembly.specs.declared.map_bytes.MapBytes.{MapBytes}
+use Rattle.live_core.proofs.Common.{slice_get, if◌then◌else◌, find, reverse-append, All-push, recursion_from_All, All-from_recursion, ltb-false, Minislots, ElementsFields, MapBytes, Reslicing, GatherFault, AreSlices, Gathering, slices_or, slices_at, frame_slices, queue_of, fits_at, is_part, put_fault, with_part, fronts, is_last, after_put, IsGathering, MayReslice, gathering_after_reslice, GoesOnAlike, queued-agree}
 use Rattle.map_assembly.specs.declared.quota.Quota.{Quota}
-use Rattle.map_assembly.specs.declared.slicing.Reslicing.{Reslicing}
-use Rattle.map_assembly.specs.declared.refused.GatherFault.{GatherFault}
 use Rattle.map_assembly.specs.declared.refused.GatherFault.TheVariants.{Stranger, Old, PutTwice, Early, WrongSlice}
-use Rattle.map_assembly.specs.Plan.{AreSlices}
-use Rattle.map_assembly.specs.Gathering.{Gathering, slices_or, slices_at, frame_slices, queue_of, fits_at, is_part, put_fault, with_part, fronts, is_last, after_put, IsGathering, MayReslice, gathering_after_reslice}
 use Rattle.map_assembly.specs.Assembled.{IsPutResult, IsMapOf}
-use Rattle.map_assembly.specs.LettingGo.{GoesOnAlike}
-use Rattle.map_assembly.proofs.NewLemmas.{queued-agree}
 
 -- ---- a part is refused alike
 

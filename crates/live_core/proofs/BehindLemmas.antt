@@ -1,26 +1,7 @@
 -- Behind a live core stands a core with histories, which does the same.
 use Rattle.std.proofs.Common.{◌≡◌, ℕ, zero, suc, ◌+◌, List, [], ◌∷◌, length, map, Option, Some, None, option_map, refl, sym, ap, ap₂, subst, ◌∙◌, arith}
-use Rattle.std.specs.Prelude.{slice_get}
-use Rattle.std.proofs.lemmas.List.{length-map}
-use Rattle.std.proofs.lemmas.Option.{slice_get-map, slice_get_within, same_Some}
-use Rattle.slice_scheduler.specs.declared.elements.ElementsFields.{ElementsFields}
-use Rattle.plant.specs.declared.operator_row.RowFields.{RowFields}
-use Rattle.plant.specs.declared.plant.PlantFields.{PlantFields}
-use Rattle.operator_model.specs.declared.action.Action.{Action}
+use Rattle.live_core.proofs.Common.{slice_get, length-map, slice_get-map, slice_get_within, same_Some, ElementsFields, RowFields, PlantFields, Action, Operator, operator, own_step, after_step, own_run, MayRun, BookView, AreTold, actions_of, Step, Out, own_steps, Start, IsStart, CoreView, IsBookFrom, IsStateAfterFrom, told_may, some_at, forgotten, IsOf, IsOperatorFrom, IsAfterFrom}
 use Rattle.operator_model.specs.declared.action.Entry.{Entry}
-use Rattle.operator_model.specs.State.{Operator, operator}
-use Rattle.operator_model.specs.Machine.{own_step, after_step, own_run}
-use Rattle.operator_model.specs.Slices.{MayRun}
-use Rattle.operator_model.specs.Replay.{BookView, AreTold, actions_of}
-use Rattle.run_model.specs.declared.step.Step.{Step}
-use Rattle.run_model.specs.declared.step.Out.{Out}
-use Rattle.run_model.specs.OwnSteps.{own_steps}
-use Rattle.run_model.specs.Starts.{Start, IsStart}
-use Rattle.run_model.specs.IsStateAfter.{CoreView, IsBookFrom, IsStateAfterFrom}
-use Rattle.run_model.proofs.OwnFrames.{told_may}
-use Rattle.run_model.proofs.Entries.{some_at}
-use Rattle.live_core.specs.Performing.{forgotten, IsOf}
-use Rattle.live_core.specs.After.{IsOperatorFrom, IsAfterFrom}
 
 -- ---- a book behind one without its history
 

@@ -1,13 +1,9 @@
 -- Cached pairs stay right.
 use Rattle.std.proofs.Common.{◌≡◌, ℕ, Bool, true, List, Result, Ok, Err, Some, OnOk, OnErr, sym, ap, subst, ◌∙◌, inl, inr}
 use Rattle.std.specs.Map.{lookup}
-use Rattle.std.proofs.lemmas.Slice.Eq.{bytes_eq-Decides}
+use Rattle.live_core.proofs.Common.{bytes_eq-Decides, Modem, RowFields, same_modem, holder}
 use Rattle.lru.specs.LruCache.{LruCache, lru_cache, promoted, put_entries}
 use Rattle.lru.proofs.CallerLemmas.{Contains-promoted, Contains-lookup, Contains-put_entries}
-use Rattle.dsx_messages.specs.declared.modem.Modem.{Modem}
-use Rattle.plant.specs.declared.operator_row.RowFields.{RowFields}
-use Rattle.plant.specs.Row.{same_modem}
-use Rattle.plant.specs.Roster.{holder}
 use Rattle.live_core.specs.Cached.{AreHolders}
 
 same_is_equal : (a b : Modem) → same_modem a b ≡ true → a ≡ b

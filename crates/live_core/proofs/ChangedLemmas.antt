@@ -1,9 +1,6 @@
 -- Operators of a core at rest, resumed under another plant.
 use Rattle.std.proofs.Common.{◌≡◌, refl, sym, ap, ◌∙◌, arith}
-use Rattle.std.proofs.lemmas.Option.{slice_get_within}
-use Rattle.plant.specs.declared.operator_row.RowFields.{RowFields}
-use Rattle.operator_model.specs.State.{opened_before}
-use Rattle.run_model.proofs.Entries.{some_at}
+use Rattle.live_core.proofs.Common.{slice_get_within, RowFields, opened_before, some_at}
 use Rattle.live_core.specs.Changed.{ResumedIsChanged}
 use Rattle.live_core.proofs.ResumeLemmas.{operator_at, resumed_starts}
 use Rattle.live_core.proofs.RestLemmas.{book_at_place, stands_now, rests_at}

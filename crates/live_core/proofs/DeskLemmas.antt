@@ -1,8 +1,6 @@
 -- An action outputs one frame at most.
 use Rattle.std.proofs.Common.{◌≡◌, ℕ, Bool, true, false, List, [], ◌∷◌, length, Some, None, refl, sym, ap, ◌∙◌}
-use Rattle.std.specs.Prelude.{slice_get, ◌==◌, IsSome}
-use Rattle.slice_scheduler.specs.declared.elements.ElementsFields.{ElementsFields}
-use Rattle.live_core.specs.Faults.{collect_fault}
+use Rattle.live_core.proofs.Common.{slice_get, ◌==◌, IsSome, ElementsFields, collect_fault}
 
 -- a frame waits where the queue is not empty
 pub some_wait : {X : Type 0} (xs : List X) (n : ℕ) (empty : Bool) → n ≡ length xs → empty ≡ (n == 0) → empty ≡ false → IsSome (slice_get xs 0)

@@ -1,9 +1,6 @@
 -- The desks of a core, of which one acts, whatever a desk is.
 use Rattle.std.proofs.Common.{◌≡◌, ℕ, ◌<◌, List, map, length, get_or, slice_set, Some, Result, OnOk, OnErr}
-use Rattle.std.specs.Prelude.{slice_get}
-use Rattle.std.proofs.lemmas.Result.{on_ok_weaker, on_err_weaker}
-use Rattle.slice_scheduler.specs.declared.elements.ElementsFields.{ElementsFields}
-use Rattle.operator_model.specs.Replay.{BookView}
+use Rattle.live_core.proofs.Common.{slice_get, on_ok_weaker, on_err_weaker, ElementsFields, BookView}
 use Rattle.live_core.proofs.PlaceLemmas.{seen_at, set_alike, set_seen}
 
 -- what a map sees of all desks, when one has acted or was left as it was

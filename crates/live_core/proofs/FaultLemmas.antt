@@ -1,27 +1,12 @@
 -- A core refuses the same steps without its histories.
 use Rattle.std.proofs.Common.{◌≡◌, ℕ, ◌+◌, ◌==◌, List, [], ◌∷◌, length, map, Option, Some, None, if◌then◌else◌, option_map, refl, sym, ap, ap₂, ◌∙◌}
-use Rattle.std.specs.Prelude.{slice_get}
-use Rattle.std.proofs.lemmas.List.{length-map}
-use Rattle.std.proofs.lemmas.Option.{slice_get-map}
-use Rattle.plant.specs.declared.plant.PlantFields.{PlantFields}
-use Rattle.plant.specs.Roster.{holder}
-use Rattle.operator_model.specs.declared.action.SliceRow.{SliceRow}
-use Rattle.operator_model.specs.declared.action.Action.{Action}
+use Rattle.live_core.proofs.Common.{slice_get, length-map, slice_get-map, PlantFields, holder, SliceRow, Action, Unfit, unfit_from, BookView, operator_of_book, ElementsFields, Step, CoreView, act_fault, arrive_fault, collect_fault, step_fault, is_unfit, least_unfit, least_meeting, first_fault, row_fault, reslice_fault, forgotten, IsOf}
 use Rattle.operator_model.specs.declared.action.Action.TheVariants as actions
-use Rattle.operator_model.specs.declared.action.Unfit.{Unfit}
 use Rattle.operator_model.specs.declared.action.Unfit.TheVariants as unfits
-use Rattle.operator_model.specs.Machine.{unfit_from}
-use Rattle.operator_model.specs.Replay.{BookView, operator_of_book}
-use Rattle.slice_scheduler.specs.declared.elements.ElementsFields.{ElementsFields}
-use Rattle.run_model.specs.declared.step.Step.{Step}
 use Rattle.run_model.specs.declared.step.Step.TheVariants as steps
-use Rattle.run_model.specs.IsStateAfter.{CoreView}
 use Rattle.live_core.specs.declared.core_fault.CoreFault.TheVariants.{Reslice}
 use Rattle.live_core.specs.declared.core_fault.ResliceFault.{ResliceFault}
 use Rattle.live_core.specs.declared.core_fault.ResliceFault.TheVariants as found
-use Rattle.live_core.specs.Faults.{act_fault, arrive_fault, collect_fault, step_fault}
-use Rattle.live_core.specs.Reslicing.{is_unfit, least_unfit, least_meeting, first_fault, row_fault, reslice_fault}
-use Rattle.live_core.specs.Performing.{forgotten, IsOf}
 
 -- ---- other slices
 

@@ -1,8 +1,6 @@
 -- Two lists whose elements look the same, one by one.
 use Rattle.std.proofs.Common.{◌≡◌, ◌≢◌, ℕ, ◌+◌, ◌<◌, List, [], ◌∷◌, ◌++◌, map, length, take, get_or, Some, option_map, refl, sym, ap, ap₂, ◌∙◌}
-use Rattle.std.specs.Prelude.{slice_get}
-use Rattle.std.proofs.lemmas.List.{map-append, take_more}
-use Rattle.std.proofs.lemmas.Option.{slice_get-map, slice_get_read}
+use Rattle.live_core.proofs.Common.{slice_get, map-append, take_more, slice_get-map, slice_get_read}
 
 pub map_more : {X Y Z : Type 0} (f : X → Z) (g : Y → Z) (xs more : List X) (ys : List Y) (n m : ℕ) (x : X) (y : Y) → more ≡ xs ++ x ∷ [] → m ≡ n + 1 → n < length ys → y ≡ get_or ys n y
     → f x ≡ g y → map f xs ≡ map g (take n ys) → map f more ≡ map g (take m ys)

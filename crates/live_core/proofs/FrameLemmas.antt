@@ -1,18 +1,10 @@
 -- An action outputs one frame at most.
 use Rattle.std.proofs.Common.{◌≡◌, ℕ, zero, suc, ◌+◌, ◌≤◌, List, [], ◌∷◌, ◌++◌, length, Some, None, refl, sym, ap, ◌∙◌, append-nil, arith}
-use Rattle.std.specs.Prelude.{filter_map, slice_get, count_by}
-use Rattle.std.specs.List.{range_with_len}
-use Rattle.plant.specs.declared.consts.ConstsFields.{ConstsFields}
-use Rattle.plant.specs.declared.operator_row.RowFields.{RowFields}
-use Rattle.operator_model.specs.declared.action.Action.{Action}
+use Rattle.live_core.proofs.Common.{filter_map, slice_get, count_by, range_with_len, ConstsFields, RowFields, Action, Output, OperatorState, operator, own_step, frames_of}
 use Rattle.operator_model.specs.declared.action.Action.TheVariants.{Arrive, Work, Tick, Reslice}
-use Rattle.operator_model.specs.declared.output.Output.{Output}
 use Rattle.operator_model.specs.declared.output.Output.TheVariants.{Reply, Silent, Frame}
-use Rattle.operator_model.specs.State.{OperatorState, operator}
-use Rattle.operator_model.specs.Machine.{own_step}
 use Rattle.operator_model.specs.Frames.{frame_number, is_tick}
 use Rattle.operator_model.proofs.FrameLemmas.{run_puts}
-use Rattle.run_model.specs.IsStateAfter.{frames_of}
 
 pub first_none : {X : Type 0} (xs : List X) → slice_get xs 0 ≡ None → xs ≡ []
 first_none [] h = refl

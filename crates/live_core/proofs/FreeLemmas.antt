@@ -1,22 +1,9 @@
 -- Slices that have no fault.
 use Rattle.std.proofs.Common.{◌≡◌, ℕ, zero, suc, ◌+◌, ◌==◌, Bool, true, false, cond, List, [], ◌∷◌, length, AllPairs, Option, Some, None, option_map, refl, sym, ◌∙◌}
-use Rattle.std.specs.Prelude.{slice_get, if◌then◌else◌}
+use Rattle.live_core.proofs.Common.{slice_get, if◌then◌else◌, AllByRecursion, position_from, eqb-true, none-some, same_Some, slices_overlap, SliceRow, Unfit, unfit_from, BookView, operator_of_book, PairsByRecursion, AllPairs-from_pairs, slice_of, is_unfit, least_unfit, do_meet, least_meeting, row_fault, reslice_fault, NoneRefuses}
 use Rattle.std.specs.Option.{option_or}
-use Rattle.std.specs.List.{AllByRecursion, position_from}
-use Rattle.std.proofs.lemmas.Bool.{eqb-true}
-use Rattle.std.proofs.lemmas.Option.{none-some, same_Some}
-use Rattle.slice_scheduler.specs.Minislots.{slices_overlap}
-use Rattle.operator_model.specs.declared.action.SliceRow.{SliceRow}
-use Rattle.operator_model.specs.declared.action.Unfit.{Unfit}
 use Rattle.operator_model.specs.declared.action.Unfit.TheVariants as unfits
-use Rattle.operator_model.specs.Machine.{unfit_from}
-use Rattle.operator_model.specs.Replay.{BookView, operator_of_book}
-use Rattle.map_assembly.proofs.OrderLemmas.{PairsByRecursion}
-use Rattle.map_assembly.proofs.NewLemmas.{AllPairs-from_pairs}
-use Rattle.run_model.specs.OwnSteps.{slice_of}
 use Rattle.live_core.specs.declared.core_fault.ResliceFault.TheVariants as faults
-use Rattle.live_core.specs.Reslicing.{is_unfit, least_unfit, do_meet, least_meeting, row_fault, reslice_fault}
-use Rattle.run_model.specs.Steps.{NoneRefuses}
 
 neither : {X Y : Type 0} (f : X → Y) (o : Option X) (p : Option Y) → option_or (option_map f o) p ≡ None → (o ≡ None) × (p ≡ None)
 neither f None p h = (refl, h)

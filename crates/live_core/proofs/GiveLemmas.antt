@@ -1,14 +1,6 @@
 -- Other slices, given desk by desk.
 use Rattle.std.proofs.Common.{◌≡◌, ℕ, ◌+◌, ◌<◌, ◌≤◌, List, length, map, get_or, Option, Some, option_map, ◌⊎◌, inl, inr, refl, sym, ap, ◌∙◌, arith}
-use Rattle.std.specs.Prelude.{slice_get, slice_set}
-use Rattle.std.proofs.lemmas.List.{length-map, length-set}
-use Rattle.std.proofs.lemmas.Bool.{cases_eq}
-use Rattle.std.proofs.lemmas.Option.{slice_get-map, slice_get_read, same_Some, slice_get_within}
-use Rattle.slice_scheduler.specs.declared.elements.ElementsFields.{ElementsFields}
-use Rattle.operator_model.specs.declared.action.SliceRow.{SliceRow}
-use Rattle.operator_model.specs.Replay.{BookView}
-use Rattle.run_model.proofs.Entries.{get_same, get_other}
-use Rattle.live_core.specs.Giving.{HaveTakenAs}
+use Rattle.live_core.proofs.Common.{slice_get, slice_set, length-map, length-set, cases_eq, slice_get-map, slice_get_read, same_Some, slice_get_within, ElementsFields, SliceRow, BookView, get_same, get_other, HaveTakenAs}
 use Rattle.live_core.proofs.PlaceLemmas.{seen_at, set_alike}
 
 -- ---- so far

@@ -1,53 +1,16 @@
 -- What one step makes of a live core, it makes of each core of which that is held.
 use Rattle.std.proofs.Common.{◌≡◌, ℕ, zero, suc, ◌<◌, List, [], ◌∷◌, ◌++◌, length, map, get_or, Option, Some, None, option_map, refl, sym, ap, ap₂, subst, ◌∙◌, arith}
-use Rattle.std.specs.Prelude.{slice_get, slice_set}
-use Rattle.std.proofs.lemmas.List.{map-set, length-map}
-use Rattle.std.proofs.lemmas.List.Elements.{All-pop}
-use Rattle.std.proofs.lemmas.Option.{slice_get-map, same_Some}
-use Rattle.std.proofs.Math.Logic.{∥∥₁_map, ∥∥₁_elim}
-use Rattle.std.proofs.Props.{props}
-use Rattle.slice_scheduler.specs.Minislots.{Minislots}
-use Rattle.slice_scheduler.specs.declared.elements.ElementsFields.{ElementsFields}
-use Rattle.plant.specs.declared.consts.ConstsFields.{ConstsFields}
-use Rattle.plant.specs.declared.operator_row.RowFields.{RowFields}
-use Rattle.plant.specs.declared.plant.PlantFields.{PlantFields}
-use Rattle.plant.specs.Plant.{IsPlant}
-use Rattle.operator_model.specs.declared.action.SliceRow.{SliceRow}
-use Rattle.operator_model.specs.declared.action.Action.{Action}
+use Rattle.live_core.proofs.Common.{slice_get, slice_set, map-set, length-map, All-pop, slice_get-map, same_Some, ∥∥₁_map, ∥∥₁_elim, props, Minislots, ElementsFields, ConstsFields, RowFields, PlantFields, IsPlant, SliceRow, Action, operator, own_step, IsAllowed, BookView, book_after_action, MapBytes, GatherFault, AreSlices, Gathering, gathering_of, put_fault, after_put, gathering_after_reslice, IsGathering, MayReslice, GoesOnAlike, holder, Step, Out, outputs_under, slice_of, Reslicing, Start, first_start, IsStart, opened_core, started_book, started_core, gathering_from, target, CoreView, frames_of, Acts, Collects, Reslices, Steps, told_map, step_from, core_of, HaveTakenAs, reslice_fault, forgotten, went, IsOf, Performs, IsAfter, IsAfterFrom, IsReachableFromStart}
 use Rattle.operator_model.specs.declared.action.Action.TheVariants as actions
-use Rattle.operator_model.specs.State.{operator}
-use Rattle.operator_model.specs.Machine.{own_step, IsAllowed}
-use Rattle.operator_model.specs.Replay.{BookView, book_after_action}
-use Rattle.map_assembly.specs.declared.map_bytes.MapBytes.{MapBytes}
-use Rattle.map_assembly.specs.declared.refused.GatherFault.{GatherFault}
-use Rattle.map_assembly.specs.Plan.{AreSlices}
-use Rattle.map_assembly.specs.Gathering.{Gathering, gathering_of, put_fault, after_put, gathering_after_reslice, IsGathering, MayReslice}
-use Rattle.map_assembly.specs.LettingGo.{GoesOnAlike}
 use Rattle.map_assembly.proofs.GoneLemmas.{alike_again, alike_self}
-use Rattle.plant.specs.Roster.{holder}
-use Rattle.run_model.specs.declared.step.Step.{Step}
 use Rattle.run_model.specs.declared.step.Step.TheVariants as steps
-use Rattle.run_model.specs.declared.step.Out.{Out}
-use Rattle.run_model.specs.OwnSteps.{outputs_under, slice_of}
-use Rattle.map_assembly.specs.declared.slicing.Reslicing.{Reslicing}
-use Rattle.run_model.specs.Starts.{Start, first_start, IsStart}
-use Rattle.run_model.specs.Opened.{opened_core, started_book, started_core, gathering_from}
-use Rattle.run_model.specs.Ordered.{target}
-use Rattle.run_model.specs.IsStateAfter.{CoreView, frames_of}
-use Rattle.run_model.specs.Steps.{Acts, Collects, Reslices, Steps, told_map}
-use Rattle.run_model.proofs.OneStep.{step_from}
 use Rattle.run_model.proofs.Opening.{started_reached}
 use Rattle.run_model.proofs.Fits.{fits_from, opened_starts}
 use Rattle.run_model.proofs.Anew.{anew_from}
-use Rattle.live_core.specs.Reachable.{core_of}
-use Rattle.live_core.specs.Giving.{HaveTakenAs}
-use Rattle.live_core.specs.Reslicing.{reslice_fault}
 use Rattle.live_core.proofs.FreeLemmas.{AreFree, are_free}
 use Rattle.live_core.proofs.ReachLemmas.{step_acts}
 use Rattle.live_core.proofs.PlaceLemmas.{seen_at, set_alike, set_seen}
 use Rattle.live_core.specs.Putting.{FitsOldest, PutsOldest}
-use Rattle.live_core.specs.Performing.{forgotten, went, IsOf, Performs}
-use Rattle.live_core.specs.After.{IsAfter, IsAfterFrom, IsReachableFromStart}
 use Rattle.live_core.proofs.BehindLemmas.{found, behind, after_of}
 use Rattle.live_core.proofs.AlikeLemmas.{same_fault, same_answer, alike_put, held_put, alike_resliced, held_resliced, may_too}
 

@@ -1,13 +1,6 @@
 -- The least operator that refuses its row, place by place.
 use Rattle.std.proofs.Common.{◌≡◌, ℕ, ◌+◌, ◌≤◌, Bool, true, false, List, [], ◌∷◌, length, get_or, drop, Option, Some, None, refl, sym, ap, ap₂, ◌∙◌}
-use Rattle.std.specs.Prelude.{slice_get, if◌then◌else◌}
-use Rattle.std.proofs.lemmas.List.{drop_more, drop_all}
-use Rattle.std.proofs.lemmas.Option.{same_Some, slice_get_within, slice_get-get_or}
-use Rattle.operator_model.specs.declared.action.SliceRow.{SliceRow}
-use Rattle.operator_model.specs.declared.action.Unfit.{Unfit}
-use Rattle.operator_model.specs.Machine.{unfit_from}
-use Rattle.operator_model.specs.Replay.{BookView, operator_of_book}
-use Rattle.live_core.specs.Reslicing.{is_unfit, least_unfit}
+use Rattle.live_core.proofs.Common.{slice_get, if◌then◌else◌, drop_more, drop_all, same_Some, slice_get_within, slice_get-get_or, SliceRow, Unfit, unfit_from, BookView, operator_of_book, is_unfit, least_unfit}
 
 -- the list from a place on
 from_here : {X : Type 0} (xs : List X) (n : ℕ) (x : X) → slice_get xs n ≡ Some x → drop n xs ≡ x ∷ drop (n + 1) xs

@@ -1,14 +1,7 @@
 -- Laws of a live core's runs.
 use Rattle.std.proofs.Common.{List}
-use Rattle.plant.specs.declared.plant.PlantFields.{PlantFields}
-use Rattle.run_model.specs.declared.step.Step.{Step}
-use Rattle.run_model.specs.declared.step.Out.{Out}
-use Rattle.run_model.specs.Starts.{Start}
-use Rattle.run_model.specs.Ordered.{OrderedFrom}
-use Rattle.run_model.specs.IsStateAfter.{CoreView}
-use Rattle.run_model.specs.IsTraceOf.{IsTraceFrom}
+use Rattle.live_core.proofs.Common.{PlantFields, Step, Out, Start, OrderedFrom, CoreView, IsTraceFrom, IsAfterFrom, TwoLiveCores, TwoResumedCores}
 use Rattle.run_model.proofs.TwoRuns.{notice_from, notice_same}
-use Rattle.live_core.specs.After.{IsAfterFrom, TwoLiveCores, TwoResumedCores}
 
 pub live_shown : (plant : PlantFields) (start : Start) (steps : List Step) (outs : List Out) (live : CoreView) → IsAfterFrom plant start steps outs live → IsTraceFrom plant start steps outs
 live_shown plant start steps outs live after = after.shown

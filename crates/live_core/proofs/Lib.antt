@@ -1,3 +1,4 @@
+mod Common
 pub mod CachedLemmas
 pub mod PlaceLemmas
 pub mod FollowLemmas

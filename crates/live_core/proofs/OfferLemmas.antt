@@ -1,8 +1,7 @@
 -- What a book's offer says.
 use Rattle.std.proofs.Common.{◌≡◌, ◌↔◌, false, Ok, Err, Option, Some, None, refl, sym}
-use Rattle.operator_model.specs.declared.action.Unfit.{Unfit}
+use Rattle.live_core.proofs.Common.{Unfit, is_unfit}
 use Rattle.operator_model.specs.declared.action.Unfit.TheVariants.{NotPast, Unfinished, OffFrame, BudgetOverSlice, OverBudget}
-use Rattle.live_core.specs.Reslicing.{is_unfit}
 
 no_unfit : (unfit : Unfit) → is_unfit unfit None ≡ false
 no_unfit NotPast = refl

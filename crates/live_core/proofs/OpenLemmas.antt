@@ -1,24 +1,6 @@
 -- Opened operators that are resumed are the plant's core as it is opened.
 use Rattle.std.proofs.Common.{◌≡◌, ℕ, List, [], ◌∷◌, length, map, replicate, Option, Some, option_map, All, refl, sym, ap, ◌∙◌, subst}
-use Rattle.std.specs.Prelude.{slice_get, ◌≢◌}
-use Rattle.std.specs.List.{AllByRecursion}
-use Rattle.std.proofs.lemmas.List.{length-map, map-id}
-use Rattle.std.proofs.lemmas.List.Elements.{recursion_from_All, All-from_recursion}
-use Rattle.std.proofs.lemmas.Option.{slice_get-map}
-use Rattle.plant.specs.declared.consts.ConstsFields.{ConstsFields}
-use Rattle.plant.specs.declared.operator_row.RowFields.{RowFields}
-use Rattle.plant.specs.declared.plant.PlantFields.{PlantFields}
-use Rattle.plant.specs.Plant.{IsPlant}
-use Rattle.operator_model.specs.State.{OperatorState, Operator, operator, opened_state}
-use Rattle.operator_model.specs.Replay.{BookView}
-use Rattle.map_assembly.specs.Part.{quota_of}
-use Rattle.map_assembly.specs.Gathering.{IsGathering}
-use Rattle.map_assembly.proofs.OrderLemmas.{PairsByRecursion, pairs_from_AllPairs, all-map}
-use Rattle.run_model.specs.Starts.{Start}
-use Rattle.run_model.specs.Opened.{opened_core, started_core}
-use Rattle.run_model.specs.IsStateAfter.{CoreView}
-use Rattle.live_core.specs.After.{IsAfter}
-use Rattle.live_core.specs.Resumed.{waiting_among, start_with}
+use Rattle.live_core.proofs.Common.{slice_get, ◌≢◌, AllByRecursion, length-map, map-id, recursion_from_All, All-from_recursion, slice_get-map, ConstsFields, RowFields, PlantFields, IsPlant, OperatorState, Operator, operator, opened_state, BookView, quota_of, IsGathering, PairsByRecursion, pairs_from_AllPairs, all-map, Start, opened_core, started_core, CoreView, IsAfter, waiting_among, start_with}
 use Rattle.live_core.proofs.GoLemmas.{opened_after}
 use Rattle.live_core.proofs.ResumeLemmas.{HaveOwnNames, own_state, map_is, over_map}
 

@@ -1,34 +1,10 @@
 -- A live core of which a part is the same.
 use Rattle.std.proofs.Common.{◌≡◌, ℕ, ◌<◌, List, length, map, get_or, Option, Some, None, sym, ap, ◌∙◌, subst, true, false, refl}
-use Rattle.std.specs.Prelude.{slice_get, slice_set}
-use Rattle.std.proofs.lemmas.Bool.{cond-true}
-use Rattle.std.proofs.lemmas.Option.{some_pair_parts}
-use Rattle.std.proofs.Math.Logic.{∥∥₁_elim}
-use Rattle.std.proofs.Props.{props}
-use Rattle.slice_scheduler.specs.declared.elements.ElementsFields.{ElementsFields}
-use Rattle.plant.specs.declared.operator_row.RowFields.{RowFields}
-use Rattle.plant.specs.declared.plant.PlantFields.{PlantFields}
-use Rattle.plant.specs.Row.{is_listed}
-use Rattle.plant.specs.Roster.{holder}
+use Rattle.live_core.proofs.Common.{slice_get, slice_set, cond-true, some_pair_parts, ∥∥₁_elim, props, ElementsFields, RowFields, PlantFields, is_listed, holder, Modem, Heard, Step, Out, Acts, Steps, Action, stranger_of, BookView, Gathering, has_begun, target, CoreView, core_of, IsOfAStep, Performs, IsReachableFromStart}
 use Rattle.plant.proofs.Holders.{holder_holds}
-use Rattle.dsx_messages.specs.declared.modem.Modem.{Modem}
-use Rattle.operator_model.specs.declared.heard.Heard.{Heard}
 use Rattle.operator_model.specs.declared.action.Action.TheVariants as actions
-use Rattle.run_model.specs.declared.step.Step.{Step}
 use Rattle.run_model.specs.declared.step.Step.TheVariants as steps
-use Rattle.run_model.specs.declared.step.Out.{Out}
-use Rattle.run_model.specs.Steps.{Acts, Steps}
-use Rattle.operator_model.specs.declared.action.Action.{Action}
-use Rattle.operator_model.specs.Machine.{stranger_of}
-use Rattle.operator_model.specs.Replay.{BookView}
-use Rattle.map_assembly.specs.Gathering.{Gathering}
-use Rattle.map_assembly.specs.LettingGo.{has_begun}
-use Rattle.run_model.specs.Ordered.{target}
-use Rattle.run_model.specs.IsStateAfter.{CoreView}
-use Rattle.live_core.specs.Reachable.{core_of, IsOfAStep}
 use Rattle.live_core.proofs.PlaceLemmas.{seen_at, set_alike}
-use Rattle.live_core.specs.Performing.{Performs}
-use Rattle.live_core.specs.After.{IsReachableFromStart}
 use Rattle.live_core.proofs.ReachLemmas.{goes_to}
 
 pub same_plant : (new old : PlantFields) (lives : List BookView) (queues : List (List (ℕ × ElementsFields))) (gathering : Gathering) → new ≡ old → ∥ IsReachableFromStart (core_of old lives queues gathering) ∥₁ → ∥ IsReachableFromStart (core_of new lives queues gathering) ∥₁

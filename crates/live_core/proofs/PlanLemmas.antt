@@ -1,27 +1,8 @@
 -- A plan of an action, and what the core becomes when it is committed.
 use Rattle.std.proofs.Common.{◌≡◌, ℕ, ◌<◌, List, [], ◌++◌, length, map, Result, Ok, Err, IfOk, OnOk, OnErr, Option, Some, None, refl, sym, ap, subst, ◌∙◌, ◌≤◌, arith}
-use Rattle.std.specs.Prelude.{slice_get, slice_set, option_to_list}
-use Rattle.std.proofs.lemmas.List.{length-map}
-use Rattle.std.proofs.lemmas.Option.{same_Some, slice_get_within}
-use Rattle.slice_scheduler.specs.declared.elements.ElementsFields.{ElementsFields}
-use Rattle.plant.specs.declared.plant.PlantFields.{PlantFields}
-use Rattle.plant.specs.Plant.{IsPlant}
-use Rattle.operator_model.specs.declared.action.Action.{Action}
-use Rattle.operator_model.specs.declared.output.Output.{Output}
-use Rattle.operator_model.specs.State.{OperatorState}
-use Rattle.operator_model.specs.Machine.{own_step, IsAllowed}
-use Rattle.operator_model.specs.Replay.{BookView, operator_of_book}
+use Rattle.live_core.proofs.Common.{slice_get, slice_set, option_to_list, length-map, same_Some, slice_get_within, ElementsFields, PlantFields, IsPlant, Action, Output, OperatorState, own_step, IsAllowed, BookView, operator_of_book, Gathering, IsGathering, Out, outputs_under, CoreView, frames_of, Acts, core_of, IsOfAStep, book_of, forgotten, went, Performs, IsReachableFromStart}
 use Rattle.operator_book.specs.Planned.{IsPlanOf, IsCommittable, after_effect}
-use Rattle.map_assembly.specs.Gathering.{Gathering, IsGathering}
-use Rattle.run_model.specs.declared.step.Out.{Out}
-use Rattle.run_model.specs.OwnSteps.{outputs_under}
-use Rattle.run_model.specs.IsStateAfter.{CoreView, frames_of}
-use Rattle.run_model.specs.Steps.{Acts}
 use Rattle.live_core.specs.declared.act_plan.ActPlan.{ActPlan}
-use Rattle.live_core.specs.Reachable.{core_of, IsOfAStep}
-use Rattle.live_core.specs.DeskView.{book_of}
-use Rattle.live_core.specs.Performing.{forgotten, went, Performs}
-use Rattle.live_core.specs.After.{IsReachableFromStart}
 use Rattle.live_core.specs.Planning.{IsActPlan, IsSomeActPlan}
 use Rattle.live_core.proofs.FrameLemmas.{one_frame, first_none, first_alone}
 use Rattle.live_core.proofs.StepLemmas.{same_view}

@@ -1,23 +1,8 @@
 -- A step, and the action of one operator that it may be.
 use Rattle.std.proofs.Common.{◌≡◌, ℕ, List, [], ◌∷◌, ◌++◌, Option, Some, None, sym, ap, subst, ◌∙◌}
-use Rattle.std.proofs.lemmas.Option.{some_pair_parts}
-use Rattle.std.proofs.Math.Logic.{∥∥₁_map}
-use Rattle.dsx_messages.specs.declared.modem.Modem.{Modem}
-use Rattle.plant.specs.declared.plant.PlantFields.{PlantFields}
-use Rattle.plant.specs.Plant.{IsPlant}
-use Rattle.plant.specs.Roster.{holder}
-use Rattle.operator_model.specs.declared.action.Action.{Action}
+use Rattle.live_core.proofs.Common.{some_pair_parts, ∥∥₁_map, Modem, PlantFields, IsPlant, holder, Action, Heard, IsGathering, Step, Out, action_at, target, CoreView, IsStateAfter, Acts, Steps, step_reached, IsReachable, IsOfAStep}
 use Rattle.operator_model.specs.declared.action.Action.TheVariants as actions
-use Rattle.operator_model.specs.declared.heard.Heard.{Heard}
-use Rattle.map_assembly.specs.Gathering.{IsGathering}
-use Rattle.run_model.specs.declared.step.Step.{Step}
 use Rattle.run_model.specs.declared.step.Step.TheVariants as steps
-use Rattle.run_model.specs.declared.step.Out.{Out}
-use Rattle.run_model.specs.Ordered.{action_at, target}
-use Rattle.run_model.specs.IsStateAfter.{CoreView, IsStateAfter}
-use Rattle.run_model.specs.Steps.{Acts, Steps}
-use Rattle.run_model.proofs.OneStep.{step_reached}
-use Rattle.live_core.specs.Reachable.{IsReachable, IsOfAStep}
 
 -- one step more
 pub stepped : (step : Step) (old new : CoreView) (now : List Out) → IsPlant old.plant → IsGathering old.gathering → new.plant ≡ old.plant → Steps step old new now → ∥ IsReachable old ∥₁ → ∥ IsReachable new ∥₁

@@ -1,14 +1,6 @@
 -- The slices of rows that may be given are slices.
 use Rattle.std.proofs.Common.{ℕ, ◌≤◌, List, [], ◌∷◌, map, All, arith}
-use Rattle.std.specs.List.{AllByRecursion}
-use Rattle.std.proofs.lemmas.List.Elements.{recursion_from_All, All-from_recursion}
-use Rattle.operator_model.specs.declared.action.SliceRow.{SliceRow}
-use Rattle.plant.specs.declared.consts.Channel.{Channel}
-use Rattle.map_assembly.specs.Plan.{IsInFrame}
-use Rattle.map_assembly.specs.Gathering.{Gathering, IsGathering, MayReslice}
-use Rattle.map_assembly.proofs.OrderLemmas.{all-map}
-use Rattle.run_model.specs.OwnSteps.{slice_of}
-use Rattle.live_core.specs.Giving.{IsOfASlice}
+use Rattle.live_core.proofs.Common.{AllByRecursion, recursion_from_All, All-from_recursion, SliceRow, Channel, IsInFrame, Gathering, IsGathering, MayReslice, all-map, slice_of, IsOfASlice}
 
 in_range : (channel : Channel) (rows : List SliceRow) → channel.frame_minislots ≤ 4096 → All (IsInFrame channel) (map slice_of rows) → All IsOfASlice rows
 in_range channel rows most h =

@@ -1,21 +1,9 @@
 -- Why a core does not rest.
 use Rattle.std.proofs.Common.{◌≡◌, ℕ, zero, suc, ◌+◌, ◌<◌, ◌≤◌, List, [], ◌∷◌, length, map, take, get_or, Some, sym, ap, ◌∙◌, subst, add-one, arith}
-use Rattle.std.specs.Prelude.{slice_get}
-use Rattle.std.proofs.lemmas.List.{take_all, length-map}
-use Rattle.std.proofs.lemmas.Option.{same_Some}
-use Rattle.std.proofs.Math.Logic.{∥∥₁_elim}
-use Rattle.std.proofs.Props.{props}
-use Rattle.slice_scheduler.specs.declared.elements.ElementsFields.{ElementsFields}
-use Rattle.plant.specs.declared.plant.PlantFields.{PlantFields}
-use Rattle.operator_model.specs.Replay.{BookView}
-use Rattle.map_assembly.specs.Gathering.{Gathering}
-use Rattle.run_model.specs.IsStateAfter.{CoreView}
-use Rattle.live_core.specs.Reachable.{core_of}
+use Rattle.live_core.proofs.Common.{slice_get, take_all, length-map, same_Some, ∥∥₁_elim, props, ElementsFields, PlantFields, BookView, Gathering, CoreView, core_of, IsReachableFromStart, Rests, IsRestless, IsRestFault}
 use Rattle.live_core.proofs.PlaceLemmas.{seen_at}
 use Rattle.live_core.specs.declared.rest_fault.RestFault.{RestFault}
 use Rattle.live_core.specs.declared.rest_fault.RestFault.TheVariants.{FrameWaits, NotAtFrame}
-use Rattle.live_core.specs.After.{IsReachableFromStart}
-use Rattle.live_core.specs.Resting.{Rests, IsRestless, IsRestFault}
 
 -- ---- one machine and one queue for each row
 

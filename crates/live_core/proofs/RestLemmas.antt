@@ -1,22 +1,7 @@
 -- A core at rest.
 use Rattle.std.proofs.Common.{◌≡◌, ℕ, List, [], length, drop, Some, sym, ap, ◌∙◌, arith}
-use Rattle.std.specs.Prelude.{slice_get}
-use Rattle.std.proofs.lemmas.List.{length-drop}
-use Rattle.std.proofs.lemmas.Option.{slice_get_within}
-use Rattle.plant.specs.declared.operator_row.RowFields.{RowFields}
-use Rattle.plant.specs.declared.plant.PlantFields.{PlantFields}
-use Rattle.operator_model.specs.State.{OperatorState}
-use Rattle.operator_model.specs.Replay.{BookView}
-use Rattle.run_model.specs.declared.step.Step.{Step}
-use Rattle.run_model.specs.declared.step.Out.{Out}
-use Rattle.run_model.specs.OwnSteps.{collects_of}
-use Rattle.run_model.specs.Starts.{Start}
-use Rattle.run_model.specs.IsTraceOf.{isolated_run_from}
-use Rattle.run_model.specs.IsStateAfter.{CoreView, frames_of}
+use Rattle.live_core.proofs.Common.{slice_get, length-drop, slice_get_within, RowFields, PlantFields, OperatorState, BookView, Step, Out, collects_of, Start, isolated_run_from, CoreView, frames_of, some_at, IsAfterFrom, Rests, RestingIsAtRest, BooksStandNow}
 use Rattle.run_model.specs.Changing.{RunSoFar, state_now, IsAtRest}
-use Rattle.run_model.proofs.Entries.{some_at}
-use Rattle.live_core.specs.After.{IsAfterFrom}
-use Rattle.live_core.specs.Resting.{Rests, RestingIsAtRest, BooksStandNow}
 
 module _ (plant : PlantFields) (start : Start) (steps : List Step) (outs : List Out) (live : CoreView) (after : IsAfterFrom plant start steps outs live) where
   abbrev since : RunSoFar

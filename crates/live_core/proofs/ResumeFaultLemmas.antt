@@ -1,21 +1,11 @@
 -- Why operators at work are not resumed.
 use Rattle.std.proofs.Common.{◌≡◌, ℕ, ◌<◌, ◌≤◌, List, [], ◌∷◌, length, map, take, get_or, Option, option_map, All, Result, Ok, Err, IfErr, inl, inr, refl, sym, ap, ◌∙◌, subst, arith}
-use Rattle.std.specs.Prelude.{◌≢◌}
+use Rattle.live_core.proofs.Common.{◌≢◌, take-map, length-map, All-nil, All-map, slice_get-map, slice_get_read, Minislots, Channel, PlantFields, Operator, AreSlices, IsFirstInvalid, sound_of, IsAtFrame, WaitsFrom, IsOdd, waits_from, first_from, GoesAlong, GoTogether, IsFirstOdd, IsOddFault, IsSliceFault, IsResumeFault}
 use Rattle.std.specs.Result.{IsErrAnd}
-use Rattle.std.proofs.lemmas.List.{take-map, length-map}
-use Rattle.std.proofs.lemmas.List.Elements.{All-nil, All-map}
-use Rattle.std.proofs.lemmas.Option.{slice_get-map, slice_get_read}
-use Rattle.slice_scheduler.specs.Minislots.{Minislots}
-use Rattle.plant.specs.declared.consts.Channel.{Channel}
-use Rattle.plant.specs.declared.plant.PlantFields.{PlantFields}
-use Rattle.operator_model.specs.State.{Operator}
 use Rattle.operator_book.specs.declared.live.Machine.{Machine}
-use Rattle.map_assembly.specs.Plan.{AreSlices, IsFirstInvalid}
 use Rattle.live_core.specs.declared.resume_fault.ResumeFault.{ResumeFault}
 use Rattle.live_core.specs.declared.resume_fault.ResumeFault.TheVariants.{NotAtFrame, SliceChangesDiffer, BeforeFirstFrame, InvalidSlice, InvalidNextSlice, NoMemory}
-use Rattle.live_core.specs.LiveOperator.{sound_of, IsAtFrame, WaitsFrom, IsOdd}
 use Rattle.live_core.proofs.ResumeLemmas.{over_map}
-use Rattle.live_core.specs.Resumed.{waits_from, first_from, GoesAlong, GoTogether, IsFirstOdd, IsOddFault, IsSliceFault, IsResumeFault}
 
 -- what is reported of an error that is handed on
 pub handed_on : {A E : Type 0} (r : Result A E) (P Q : E → Type 0) → IsErrAnd r P → ((e : E) → P e → Q e) → IfErr r Q

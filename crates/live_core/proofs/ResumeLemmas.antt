@@ -1,41 +1,11 @@
 -- Operators that are at work already start a core.
 use Rattle.std.proofs.Common.{◌≡◌, ℕ, zero, suc, ◌+◌, ◌<◌, ◌≤◌, List, [], ◌∷◌, length, map, replicate, take, get_or, Option, Some, None, option_map, Bool, true, false, All, IfSome, cond, refl, sym, ap, subst, ◌∙◌, arith}
-use Rattle.std.specs.Prelude.{slice_get, ◌≢◌}
+use Rattle.live_core.proofs.Common.{slice_get, ◌≢◌, AllByRecursion, lt-leb, bytes_eq-Decides, length-map, take_all, take_more, recursion_from_All, All-from_recursion, All-nil, All-push, All-map, none-some, same_Some, slice_get-map, slice_get_within, Minislots, ConstsFields, RowFields, PlantFields, IsPlant, OperatorState, Operator, operator, opened_state, BookView, SliceFrom, waiting_slice, Reslicing, quota_of, AreSlices, Gathering, gathering_at, IsGathering, HasPutNoneFrom, MayReslice, gathering_after_reslice, is_from, has_begun, PairsByRecursion, pairs_from_AllPairs, Start, own_of, IsStart, started_book, started_core, gathering_from, CoreView, core_of, ElementsFields, IsAfterFrom, IsReachableFromStart, some_at, at_place, book_of, state_among, slice_later, later_of, waiting_if, waiting_among, start_with, waits_from, MayResume}
 use Rattle.std.specs.Str.{bytes_eq}
-use Rattle.std.specs.List.{AllByRecursion}
-use Rattle.std.proofs.lemmas.Bool.{lt-leb}
-use Rattle.std.proofs.lemmas.Slice.Eq.{bytes_eq-Decides}
-use Rattle.std.proofs.lemmas.List.{length-map, take_all, take_more}
-use Rattle.std.proofs.lemmas.List.Elements.{recursion_from_All, All-from_recursion, All-nil, All-push, All-map}
-use Rattle.std.proofs.lemmas.Option.{none-some, same_Some, slice_get-map, slice_get_within}
-use Rattle.slice_scheduler.specs.Minislots.{Minislots}
-use Rattle.plant.specs.declared.consts.ConstsFields.{ConstsFields}
-use Rattle.plant.specs.declared.operator_row.RowFields.{RowFields}
-use Rattle.plant.specs.declared.plant.PlantFields.{PlantFields}
-use Rattle.plant.specs.Plant.{IsPlant}
 use Rattle.operator_model.specs.declared.share.Share.{Share}
 use Rattle.operator_model.specs.declared.share.NextShare.{NextShare}
-use Rattle.operator_model.specs.State.{OperatorState, Operator, operator, opened_state}
 use Rattle.operator_model.specs.Sound.{IsNextShare, IsSound}
-use Rattle.operator_model.specs.Replay.{BookView}
-use Rattle.operator_model.specs.Slices.{SliceFrom, waiting_slice}
-use Rattle.map_assembly.specs.declared.slicing.Reslicing.{Reslicing}
-use Rattle.map_assembly.specs.Part.{quota_of}
-use Rattle.map_assembly.specs.Plan.{AreSlices}
-use Rattle.map_assembly.specs.Gathering.{Gathering, gathering_at, IsGathering, HasPutNoneFrom, MayReslice, gathering_after_reslice}
-use Rattle.map_assembly.specs.LettingGo.{is_from, has_begun}
-use Rattle.map_assembly.proofs.OrderLemmas.{PairsByRecursion, pairs_from_AllPairs}
-use Rattle.run_model.specs.Starts.{Start, own_of, IsStart}
-use Rattle.run_model.specs.Opened.{started_book, started_core, gathering_from}
-use Rattle.run_model.specs.IsStateAfter.{CoreView}
-use Rattle.live_core.specs.Reachable.{core_of}
-use Rattle.slice_scheduler.specs.declared.elements.ElementsFields.{ElementsFields}
-use Rattle.live_core.specs.After.{IsAfterFrom, IsReachableFromStart}
 use Rattle.live_core.proofs.GoLemmas.{started_after}
-use Rattle.run_model.proofs.Entries.{some_at}
-use Rattle.run_model.proofs.OwnFrames.{at_place}
-use Rattle.live_core.specs.DeskView.{book_of}
-use Rattle.live_core.specs.Resumed.{state_among, slice_later, later_of, waiting_if, waiting_among, start_with, waits_from, MayResume}
 
 -- ---- over a list that is gone through
 

@@ -1,14 +1,6 @@
 -- What a step puts out where nothing was there before.
 use Rattle.std.proofs.Common.{◌≡◌, List, [], ◌∷◌, ◌++◌, sym, ap, subst, ◌∙◌}
-use Rattle.plant.specs.declared.plant.PlantFields.{PlantFields}
-use Rattle.plant.specs.Plant.{IsPlant}
-use Rattle.run_model.specs.declared.step.Step.{Step}
-use Rattle.run_model.specs.declared.step.Out.{Out}
-use Rattle.run_model.specs.IsStateAfter.{CoreView}
-use Rattle.run_model.specs.Steps.{Steps}
-use Rattle.run_model.specs.Starts.{Start}
-use Rattle.live_core.specs.Performing.{Performs}
-use Rattle.live_core.specs.After.{IsAfterFrom}
+use Rattle.live_core.proofs.Common.{PlantFields, IsPlant, Step, Out, CoreView, Steps, Start, Performs, IsAfterFrom}
 use Rattle.live_core.proofs.GoLemmas.{after_more}
 
 all_now : (none now all : List Out) → all ≡ none ++ now → none ≡ [] → now ≡ all

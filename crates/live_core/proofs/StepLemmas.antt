@@ -1,14 +1,7 @@
 -- What one step makes of a core.
 use Rattle.std.proofs.Common.{◌≡◌, ℕ, List, ◌∷◌, Result, Ok, Err, Option, Some, None, OnErr, refl, sym, ap₂, subst}
-use Rattle.std.specs.Prelude.{slice_get}
-use Rattle.slice_scheduler.specs.declared.elements.ElementsFields.{ElementsFields}
-use Rattle.plant.specs.declared.plant.PlantFields.{PlantFields}
-use Rattle.operator_model.specs.declared.action.Action.{Action}
-use Rattle.operator_model.specs.Replay.{BookView}
-use Rattle.map_assembly.specs.Gathering.{Gathering}
-use Rattle.run_model.specs.IsStateAfter.{CoreView}
+use Rattle.live_core.proofs.Common.{slice_get, ElementsFields, PlantFields, Action, BookView, Gathering, CoreView, act_fault, collect_fault, IsReported}
 use Rattle.live_core.specs.declared.core_fault.CoreFault.{CoreFault}
-use Rattle.live_core.specs.Faults.{act_fault, collect_fault, IsReported}
 
 abbrev view : PlantFields → Gathering → List BookView → List (List (ℕ × ElementsFields)) → CoreView
 view plant gathering books queues = record { plant = plant; books = books; queues = queues; gathering = gathering }

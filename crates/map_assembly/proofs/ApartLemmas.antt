@@ -1,8 +1,6 @@
 -- When no two slices meet.
 use Rattle.std.proofs.Common.{◌≡◌, List, [], ◌∷◌, true, false, not, refl}
-use Rattle.std.specs.List.{AllByRecursion, AllPairs, list_all}
-use Rattle.std.proofs.lemmas.Bool.{and_parts, and_from, not-true, not_from_false}
-use Rattle.slice_scheduler.specs.Minislots.{Minislots, slices_overlap}
+use Rattle.map_assembly.proofs.Common.{AllByRecursion, AllPairs, list_all, and_parts, and_from, not-true, not_from_false, Minislots, slices_overlap}
 use Rattle.map_assembly.specs.Apart.{all_apart}
 use Rattle.map_assembly.proofs.OrderLemmas.{PairsByRecursion, pairs_from_AllPairs}
 use Rattle.map_assembly.proofs.NewLemmas.{AllPairs-from_pairs}

@@ -1,12 +1,6 @@
 -- What is written is read back.
 use Rattle.std.proofs.Common.{◌≡◌, ℕ, ◌*◌, ◌/◌, ◌%◌, ◌^◌, ◌<◌, List, [], ◌∷◌, ◌++◌, length, drop, refl, ap, ◌∙◌, arith, length-append}
-use Rattle.std.specs.List.{AllByRecursion}
-use Rattle.std.proofs.lemmas.Nat.{from_be_bytes-to_be_bytes_4}
-use Rattle.map_assembly.specs.declared.element.MapElement.{MapElement}
-use Rattle.map_assembly.specs.declared.view.MapHeader.{MapHeader}
-use Rattle.map_assembly.specs.Element.{word_of, element_of, FitsElement, spelled_element, spelled_elements, elements_in}
-use Rattle.map_assembly.specs.Reading.{header_in, IsCounted}
-use Rattle.map_assembly.specs.Writing.{spelled_header, spelled_map}
+use Rattle.map_assembly.proofs.Common.{AllByRecursion, from_be_bytes-to_be_bytes_4, MapElement, MapHeader, word_of, element_of, FitsElement, spelled_element, spelled_elements, elements_in, header_in, IsCounted, spelled_header, spelled_map}
 
 word-fits : (e : MapElement) → FitsElement e → word_of e < 2 ^ 32
 word-fits e f = omega (arith, f.sid, f.iuc, f.offset)

@@ -1,13 +1,6 @@
 -- The first fault of elements is the one at which judging them ends.
 use Rattle.std.proofs.Common.{◌≡◌, ℕ, ◌+◌, ◌<◌, ◌≤◌, List, [], ◌∷◌, ◌++◌, length, Bool, true, false, Result, Ok, Err, ltb, refl, ap, ◌∙◌, subst, arith}
-use Rattle.std.specs.List.{AllByRecursion}
-use Rattle.std.proofs.lemmas.Bool.{ltb-true, ltb-false, le-ltb, lt-ltb}
-use Rattle.map_assembly.specs.declared.element.MapElement.{MapElement}
-use Rattle.map_assembly.specs.declared.view.MapFault.{MapFault}
-use Rattle.map_assembly.specs.declared.view.MapFault.TheVariants.{Short, Count, Backward, NoNull, AfterNull, NoMemory}
-use Rattle.map_assembly.specs.Element.{is_null}
-use Rattle.map_assembly.specs.Reading.{is_pending, AreAscending, least_behind, GoesBackward, IsNoGrant, FollowsNull, ElementsFault}
-use Rattle.map_assembly.specs.Judging.{count_before_null, judged_behind}
+use Rattle.map_assembly.proofs.Common.{AllByRecursion, ltb-true, ltb-false, le-ltb, lt-ltb, MapElement, MapFault, Short, Count, Backward, NoNull, AfterNull, NoMemory, is_null, is_pending, AreAscending, least_behind, GoesBackward, IsNoGrant, FollowsNull, ElementsFault, count_before_null, judged_behind}
 
 -- ---- a fault that is found is there
 

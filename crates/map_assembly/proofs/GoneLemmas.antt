@@ -1,14 +1,6 @@
 -- Slices that no frame to come needs are let go.
 use Rattle.std.proofs.Common.{ap₂, append_assoc, ◌≡◌, ℕ, ◌≤◌, List, [], ◌∷◌, ◌++◌, length, reverse, Bool, true, false, cond, refl, sym, ap, ◌∙◌, subst, arith, leb, Some, None, drop}
-use Rattle.std.specs.Prelude.{slice_index_or}
-use Rattle.std.specs.List.{All, slice_get, find}
-use Rattle.std.proofs.lemmas.List.{reverse-append}
-use Rattle.std.proofs.lemmas.List.Elements.{All-head, All-tail}
-use Rattle.std.proofs.lemmas.Bool.{leb-true, le-leb}
-use Rattle.slice_scheduler.specs.Minislots.{Minislots}
-use Rattle.map_assembly.specs.declared.slicing.Reslicing.{Reslicing}
-use Rattle.map_assembly.specs.Plan.{AreSlices}
-use Rattle.map_assembly.specs.Gathering.{Gathering, slices_or, slices_at, IsGathering}
+use Rattle.map_assembly.proofs.Common.{slice_index_or, All, slice_get, find, reverse-append, All-head, All-tail, leb-true, le-leb, Minislots, Reslicing, AreSlices, Gathering, slices_or, slices_at, IsGathering}
 use Rattle.map_assembly.specs.LettingGo.{has_begun, is_from, GoesOnAlike}
 use Rattle.map_assembly.proofs.NewLemmas.{queued-agree}
 

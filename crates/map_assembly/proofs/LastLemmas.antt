@@ -1,14 +1,7 @@
 -- The last part of a frame, and the parts of that frame.
 use Rattle.std.proofs.Common.{◌≡◌, ℕ, zero, suc, ◌-◌, ◌+◌, ◌<◌, ◌≤◌, List, [], ◌∷◌, ◌++◌, length, map, take, drop, get_or, Bool, true, false, cond, ◌&&◌, ◌⊎◌, inl, inr, refl, sym, ap, ◌∙◌, arith, ltb, leb, length-append}
-use Rattle.std.specs.List.{AllByRecursion, slice_set, slice_index}
-use Rattle.std.proofs.lemmas.List.{set_split, take_rest}
+use Rattle.map_assembly.proofs.Common.{AllByRecursion, slice_set, slice_index, set_split, take_rest, lt-ltb, and_parts, and_from, both_ways, eq-eqb, ne_eqb, cases_eq, cases_Bool, Minislots, ElementsFields, insert_by_key, sorted_by, numbers_from, sorted_order, in_slice_order, queue_of, with_part, is_whole, fronts, front_or, part_at}
 use Rattle.std.proofs.lemmas.List.Folds.{list_all-append}
-use Rattle.std.proofs.lemmas.Bool.{lt-ltb, and_parts, and_from, both_ways, eq-eqb, ne_eqb, cases_eq, cases_Bool}
-use Rattle.slice_scheduler.specs.Minislots.{Minislots}
-use Rattle.slice_scheduler.specs.declared.elements.ElementsFields.{ElementsFields}
-use Rattle.map_assembly.specs.Sorted.{insert_by_key, sorted_by, numbers_from, sorted_order}
-use Rattle.map_assembly.specs.Map.{in_slice_order}
-use Rattle.map_assembly.specs.Gathering.{queue_of, with_part, is_whole, fronts, front_or, part_at}
 use Rattle.map_assembly.proofs.OrderLemmas.{sorted-map, sorted-all}
 
 abbrev some_part : List ElementsFields → Bool

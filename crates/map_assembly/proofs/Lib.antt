@@ -1,3 +1,4 @@
+mod Common
 pub mod SayLemmas
 pub mod FaultLemmas
 pub mod ReadLemmas

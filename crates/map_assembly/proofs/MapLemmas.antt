@@ -1,31 +1,9 @@
 -- A MAP's bytes say what the MAP of the frame says, and that gives no minislot twice.
 use Rattle.std.proofs.Common.{◌≡◌, ℕ, zero, suc, ◌+◌, ◌*◌, ◌^◌, ◌<◌, ◌≤◌, List, [], ◌∷◌, ◌++◌, length, map, true, false, cond, ◌⊎◌, inl, inr, refl, sym, ap, ◌∙◌, subst, arith, eqb, leb, Some, length-append}
-use Rattle.std.proofs.lemmas.List.{length-map}
-use Rattle.std.specs.List.{AllByRecursion, sum_by, count_by, slice_get}
-use Rattle.std.proofs.lemmas.List.Sums.{sum_by-cons}
-use Rattle.std.proofs.lemmas.List.Elements.{recursion_from_All, All-from_recursion}
-use Rattle.std.proofs.lemmas.Nat.{mod_below}
-use Rattle.std.proofs.lemmas.Bool.{cases_lt, cases_eq, lt-ltb, le-ltb, eq-eqb, ne_eqb, or_cases, eqb-true, leb-true, and_parts, and_right}
-use Rattle.slice_scheduler.specs.Minislots.{Minislots}
+use Rattle.map_assembly.proofs.Common.{length-map, AllByRecursion, sum_by, count_by, slice_get, sum_by-cons, recursion_from_All, All-from_recursion, mod_below, cases_lt, cases_eq, lt-ltb, le-ltb, eq-eqb, ne_eqb, or_cases, eqb-true, leb-true, and_parts, and_right, Minislots, Span, ElementsFields, ranges_overlap, MapElement, Channel, Quota, MapHeader, MapSpan, is_null, FitsElement, spelled_elements, elements_in, element_of_span, null_at, is_pending, ElementsSay, MapReads, idle_span, head_span, map_span, spans_with_idle, map_spans, map_pending, map_header, frame_start, in_slice_order, map_of, pending_element, elements_of_map, map_elements_of, spelled_map, is_within, is_mine, ArePartsOf, touches, IsOwn, GivesNoMinislotTwice, part_of, own_part, IsQuota, AreQuotas, AreSlices, IsChannel}
 use Rattle.slice_scheduler.specs.Iuc.{iuc_number}
 use Rattle.slice_scheduler.specs.declared.span.Iuc.{Iuc}
 use Rattle.slice_scheduler.specs.declared.span.Iuc.TheVariants.{Request, Short, Long}
-use Rattle.slice_scheduler.specs.declared.span.Span.{Span}
-use Rattle.slice_scheduler.specs.declared.elements.ElementsFields.{ElementsFields}
-use Rattle.plant.specs.Plant.{ranges_overlap}
-use Rattle.map_assembly.specs.declared.element.MapElement.{MapElement}
-use Rattle.plant.specs.declared.consts.Channel.{Channel}
-use Rattle.map_assembly.specs.declared.quota.Quota.{Quota}
-use Rattle.map_assembly.specs.declared.view.MapHeader.{MapHeader}
-use Rattle.map_assembly.specs.declared.view.MapSpan.{MapSpan}
-use Rattle.map_assembly.specs.Element.{is_null, FitsElement, spelled_elements, elements_in}
-use Rattle.map_assembly.specs.Reading.{element_of_span, null_at, is_pending, ElementsSay, MapReads}
-use Rattle.map_assembly.specs.Map.{idle_span, head_span, map_span, spans_with_idle, map_spans, map_pending, map_header, frame_start, in_slice_order, map_of, pending_element, elements_of_map, map_elements_of}
-use Rattle.map_assembly.specs.Writing.{spelled_map}
-use Rattle.map_assembly.specs.Part.{is_within, is_mine, ArePartsOf}
-use Rattle.map_assembly.specs.Tiled.{touches, IsOwn, GivesNoMinislotTwice, part_of, own_part}
-use Rattle.map_assembly.specs.Plan.{IsQuota, AreQuotas, AreSlices}
-use Rattle.plant.specs.Consts.{IsChannel}
 use Rattle.map_assembly.proofs.OrderLemmas.{pairs_from_AllPairs, sorted-all, sum_by-sorted}
 use Rattle.map_assembly.proofs.TilingLemmas.{InOrder, MapTiles, tiles-map, tiles-joined, tiles-once, tiles-le}
 use Rattle.map_assembly.proofs.PartLemmas.{fits_in, slices_of_parts, parts_in_order, StandsAlone, stands_alone, all_at}

@@ -1,24 +1,9 @@
 -- What is gathered of a plant at first, and after other slices are given.
 use Rattle.std.proofs.Common.{◌≡◌, ℕ, zero, suc, ◌+◌, ◌<◌, ◌≤◌, List, [], ◌∷◌, ◌++◌, length, map, reverse, Bool, false, cond, refl, sym, ap, ◌∙◌, subst, arith, leb, Option, Some}
-use Rattle.std.specs.Prelude.{replicate}
-use Rattle.std.specs.List.{AllByRecursion, All, AllPairs, sum_by, slice_get, find}
-use Rattle.std.proofs.lemmas.List.{length-map, length-replicate, reverse-append}
-use Rattle.std.proofs.lemmas.List.Sums.{sum_by-cons}
-use Rattle.std.proofs.lemmas.List.Elements.{recursion_from_All, All-from_recursion, All-push}
-use Rattle.std.proofs.lemmas.Option.{same_Some}
-use Rattle.std.proofs.lemmas.Bool.{lt-leb}
-use Rattle.slice_scheduler.specs.Minislots.{Minislots, slices_overlap}
-use Rattle.slice_scheduler.specs.declared.elements.ElementsFields.{ElementsFields}
+use Rattle.map_assembly.proofs.Common.{replicate, AllByRecursion, All, AllPairs, sum_by, slice_get, find, length-map, length-replicate, reverse-append, sum_by-cons, recursion_from_All, All-from_recursion, All-push, same_Some, lt-leb, Minislots, slices_overlap, ElementsFields, RowFields, ranges_overlap, IsPlant, Quota, Reslicing, quota_of, IsQuota, AreQuotas, IsInFrame, AreSlices, Gathering, gathering_at, slices_or, slices_at, is_whole, IsPartAt, AreQueued, IsGathering, HasPutNoneFrom, MayReslice, gathering_after_reslice}
 use Rattle.plant.specs.declared.consts.ConstsFields.{ConstsFields}
-use Rattle.plant.specs.declared.operator_row.RowFields.{RowFields}
 use Rattle.plant.specs.declared.plant.PlantFields.{PlantFields}
 use Rattle.plant.specs.Row.{IsRowOf}
-use Rattle.plant.specs.Plant.{ranges_overlap, IsPlant}
-use Rattle.map_assembly.specs.declared.quota.Quota.{Quota}
-use Rattle.map_assembly.specs.declared.slicing.Reslicing.{Reslicing}
-use Rattle.map_assembly.specs.Part.{quota_of}
-use Rattle.map_assembly.specs.Plan.{IsQuota, AreQuotas, IsInFrame, AreSlices}
-use Rattle.map_assembly.specs.Gathering.{Gathering, gathering_at, slices_or, slices_at, is_whole, IsPartAt, AreQueued, IsGathering, HasPutNoneFrom, MayReslice, gathering_after_reslice}
 use Rattle.map_assembly.proofs.OrderLemmas.{PairsByRecursion, pairs_from_AllPairs}
 
 -- ---- pairs and sums over a map

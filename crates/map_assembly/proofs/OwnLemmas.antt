@@ -1,21 +1,6 @@
 -- Each operator's part of a MAP is what it put, and lies in its slice.
 use Rattle.std.proofs.Common.{◌≡◌, ℕ, zero, suc, ◌-◌, ◌+◌, ◌<◌, ◌≤◌, List, [], ◌∷◌, ◌++◌, map, Bool, true, false, not, cond, ◌⊎◌, inl, inr, refl, ap, ◌∙◌, subst, arith, eqb, ltb, leb}
-use Rattle.std.specs.List.{AllByRecursion, sum_by, flat_map, filter}
-use Rattle.std.proofs.lemmas.List.Sums.{sum_by-cons}
-use Rattle.std.proofs.lemmas.List.Elements.{filter-append}
-use Rattle.std.proofs.lemmas.Bool.{cases_lt, cases_eq, lt-ltb, le-ltb, lt-leb, eq-eqb, ne_eqb, and_left, and_right, both_ways}
-use Rattle.admission.specs.Free.{Numbers}
-use Rattle.slice_scheduler.specs.Minislots.{Minislots}
-use Rattle.slice_scheduler.specs.declared.span.Span.{Span}
-use Rattle.slice_scheduler.specs.declared.elements.ElementsFields.{ElementsFields}
-use Rattle.slice_scheduler.specs.Tiles.{Tiles}
-use Rattle.plant.specs.declared.consts.Channel.{Channel}
-use Rattle.map_assembly.specs.declared.quota.Quota.{Quota}
-use Rattle.map_assembly.specs.declared.view.MapSpan.{MapSpan}
-use Rattle.map_assembly.specs.Map.{idle_span, head_span, map_span, spans_with_idle, map_spans, map_pending, in_slice_order, map_of}
-use Rattle.map_assembly.specs.Part.{is_within, is_mine, IsPartOf}
-use Rattle.map_assembly.specs.Tiled.{LiesIn, IsOwn, touches, MapPart, part_of, own_part}
-use Rattle.map_assembly.specs.Plan.{IsQuota}
+use Rattle.map_assembly.proofs.Common.{AllByRecursion, sum_by, flat_map, filter, sum_by-cons, filter-append, cases_lt, cases_eq, lt-ltb, le-ltb, lt-leb, eq-eqb, ne_eqb, and_left, and_right, both_ways, Numbers, Minislots, Span, ElementsFields, Tiles, Channel, Quota, MapSpan, idle_span, head_span, map_span, spans_with_idle, map_spans, map_pending, in_slice_order, map_of, is_within, is_mine, IsPartOf, LiesIn, IsOwn, touches, MapPart, part_of, own_part, IsQuota}
 use Rattle.map_assembly.proofs.OrderLemmas.{AloneAt, flat_map_alone, sorted-all}
 use Rattle.map_assembly.proofs.TilingLemmas.{InOrder}
 use Rattle.map_assembly.proofs.PartLemmas.{FitsIn, fits_in, within_is_some, own_spans, own_pending, IsStranger, StandsAlone}

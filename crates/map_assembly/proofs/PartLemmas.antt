@@ -1,22 +1,6 @@
 -- What each operator's part of a frame has.
 use Rattle.std.proofs.Common.{◌≡◌, ℕ, zero, suc, ◌+◌, ◌≤◌, List, [], ◌∷◌, length, map, Bool, true, false, not, ◌&&◌, ◌⊎◌, inl, inr, refl, sym, subst, arith, eqb, leb, Some}
-use Rattle.std.specs.List.{AllByRecursion, filter, slice_get, list_all}
-use Rattle.std.proofs.lemmas.List.Elements.{recursion_from_All}
-use Rattle.std.proofs.lemmas.Option.{same_Some}
-use Rattle.std.proofs.lemmas.Bool.{and_parts, and_from, or_cases, eqb-true, leb-true, le-leb, both_ways, false_from_ne_true}
-use Rattle.admission.specs.Free.{Numbers}
-use Rattle.slice_scheduler.specs.Minislots.{Minislots, slices_overlap}
-use Rattle.slice_scheduler.specs.declared.span.Span.{Span}
-use Rattle.slice_scheduler.specs.declared.elements.ElementsFields.{ElementsFields}
-use Rattle.slice_scheduler.specs.Tiles.{IsTiled}
-use Rattle.plant.specs.Plant.{ranges_overlap}
-use Rattle.plant.specs.declared.consts.Channel.{Channel}
-use Rattle.map_assembly.specs.declared.quota.Quota.{Quota}
-use Rattle.map_assembly.specs.declared.view.MapSpan.{MapSpan}
-use Rattle.map_assembly.specs.Map.{map_span, in_slice_order}
-use Rattle.map_assembly.specs.Part.{is_within, is_mine, is_slice, is_fitting, IsPartOf, ArePartsOf}
-use Rattle.map_assembly.specs.Plan.{IsQuota, IsInFrame, AreSlices}
-use Rattle.plant.specs.Consts.{IsChannel}
+use Rattle.map_assembly.proofs.Common.{AllByRecursion, filter, slice_get, list_all, recursion_from_All, same_Some, and_parts, and_from, or_cases, eqb-true, leb-true, le-leb, both_ways, false_from_ne_true, Numbers, Minislots, slices_overlap, Span, ElementsFields, IsTiled, ranges_overlap, Channel, Quota, MapSpan, map_span, in_slice_order, is_within, is_mine, is_slice, is_fitting, IsPartOf, ArePartsOf, IsQuota, IsInFrame, AreSlices, IsChannel}
 use Rattle.map_assembly.proofs.OrderLemmas.{PairsByRecursion, pairs_from_AllPairs, pairs-map, all-map, IsPlaced, sorted_in_order}
 use Rattle.map_assembly.proofs.TilingLemmas.{InOrder}
 

@@ -1,12 +1,7 @@
 -- What the bytes of a MAP say, and their first fault, from how their elements are judged.
 use Rattle.std.proofs.Common.{◌≡◌, ◌≢◌, ◌↔◌, ℕ, List, length, drop, IfErr, Result, Ok, Err, refl, sym, ap, ◌∙◌, subst, arith}
 use Rattle.map_assembly.specs.declared.view.MapView.{MapView}
-use Rattle.map_assembly.specs.declared.view.MapSpan.{MapSpan}
-use Rattle.map_assembly.specs.Element.{elements_in}
-use Rattle.map_assembly.specs.declared.view.MapFault.{MapFault}
-use Rattle.map_assembly.specs.declared.view.MapFault.TheVariants.{Short, Count, Backward, NoNull, AfterNull, NoMemory}
-use Rattle.map_assembly.specs.Reading.{header_in, elements_behind, IsCounted, MapReads, ElementsSay, IsFirstMapFault, MapIsRead}
-use Rattle.map_assembly.specs.Judging.{count_before_null, spans_in, pending_in}
+use Rattle.map_assembly.proofs.Common.{MapSpan, elements_in, MapFault, Short, Count, Backward, NoNull, AfterNull, NoMemory, header_in, elements_behind, IsCounted, MapReads, ElementsSay, IsFirstMapFault, MapIsRead, count_before_null, spans_in, pending_in}
 use Rattle.map_assembly.proofs.SayLemmas.{judged_says, say_judged, say_spans, say_pending}
 use Rattle.map_assembly.proofs.FaultLemmas.{judged_fault, fault_judged}
 

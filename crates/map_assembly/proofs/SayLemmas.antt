@@ -1,14 +1,6 @@
 -- Elements that are judged well say their spans and their grants pending, and nothing else.
 use Rattle.std.proofs.Common.{◌≡◌, ℕ, ◌-◌, ◌+◌, ◌≤◌, List, [], ◌∷◌, ◌++◌, length, map, Bool, true, false, Result, Ok, Err, ltb, eqb, refl, sym, ap, ◌∙◌, arith}
-use Rattle.std.specs.List.{AllByRecursion}
-use Rattle.std.proofs.lemmas.Bool.{and_parts, eqb-true, ltb-false, le-ltb}
-use Rattle.map_assembly.specs.declared.element.MapElement.{MapElement}
-use Rattle.map_assembly.specs.declared.view.MapSpan.{MapSpan}
-use Rattle.map_assembly.specs.declared.view.MapFault.{MapFault}
-use Rattle.map_assembly.specs.declared.view.MapFault.TheVariants.{Backward, NoNull, AfterNull}
-use Rattle.map_assembly.specs.Element.{is_null}
-use Rattle.map_assembly.specs.Reading.{element_of_span, null_at, first_offset, AreJoined, is_pending, ElementsSay}
-use Rattle.map_assembly.specs.Judging.{count_before_null, judged_behind, next_offset, span_to, spans_in, behind_null, pending_in}
+use Rattle.map_assembly.proofs.Common.{AllByRecursion, and_parts, eqb-true, ltb-false, le-ltb, MapElement, MapSpan, MapFault, Backward, NoNull, AfterNull, is_null, element_of_span, null_at, first_offset, AreJoined, is_pending, ElementsSay, count_before_null, judged_behind, next_offset, span_to, spans_in, behind_null, pending_in}
 
 null-is : (e : MapElement) → is_null e ≡ true → e ≡ null_at e.offset
 null-is e h =

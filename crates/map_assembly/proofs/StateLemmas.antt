@@ -1,30 +1,10 @@
 -- What is gathered stays as it always is.
 use Rattle.std.proofs.Common.{◌≡◌, ℕ, zero, suc, ◌+◌, ◌<◌, ◌≤◌, List, [], ◌∷◌, ◌++◌, length, map, take, drop, get_or, reverse, Bool, true, false, cond, ◌&&◌, ◌⊎◌, inl, inr, refl, sym, ap, ◌∙◌, subst, arith, ltb, leb, Option, Some, None}
-use Rattle.std.specs.List.{AllByRecursion, All, slice_get, slice_set, find}
+use Rattle.map_assembly.proofs.Common.{AllByRecursion, All, slice_get, slice_set, find, length-set, length-map, reverse-append, take_at, set-get_or, get_or_default, recursion_from_All, All-from_recursion, same_Some, slice_get-get_or, slice_get-map, and_parts, cases_eq, leb-false, ltb-false, Minislots, IsTiled, ElementsFields, Channel, Quota, Reslicing, is_fitting, IsPartOf, ArePartsOf, AreSlices, Gathering, slices_or, slices_at, frame_slices, queue_of, next_of, fits_at, is_part, put_fault, with_part, is_whole, fronts, is_last, frame_parts, after_put, frame_out, IsPartAt, AreQueued, AreAllQueued, IsGathering, MapElement, FitsElement, MapReads, sorted_order, in_slice_order, map_of, map_spans, map_pending, map_header, elements_of_map, map_elements_of, spelled_map, part_at}
 use Rattle.std.specs.Option.{option_map}
-use Rattle.std.proofs.lemmas.List.{length-set, length-map, reverse-append, take_at, set-get_or, get_or_default}
-use Rattle.std.proofs.lemmas.List.Elements.{recursion_from_All, All-from_recursion}
-use Rattle.std.proofs.lemmas.Option.{same_Some, slice_get-get_or, slice_get-map}
-use Rattle.std.proofs.lemmas.Bool.{and_parts, cases_eq, leb-false, ltb-false}
-use Rattle.slice_scheduler.specs.Minislots.{Minislots}
-use Rattle.slice_scheduler.specs.Tiles.{IsTiled}
-use Rattle.slice_scheduler.specs.declared.elements.ElementsFields.{ElementsFields}
-use Rattle.plant.specs.declared.consts.Channel.{Channel}
-use Rattle.map_assembly.specs.declared.quota.Quota.{Quota}
-use Rattle.map_assembly.specs.declared.slicing.Reslicing.{Reslicing}
 use Rattle.map_assembly.specs.declared.refused.GatherFault.{GatherFault}
 use Rattle.map_assembly.specs.declared.refused.GatherFault.TheVariants.{Stranger, Old, PutTwice, Early, WrongSlice}
-use Rattle.map_assembly.specs.Part.{is_fitting, IsPartOf, ArePartsOf}
-use Rattle.map_assembly.specs.Plan.{AreSlices}
-use Rattle.map_assembly.specs.Gathering.{Gathering, slices_or, slices_at, frame_slices, queue_of, next_of, fits_at, is_part, put_fault, with_part, is_whole, fronts, is_last, frame_parts, after_put, frame_out, IsPartAt, AreQueued, AreAllQueued, IsGathering}
 use Rattle.map_assembly.proofs.LastLemmas.{empty_before_last}
-use Rattle.map_assembly.specs.declared.element.MapElement.{MapElement}
-use Rattle.map_assembly.specs.Element.{FitsElement}
-use Rattle.map_assembly.specs.Reading.{MapReads}
-use Rattle.map_assembly.specs.Sorted.{sorted_order}
-use Rattle.map_assembly.specs.Map.{in_slice_order, map_of, map_spans, map_pending, map_header, elements_of_map, map_elements_of}
-use Rattle.map_assembly.specs.Writing.{spelled_map}
-use Rattle.map_assembly.specs.Gathering.{part_at}
 use Rattle.map_assembly.specs.Assembled.{IsMapOf, ordered_elements, bytes_of_map}
 use Rattle.map_assembly.proofs.LastLemmas.{part_at_is, ordered_parts}
 use Rattle.map_assembly.proofs.PartLemmas.{slices_of_parts}

@@ -1,15 +1,6 @@
 -- The spans of a frame are its minislots, each in exactly one.
 use Rattle.std.proofs.Common.{◌≡◌, ℕ, ◌+◌, ◌<◌, ◌≤◌, List, [], ◌∷◌, ◌++◌, map, Bool, cond, ◌⊎◌, inl, inr, refl, sym, ap, subst, arith, ltb, leb}
-use Rattle.std.specs.List.{count_by}
-use Rattle.std.proofs.lemmas.List.Sums.{sum_by-cons}
-use Rattle.std.proofs.lemmas.Bool.{cases_eq, cases_lt, eq-eqb, ne_eqb, lt-ltb, le-ltb, le-leb, lt-leb, and_left, and_right}
-use Rattle.slice_scheduler.specs.declared.span.Span.{Span}
-use Rattle.slice_scheduler.specs.declared.elements.ElementsFields.{ElementsFields}
-use Rattle.slice_scheduler.specs.Tiles.{Tiles, IsTiled}
-use Rattle.map_assembly.specs.declared.view.MapSpan.{MapSpan}
-use Rattle.map_assembly.specs.Reading.{first_offset, AreJoined}
-use Rattle.map_assembly.specs.Map.{idle_span, head_span, map_span, spans_with_idle}
-use Rattle.map_assembly.specs.Tiled.{holds}
+use Rattle.map_assembly.proofs.Common.{count_by, sum_by-cons, cases_eq, cases_lt, eq-eqb, ne_eqb, lt-ltb, le-ltb, le-leb, lt-leb, and_left, and_right, Span, ElementsFields, Tiles, IsTiled, MapSpan, first_offset, AreJoined, idle_span, head_span, map_span, spans_with_idle, holds}
 
 -- ---- spans one after the other
 

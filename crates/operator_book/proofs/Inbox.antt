@@ -1,35 +1,11 @@
 -- No handling looks at the inbox or changes it.
 use Rattle.std.proofs.Common.{◌≡◌, ℕ, Bool, true, false, List, [], ◌∷◌, Option, Some, None, Result, Ok, Err, refl, sym, ap, ◌∙◌}
-use Rattle.std.specs.Prelude.{not, find, length, nat_le, slice_get, drop, if◌then◌else◌}
-use Rattle.std.specs.Option.{option_map}
-use Rattle.flow_table.specs.Table.{flow_with}
-use Rattle.std.proofs.lemmas.Option.{same_Some, none-some}
-use Rattle.dsx_messages.specs.declared.modem.Modem.{Modem}
-use Rattle.dsx_messages.specs.declared.kind.Kind.{Kind}
+use Rattle.operator_book.proofs.Common.{not, find, length, nat_le, slice_get, drop, if◌then◌else◌, option_map, flow_with, same_Some, none-some, Modem, Kind, Message, MessageFault, message_of, spell_reply, KeptEntry, same_kind, is_of, waits_for, same_modem, Flow, asks_for_grants, flow_after_request, with_flow, Arrival, Verdict, Refused, Heard, verdict, encoding_refusal, taken_out, work_result, Operator, refusal, reply_result, silent, carried_out, is_of_cmts, new_unless, transaction_result, acked_if, kind_of, tid_of, message_handled, asked_of_flow, handle}
 use Rattle.dsx_messages.specs.declared.code.Code.TheVariants as codes
-use Rattle.dsx_messages.specs.declared.message.Message.{Message}
 use Rattle.dsx_messages.specs.declared.message.Message.TheVariants as messages
-use Rattle.dsx_messages.specs.declared.fault.MessageFault.{MessageFault}
 use Rattle.dsx_messages.specs.declared.fault.MessageFault.TheVariants as faults
-use Rattle.dsx_messages.specs.Reading.{message_of}
-use Rattle.dsx_messages.specs.Spelling.{spell_reply}
-use Rattle.transactions.specs.declared.entry.KeptEntry.{KeptEntry}
-use Rattle.transactions.specs.Entry.{same_kind, is_of, waits_for}
-use Rattle.plant.specs.Row.{same_modem}
-use Rattle.flow_table.specs.declared.flow.Flow.{Flow}
-use Rattle.flow_table.specs.Flow.{asks_for_grants, flow_after_request}
-use Rattle.flow_table.specs.Table.{with_flow}
-use Rattle.operator_model.specs.declared.heard.Arrival.{Arrival}
 use Rattle.operator_model.specs.declared.output.Cause.TheVariants as causes
-use Rattle.operator_model.specs.declared.verdict.Verdict.{Verdict}
-use Rattle.operator_model.specs.declared.verdict.Verdict.TheVariants.{Refused}
-use Rattle.operator_model.specs.declared.heard.Heard.{Heard}
 use Rattle.operator_model.specs.declared.heard.Heard.TheVariants as heards
-use Rattle.operator_model.specs.Verdict.{verdict, encoding_refusal}
-use Rattle.operator_model.specs.Machine.{taken_out, work_result}
-use Rattle.operator_model.specs.State.{Operator}
-use Rattle.operator_model.specs.Asked.{refusal}
-use Rattle.operator_model.specs.Handle.{reply_result, silent, carried_out, is_of_cmts, new_unless, transaction_result, acked_if, kind_of, tid_of, message_handled, asked_of_flow, handle}
 
 module _ (op : Operator) (modem : Modem) where
   again : (kind : Kind) (entry : KeptEntry) (b : Bool) → (if b then reply_result op.state modem entry.reply else silent op.state modem causes.TidInUse).state.inbox ≡ op.state.inbox

@@ -1,3 +1,4 @@
+mod Common
 pub mod Few
 pub mod Opens
 pub mod Replies

@@ -1,13 +1,8 @@
 -- What `Sets` refuses is what the checks refuse.
 use Rattle.std.proofs.Common.{◌≡◌, ℕ, Option, ap, subst}
-use Rattle.std.specs.Prelude.{Some, None, Result, Ok, Err}
-use Rattle.tlv24.specs.declared.fields.FlowFields.{FlowFields}
-use Rattle.dsx_messages.specs.declared.code.Code.TheVariants.{RejectAuthorizationFailure}
+use Rattle.operator_book.proofs.Common.{Some, None, Result, Ok, Err, FlowFields, RejectAuthorizationFailure, ParamFields, SetsFields, Refusal}
 use Rattle.dsx_messages.specs.declared.reply.ReplyFields.{ReplyFields}
 use Rattle.param_sets.specs.Sets.{sets_unless}
-use Rattle.param_sets.specs.declared.param_set.ParamFields.{ParamFields}
-use Rattle.param_sets.specs.declared.sets.SetsFields.{SetsFields}
-use Rattle.param_sets.specs.declared.refusal.Refusal.{Refusal}
 use Rattle.operator_model.specs.declared.verdict.Transaction.{Transaction}
 use Rattle.operator_model.specs.declared.verdict.AskedSets.{AskedSets}
 use Rattle.operator_model.specs.Asked.{refusal_naming, nested_unless, failing_active, failing_admitted, nested_sets}

@@ -1,22 +1,9 @@
 -- The provisioned flows that are put are those that the plant file opens.
 use Rattle.std.proofs.Common.{◌≡◌, ℕ, List, [], ◌∷◌, map, Option, Some, None, Result, Ok, Err, refl, sym, ap, ◌∙◌}
-use Rattle.std.specs.Prelude.{is_some, if◌then◌else◌}
-use Rattle.std.specs.List.{cons_option}
-use Rattle.std.specs.declared.cmp.Ordering.{Ordering}
-use Rattle.std.specs.declared.cmp.Ordering.TheVariants.{Less, Equal, Greater}
-use Rattle.std.specs.Ordering.{nat_cmp, match_ordering}
-use Rattle.std.specs.BTreeMap.{insert_entry}
-use Rattle.admission.specs.Free.{least_free_of}
-use Rattle.dsx_messages.specs.declared.modem.Modem.{Modem}
-use Rattle.param_sets.specs.declared.sets.SetsFields.{SetsFields}
+use Rattle.operator_book.proofs.Common.{is_some, if◌then◌else◌, cons_option, Ordering, Less, Equal, Greater, nat_cmp, match_ordering, insert_entry, least_free_of, Modem, SetsFields, ConstsFields, RowFields, Flow, sfids_of, sids_of, with_flow, opened_flow, consts_from, opened_before}
 use Rattle.tlv24.specs.Flow.{flow_of}
-use Rattle.plant.specs.declared.consts.ConstsFields.{ConstsFields}
-use Rattle.plant.specs.declared.operator_row.RowFields.{RowFields}
 use Rattle.plant.specs.declared.provision.Provision.{Provision}
 use Rattle.plant.specs.Provisioned.{OpenedFlow, sets_of_flow, sets_of_encoding, opened_sfids, opened_sids, opened_sid, and_under, and_opened, all_opened}
-use Rattle.flow_table.specs.declared.flow.Flow.{Flow}
-use Rattle.flow_table.specs.Table.{sfids_of, sids_of, with_flow}
-use Rattle.operator_model.specs.State.{opened_flow, consts_from, opened_before}
 use Rattle.operator_book.specs.Opening.{sid_for, put_under, put_opened, put_provision, put_provisions}
 
 -- the flows as they are opened in this frame

@@ -1,15 +1,10 @@
 -- A history that grows by one action is the replay of the state that the action makes.
 use Rattle.std.proofs.Common.{◌≡◌, ℕ, List, [], ◌∷◌, ◌++◌, None, ap, sym, ◌∙◌, refl, subst}
-use Rattle.std.proofs.lemmas.List.{map-append}
-use Rattle.plant.specs.declared.consts.ConstsFields.{ConstsFields}
-use Rattle.plant.specs.declared.operator_row.RowFields.{RowFields}
-use Rattle.operator_model.specs.declared.action.Action.{Action}
+use Rattle.operator_book.proofs.Common.{map-append, ConstsFields, RowFields, Action, OperatorState, opened_state, Operator, operator, actions_of, AreTold, IsReplay}
 use Rattle.operator_model.specs.declared.action.Entry.{Entry}
-use Rattle.operator_model.specs.State.{OperatorState, opened_state, Operator, operator}
 use Rattle.operator_model.specs.declared.action.SliceRow.{SliceRow}
 use Rattle.operator_model.specs.declared.action.Action.TheVariants as actions
 use Rattle.operator_model.specs.Machine.{reslice_result, unfit_from, own_step, own_run, IsAllowed}
-use Rattle.operator_model.specs.Replay.{actions_of, AreTold, IsReplay}
 
 -- the run of one action more, from any state
 after_push : (op : Operator) (actions : List Action) (action : Action)

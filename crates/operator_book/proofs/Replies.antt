@@ -1,21 +1,13 @@
 -- Refusals are well formed.
 use Rattle.std.proofs.Common.{◌≡◌, ℕ, Option, refl, rules, subst}
-use Rattle.std.specs.Prelude.{◌≢◌, IfSome, Some, None, Result, Ok, Err}
+use Rattle.operator_book.proofs.Common.{◌≢◌, IfSome, Some, None, Result, Ok, Err, Kind, Dsa, Dsc, Dsd, Okay, RejectRequiredParameterNotPresent, RejectInvalidForContext, FlowFields, scheduling_of, Scheduling, ParamFields, Refusal}
 use Rattle.dsx_messages.specs.WellFormed.{IsFlowIdOf, GoesWith}
-use Rattle.dsx_messages.specs.declared.kind.Kind.{Kind}
-use Rattle.dsx_messages.specs.declared.kind.Kind.TheVariants.{Dsa, Dsc, Dsd}
 use Rattle.dsx_messages.specs.declared.code.Code.{Code}
-use Rattle.dsx_messages.specs.declared.code.Code.TheVariants.{Okay, RejectRequiredParameterNotPresent, RejectInvalidForContext}
 use Rattle.dsx_messages.specs.declared.reply.FlowId.{FlowId}
 use Rattle.dsx_messages.specs.declared.reply.Detail.TheVariants.{Nothing, Errored}
-use Rattle.tlv24.specs.declared.fields.FlowFields.{FlowFields}
 use Rattle.param_sets.specs.Units.{UnitSizes}
-use Rattle.param_sets.specs.Scheduling.{scheduling_of}
 use Rattle.param_sets.specs.Kept.{kept_of, missing_of}
 use Rattle.param_sets.specs.Reading.{invalid_of, set_unless, set_of_kind, parameter_set_of}
-use Rattle.param_sets.specs.declared.scheduling.Scheduling.{Scheduling}
-use Rattle.param_sets.specs.declared.param_set.ParamFields.{ParamFields}
-use Rattle.param_sets.specs.declared.refusal.Refusal.{Refusal}
 
 pub refuses : (kind : Kind) (code : Code) → code ≢ Okay → GoesWith kind code Nothing
 refuses Dsa code refused = refused

@@ -1,28 +1,9 @@
 -- A state of which no fault is found is sound under its row.
 use Rattle.std.proofs.Common.{◌≡◌, ℕ, ◌<◌, ◌≤◌, ◌==◌, ◌&&◌, Bool, true, false, not, cond, nat_le, nat_lt, List, [], ◌∷◌, ◌++◌, length, All, Option, Some, None, IsNone, IfSome, is_some, refl, sym, ap, ◌∙◌, subst, arith, inl, inr}
-use Rattle.std.specs.Prelude.{find}
-use Rattle.std.specs.List.{Contains, AllByRecursion, cons_option}
+use Rattle.operator_book.proofs.Common.{find, Contains, AllByRecursion, cons_option, option_or, Ordering, Less, Equal, Greater, nat_cmp, match_ordering, keys_of, insert_entry, ltb-false, leb-false, eqb-false, lt-ltb, le-ltb, eq-eqb, ne_eqb, or_parts, true≢false, cases_Bool, none-some, append-nil, append_assoc, All-nil, All-cons, Contains-tail, KeptEntry, is_waiting, is_of, HasTicks, IsHeldUnsent, Flow, FlowTable, HasRoomFor, sids_of, flow_with, is_sid, StateFault, fault_where, first_fault_in, is_not_after, order_fault, sid_twice_fault, all_put_back, is_off_time, entry_fault}
 use Rattle.std.specs.List.Sorted.{IsStrictlySortedBy}
-use Rattle.std.specs.Option.{option_or}
-use Rattle.std.specs.declared.cmp.Ordering.{Ordering}
-use Rattle.std.specs.declared.cmp.Ordering.TheVariants.{Less, Equal, Greater}
-use Rattle.std.specs.Ordering.{nat_cmp, match_ordering}
-use Rattle.std.specs.Map.{keys_of}
-use Rattle.std.specs.BTreeMap.{insert_entry}
-use Rattle.std.proofs.lemmas.Bool.{ltb-false, leb-false, eqb-false, lt-ltb, le-ltb, eq-eqb, ne_eqb, or_parts, true≢false, cases_Bool}
-use Rattle.std.proofs.lemmas.Option.{none-some}
-use Rattle.std.proofs.lemmas.List.{append-nil, append_assoc}
-use Rattle.std.proofs.lemmas.List.Elements.{All-nil, All-cons}
-use Rattle.std.proofs.lemmas.Map.Made.{Contains-tail}
-use Rattle.transactions.specs.declared.entry.KeptEntry.{KeptEntry}
-use Rattle.transactions.specs.Entry.{is_waiting, is_of}
-use Rattle.transactions.specs.Keeping.{HasTicks, IsHeldUnsent}
-use Rattle.flow_table.specs.declared.flow.Flow.{Flow}
-use Rattle.flow_table.specs.Table.{FlowTable, HasRoomFor, sids_of, flow_with, is_sid}
 use Rattle.flow_table.proofs.StandLemmas.{new_with_unused_sid}
-use Rattle.operator_book.specs.declared.state_fault.StateFault.{StateFault}
 use Rattle.operator_book.specs.declared.state_fault.StateFault.TheVariants as faults
-use Rattle.operator_book.specs.Resuming.{fault_where, first_fault_in, is_not_after, order_fault, sid_twice_fault, all_put_back, is_off_time, entry_fault}
 
 -- ---- no fault
 

@@ -1,20 +1,8 @@
 -- Where a flow may stand.
 use Rattle.std.proofs.Common.{◌≡◌, ℕ, ◌+◌, ◌<◌, ◌≤◌, suc, List, [], ◌∷◌, length, Option, Some, None, refl, sym, ap, ◌∙◌, subst, arith, inl, inr}
-use Rattle.std.specs.Prelude.{IfSome, All, unwrap_or, sum_by, ◌⊎◌}
-use Rattle.std.specs.List.{Contains}
+use Rattle.operator_book.proofs.Common.{IfSome, All, unwrap_or, sum_by, ◌⊎◌, Contains, option_map, nat_cmp, lookup, keys_of, values_of, insert_entry, is_at, nat_cmp_total, sum_by-cons, All-contains, Numbers, IsLeastFree, IsIn, Flow, FlowTable, sids_of, flow_at, sid_if, with_flow, HasRoomFor, sid_used}
 use Rattle.std.specs.List.Sorted.{IsStrictlySortedBy}
-use Rattle.std.specs.Option.{option_map}
-use Rattle.std.specs.Ordering.{nat_cmp}
-use Rattle.std.specs.Map.{lookup, keys_of, values_of}
-use Rattle.std.specs.BTreeMap.{insert_entry, is_at}
-use Rattle.std.proofs.lemmas.Cmp.{nat_cmp_total}
-use Rattle.std.proofs.lemmas.List.Sums.{sum_by-cons}
 use Rattle.std.proofs.lemmas.Map.Entries.{sum_by-insert_entry}
-use Rattle.std.proofs.lemmas.List.Elements.{All-contains}
-use Rattle.admission.specs.Free.{Numbers, IsLeastFree, IsIn}
-use Rattle.flow_table.specs.declared.flow.Flow.{Flow}
-use Rattle.flow_table.specs.Table.{FlowTable, sids_of, flow_at, sid_if, with_flow, HasRoomFor}
-use Rattle.flow_table.proofs.IndexLemmas.{sid_used}
 
 -- ---- how many flows there are with one more, or with another in its place
 

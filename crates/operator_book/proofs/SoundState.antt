@@ -1,33 +1,9 @@
 -- A state of which no fault is found is sound under its row.
 use Rattle.std.proofs.Common.{◌≡◌, ◌≢◌, ℕ, ◌+◌, ◌≤◌, ◌==◌, ◌&&◌, ◌||◌, Bool, true, false, not, nat_le, nat_lt, List, [], ◌∷◌, length, get_or, All, Option, Some, None, IsSome, IfSome, is_some, refl, sym, ap, ◌∙◌, arith}
-use Rattle.std.specs.List.{cons_option, list_any}
-use Rattle.std.specs.Option.{option_or}
-use Rattle.std.proofs.lemmas.Bool.{ltb-false, leb-false, eqb-true, eq-eqb, and_parts, or_parts, not-false, not-true, true≢false, and_from}
-use Rattle.std.proofs.lemmas.List.Elements.{All-nil, All-cons, All-map, All-head, All-tail, All-weaker}
+use Rattle.operator_book.proofs.Common.{cons_option, list_any, option_or, ltb-false, leb-false, eqb-true, eq-eqb, and_parts, or_parts, not-false, not-true, true≢false, and_from, All-nil, All-cons, All-map, All-head, All-tail, All-weaker, Numbers, IsIn, Kind, Dsa, Dsc, Dsd, scheduling_number, Scheduling, ParamFields, SetsFields, ConstsFields, RowFields, is_listed, KeptEntry, is_waiting, Flow, Pending, asks_for_grants, sids_of, flow_at, committed_minislots, committed_elements, HaveOwnSids, Share, NextShare, OperatorState, operator, IsSoundFlow, IsSoundPending, IsWaitingOf, HasItsFlow, HaveOwnFlows, IsShare, IsNextShare, IsSound, first_fault_in, modem_fault, is_out_of, sid_fault, lacks_sid, has_stray_backlog, same_params, same_set, pending_fault, standing_fault, flow_fault, order_fault, HasTypedSets, IsTypedFlow, is_unset, does_await, response_fault, awaits_flow, pairs_fault, share_fault, next_fault, counts_fault, committed_fault, parts_fault, table_fault}
 use Rattle.std.proofs.lemmas.List.Kept.{AllPairs-cons}
-use Rattle.admission.specs.Free.{Numbers, IsIn}
-use Rattle.dsx_messages.specs.declared.kind.Kind.{Kind}
-use Rattle.dsx_messages.specs.declared.kind.Kind.TheVariants.{Dsa, Dsc, Dsd}
-use Rattle.param_sets.specs.Scheduling.{scheduling_number}
-use Rattle.param_sets.specs.declared.scheduling.Scheduling.{Scheduling}
 use Rattle.param_sets.specs.declared.scheduling.Scheduling.TheVariants.{BestEffort, NonRealTimePolling, RealTimePolling, UnsolicitedGrant}
-use Rattle.param_sets.specs.declared.param_set.ParamFields.{ParamFields}
-use Rattle.param_sets.specs.declared.sets.SetsFields.{SetsFields}
-use Rattle.plant.specs.declared.consts.ConstsFields.{ConstsFields}
-use Rattle.plant.specs.declared.operator_row.RowFields.{RowFields}
-use Rattle.plant.specs.Row.{is_listed}
-use Rattle.transactions.specs.declared.entry.KeptEntry.{KeptEntry}
-use Rattle.transactions.specs.Entry.{is_waiting}
-use Rattle.flow_table.specs.declared.flow.Flow.{Flow}
-use Rattle.flow_table.specs.declared.flow.Pending.{Pending}
-use Rattle.flow_table.specs.Flow.{asks_for_grants}
-use Rattle.flow_table.specs.Table.{sids_of, flow_at, committed_minislots, committed_elements, HaveOwnSids}
-use Rattle.operator_model.specs.declared.share.Share.{Share}
-use Rattle.operator_model.specs.declared.share.NextShare.{NextShare}
-use Rattle.operator_model.specs.State.{OperatorState, operator}
-use Rattle.operator_model.specs.Sound.{IsSoundFlow, IsSoundPending, IsWaitingOf, HasItsFlow, HaveOwnFlows, IsShare, IsNextShare, IsSound}
 use Rattle.operator_book.specs.declared.state_fault.StateFault.TheVariants as faults
-use Rattle.operator_book.specs.Resuming.{first_fault_in, modem_fault, is_out_of, sid_fault, lacks_sid, has_stray_backlog, same_params, same_set, pending_fault, standing_fault, flow_fault, order_fault, HasTypedSets, IsTypedFlow, is_unset, does_await, response_fault, awaits_flow, pairs_fault, share_fault, next_fault, counts_fault, committed_fault, parts_fault, table_fault}
 use Rattle.operator_book.proofs.Resumes.{or_none, where_none, where_or_none, each_none, ascending}
 
 -- ---- sets that are the same

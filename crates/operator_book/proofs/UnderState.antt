@@ -1,52 +1,13 @@
 -- A state that a machine can go on from has no fault.
 use Rattle.std.proofs.Common.{◌≡◌, ◌≢◌, ℕ, zero, suc, ◌+◌, ◌<◌, ◌≤◌, ◌==◌, ◌&&◌, Bool, true, false, not, cond, nat_lt, List, [], ◌∷◌, ◌++◌, length, map, get_or, All, ◌⊎◌, Option, Some, None, IsSome, IfSome, is_some, count_by, refl, sym, ap, ◌∙◌, subst, arith, inl, inr}
-use Rattle.std.specs.Prelude.{find}
-use Rattle.std.specs.List.{Contains, cons_option, list_any}
+use Rattle.operator_book.proofs.Common.{find, Contains, cons_option, list_any, option_or, Ordering, Less, Equal, Greater, nat_cmp, match_ordering, MatchOrdering, keys_of, insert_entry, le-ltb, lt-leb, eq-eqb, eqb-true, ne_eqb, and_from, and_parts, or_from, not_from_true, true≢false, false_from_ne_true, none-some, All-nil, All-cons, All-head, All-tail, Contains-append_right, append_assoc, sum_by-cons, sum_by-append, Contains-tail, ranked, Numbers, IsIn, Kind, Dsa, Dsc, Dsd, Modem, scheduling_number, ParamFields, SetsFields, ConstsFields, RowFields, is_listed, KeptEntry, is_waiting, is_of, OneEach, HasTicks, IsHeldUnsent, Flow, Pending, asks_for_grants, sids_of, flow_at, flow_with, sid_if, is_sid, with_flow, committed_minislots, committed_elements, HaveOwnSids, cases_sid, none_of, Share, NextShare, Arrival, OperatorState, IsSoundFlow, IsSoundPending, IsWaitingOf, HasItsFlow, HaveOwnFlows, IsShare, IsNextShare, StateFault, IsStateUnder, fault_where, first_fault_in, modem_fault, is_out_of, sid_fault, same_params, same_set, pending_fault, standing_fault, flow_fault, order_fault, sid_twice_fault, sids_fault, is_unset, does_await, response_fault, awaits_flow, pairs_fault, is_off_time, entries_fault, share_fault, next_fault, counts_fault, committed_fault, parts_fault, table_fault, state_fault}
 use Rattle.std.specs.List.Sorted.{IsStrictlySortedBy}
-use Rattle.std.specs.Option.{option_or}
-use Rattle.std.specs.declared.cmp.Ordering.{Ordering}
-use Rattle.std.specs.declared.cmp.Ordering.TheVariants.{Less, Equal, Greater}
-use Rattle.std.specs.Ordering.{nat_cmp, match_ordering, MatchOrdering}
-use Rattle.std.specs.Map.{keys_of}
-use Rattle.std.specs.BTreeMap.{insert_entry}
-use Rattle.std.proofs.lemmas.Bool.{le-ltb, lt-leb, eq-eqb, eqb-true, ne_eqb, and_from, and_parts, or_from, not_from_true, true≢false, false_from_ne_true}
 use Rattle.std.specs.Str.{bytes_eq}
 use Rattle.std.proofs.lemmas.Slice.Eq.{bytes_eq-Decides}
-use Rattle.std.proofs.lemmas.Option.{none-some}
-use Rattle.std.proofs.lemmas.List.Elements.{All-nil, All-cons, All-head, All-tail, Contains-append_right}
 use Rattle.std.proofs.lemmas.List.Folds.{list_any_none}
-use Rattle.std.proofs.lemmas.List.{append_assoc}
-use Rattle.std.proofs.lemmas.List.Sums.{sum_by-cons, sum_by-append}
 use Rattle.std.proofs.lemmas.Map.Keys.{sorted_tail}
-use Rattle.std.proofs.lemmas.Map.Made.{Contains-tail}
-use Rattle.std.proofs.lemmas.Cmp.{ranked}
-use Rattle.admission.specs.Free.{Numbers, IsIn}
-use Rattle.dsx_messages.specs.declared.kind.Kind.{Kind}
-use Rattle.dsx_messages.specs.declared.kind.Kind.TheVariants.{Dsa, Dsc, Dsd}
-use Rattle.dsx_messages.specs.declared.modem.Modem.{Modem}
-use Rattle.param_sets.specs.Scheduling.{scheduling_number}
-use Rattle.param_sets.specs.declared.param_set.ParamFields.{ParamFields}
-use Rattle.param_sets.specs.declared.sets.SetsFields.{SetsFields}
-use Rattle.plant.specs.declared.consts.ConstsFields.{ConstsFields}
-use Rattle.plant.specs.declared.operator_row.RowFields.{RowFields}
-use Rattle.plant.specs.Row.{is_listed}
-use Rattle.transactions.specs.declared.entry.KeptEntry.{KeptEntry}
-use Rattle.transactions.specs.Entry.{is_waiting, is_of}
-use Rattle.transactions.specs.Keeping.{OneEach, HasTicks, IsHeldUnsent}
-use Rattle.flow_table.specs.declared.flow.Flow.{Flow}
-use Rattle.flow_table.specs.declared.flow.Pending.{Pending}
-use Rattle.flow_table.specs.Flow.{asks_for_grants}
-use Rattle.flow_table.specs.Table.{sids_of, flow_at, flow_with, sid_if, is_sid, with_flow, committed_minislots, committed_elements, HaveOwnSids}
 use Rattle.flow_table.proofs.EntryLemmas.{looked_first, looked_past}
-use Rattle.flow_table.proofs.IndexLemmas.{cases_sid, none_of}
-use Rattle.operator_model.specs.declared.share.Share.{Share}
-use Rattle.operator_model.specs.declared.share.NextShare.{NextShare}
-use Rattle.operator_model.specs.declared.heard.Arrival.{Arrival}
-use Rattle.operator_model.specs.State.{OperatorState}
-use Rattle.operator_model.specs.Sound.{IsSoundFlow, IsSoundPending, IsWaitingOf, HasItsFlow, HaveOwnFlows, IsShare, IsNextShare}
-use Rattle.operator_book.specs.declared.state_fault.StateFault.{StateFault}
 use Rattle.operator_book.specs.declared.state_fault.StateFault.TheVariants as faults
-use Rattle.operator_book.specs.Resuming.{IsStateUnder, fault_where, first_fault_in, modem_fault, is_out_of, sid_fault, same_params, same_set, pending_fault, standing_fault, flow_fault, order_fault, sid_twice_fault, sids_fault, is_unset, does_await, response_fault, awaits_flow, pairs_fault, is_off_time, entries_fault, share_fault, next_fault, counts_fault, committed_fault, parts_fault, table_fault, state_fault}
 
 -- ---- no fault
 

@@ -1,33 +1,12 @@
 -- What is asked for is nested, and of a flow that waits for nothing.
 use Rattle.std.proofs.Common.{◌≡◌, ℕ, not, false, List, [], ◌∷◌, Option, Some, None, Result, Ok, Err, IfOk, IfSome, is_some, refl}
-use Rattle.std.proofs.lemmas.Bool.{cond_both}
+use Rattle.operator_model.proofs.Common.{cond_both, set_type_of, FlowFields, SetType, Null, Provisioned, Admitted, ProvisionedAndAdmitted, Active, AdmittedAndActive, AllSets, ReplyFields, parameter_set_of, IsWithinOrNull, AreNested, IsWithinProvisioned, ParamFields, SetsFields, Refusal, is_within, ConstsFields, asked_of, same_modem, Flow, Pending, flow_at, Addition, Change, KeepsItsKind, AreOfTheirKinds}
 use Rattle.lists.specs.Results.{◌>>=◌}
 use Rattle.tlv24.specs.Subtype.{reference_subtype, sfid_subtype}
-use Rattle.tlv24.specs.SetType.{set_type_of}
-use Rattle.tlv24.specs.declared.fields.FlowFields.{FlowFields}
-use Rattle.tlv24.specs.declared.set_type.SetType.{SetType}
-use Rattle.tlv24.specs.declared.set_type.SetType.TheVariants.{Null, Provisioned, Admitted, ProvisionedAndAdmitted, Active, AdmittedAndActive, AllSets}
 use Rattle.dsx_messages.specs.declared.code.Code.TheVariants as codes
-use Rattle.dsx_messages.specs.declared.reply.ReplyFields.{ReplyFields}
-use Rattle.param_sets.specs.Reading.{parameter_set_of}
-use Rattle.param_sets.specs.Within.{IsWithinOrNull}
-use Rattle.param_sets.specs.Sets.{AreNested, IsWithinProvisioned}
-use Rattle.param_sets.specs.declared.param_set.ParamFields.{ParamFields}
-use Rattle.param_sets.specs.declared.sets.SetsFields.{SetsFields}
-use Rattle.param_sets.specs.declared.refusal.Refusal.{Refusal}
-use Rattle.param_sets.proofs.WithinLemmas.{is_within}
-use Rattle.plant.specs.declared.consts.ConstsFields.{ConstsFields}
-use Rattle.plant.specs.Classes.{asked_of}
-use Rattle.plant.specs.Row.{same_modem}
-use Rattle.flow_table.specs.declared.flow.Flow.{Flow}
-use Rattle.flow_table.specs.declared.flow.Pending.{Pending}
-use Rattle.flow_table.specs.Table.{flow_at}
 use Rattle.operator_model.specs.declared.verdict.Transaction.{Transaction}
 use Rattle.operator_model.specs.declared.verdict.AskedSets.{AskedSets}
-use Rattle.operator_model.specs.declared.verdict.Addition.{Addition}
-use Rattle.operator_model.specs.declared.verdict.Change.{Change}
 use Rattle.operator_model.specs.Asked.{stated_or_refusal, refusal_naming, first_encoding, free_flow, has_set_type, set_or_refusal, set_over_class, set_of, is_change, asked_by_type, asked_by_one, asked_by_two, asked_sets, failing_active, failing_admitted, nested_unless, nested_sets, addition_of, change_of}
-use Rattle.operator_model.specs.Sound.{KeepsItsKind, AreOfTheirKinds}
 use Rattle.operator_model.proofs.KindLemmas.{read_kind}
 
 -- what one check gives the next one takes over

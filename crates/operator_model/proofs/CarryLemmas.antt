@@ -1,32 +1,12 @@
 -- A verdict that is carried out leaves a sound state, and so does all that is heard.
 use Rattle.std.proofs.Common.{◌≡◌, ◌≢◌, ℕ, ◌<◌, ◌≤◌, true, false, List, [], ◌∷◌, ◌++◌, length, get_or, Option, Some, None, Result, Ok, Err, IfSome, IsSome, All, find, refl, sym, ap, ◌∙◌, subst, arith, nat_le}
-use Rattle.std.proofs.lemmas.Bool.{cond_both, leb-false, true≢false}
-use Rattle.std.proofs.lemmas.List.{length_push}
-use Rattle.std.proofs.lemmas.List.Elements.{All-push}
+use Rattle.operator_model.proofs.Common.{cond_both, leb-false, true≢false, length_push, All-push, Modem, Kind, Message, MessageFault, message_of, KeptEntry, same_kind, is_waiting, is_of, begun_entry, Flow, flow_at, with_flow, Heard, Verdict, Refused, Put, Deleted, Operator, operator, refusal, verdict, encoding_refusal, StepResult, without_flow, carried_out, is_of_cmts, new_unless, transaction_result, kind_of, tid_of, message_handled, handle, IsWaitingOf, HasItsFlow, HaveOwnFlows, IsSound}
 use Rattle.std.proofs.lemmas.List.Quantifiers.{all_pairs_push}
-use Rattle.dsx_messages.specs.declared.modem.Modem.{Modem}
-use Rattle.dsx_messages.specs.declared.kind.Kind.{Kind}
 use Rattle.dsx_messages.specs.declared.code.Code.TheVariants as codes
-use Rattle.dsx_messages.specs.declared.message.Message.{Message}
 use Rattle.dsx_messages.specs.declared.message.Message.TheVariants as messages
-use Rattle.dsx_messages.specs.declared.fault.MessageFault.{MessageFault}
 use Rattle.dsx_messages.specs.declared.fault.MessageFault.TheVariants as faults
-use Rattle.dsx_messages.specs.Reading.{message_of}
 use Rattle.dsx_messages.specs.Spelling.{spell_reply}
-use Rattle.transactions.specs.declared.entry.KeptEntry.{KeptEntry}
-use Rattle.transactions.specs.Entry.{same_kind, is_waiting, is_of}
-use Rattle.transactions.specs.Keeping.{begun_entry}
-use Rattle.flow_table.specs.declared.flow.Flow.{Flow}
-use Rattle.flow_table.specs.Table.{flow_at, with_flow}
-use Rattle.operator_model.specs.declared.heard.Heard.{Heard}
 use Rattle.operator_model.specs.declared.heard.Heard.TheVariants as heards
-use Rattle.operator_model.specs.declared.verdict.Verdict.{Verdict}
-use Rattle.operator_model.specs.declared.verdict.Verdict.TheVariants.{Refused, Put, Deleted}
-use Rattle.operator_model.specs.State.{Operator, operator}
-use Rattle.operator_model.specs.Asked.{refusal}
-use Rattle.operator_model.specs.Verdict.{verdict, encoding_refusal}
-use Rattle.operator_model.specs.Handle.{StepResult, without_flow, carried_out, is_of_cmts, new_unless, transaction_result, kind_of, tid_of, message_handled, handle}
-use Rattle.operator_model.specs.Sound.{IsWaitingOf, HasItsFlow, HaveOwnFlows, IsSound}
 use Rattle.operator_model.proofs.MapLemmas.{at-insert_same, at-insert_other, at-remove_other}
 use Rattle.operator_model.proofs.FlowsLemmas.{put-AreFlows}
 use Rattle.operator_model.proofs.ChangeLemmas.{MayStep, stay-MayStep, without-MayStep}

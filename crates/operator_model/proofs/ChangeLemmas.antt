@@ -1,16 +1,6 @@
 -- What flows of which one changes keep.
 use Rattle.std.proofs.Common.{◌⊎◌, inl, inr, ◌≡◌, ℕ, List, Option, Some, None, IfSome, IsSome, refl, sym, subst}
-use Rattle.std.proofs.lemmas.Bool.{cases_eq}
-use Rattle.param_sets.specs.Units.{UnitSizes}
-use Rattle.dsx_messages.specs.declared.kind.Kind.{Kind}
-use Rattle.dsx_messages.specs.declared.kind.Kind.TheVariants.{Dsa, Dsc, Dsd}
-use Rattle.plant.specs.declared.operator_row.RowFields.{RowFields}
-use Rattle.flow_table.specs.declared.flow.Flow.{Flow}
-use Rattle.flow_table.specs.Flow.{taken_back}
-use Rattle.flow_table.specs.Table.{flow_at, with_flow}
-use Rattle.operator_model.specs.Handle.{without_flow, undone}
-use Rattle.flow_table.specs.Moved.{change_if, change_at}
-use Rattle.operator_model.specs.Sound.{IsSoundFlow}
+use Rattle.operator_model.proofs.Common.{cases_eq, UnitSizes, Kind, Dsa, Dsc, Dsd, RowFields, Flow, taken_back, flow_at, with_flow, without_flow, undone, change_if, change_at, IsSoundFlow}
 use Rattle.operator_model.proofs.MapLemmas.{at-insert_same, at-insert_other, at-remove_other}
 use Rattle.operator_model.proofs.FlowsLemmas.{AreFlows, MayPut-again, put-AreFlows, sound-there, without-AreFlows, CommitLess, same-CommitLess, without-CommitLess, put-CommitLess}
 use Rattle.operator_model.proofs.FollowLemmas.{MayFollow, follow-taken_back}

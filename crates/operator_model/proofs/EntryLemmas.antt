@@ -1,16 +1,7 @@
 -- Entries under numbers: sums, what holds of each, and a part that is read of each.
 use Rattle.std.proofs.Common.{◌≡◌, ℕ, ◌+◌, ◌<◌, Bool, true, false, cond, List, [], ◌∷◌, ◌⊎◌, Option, Some, None, All, filter_map, find, sum_by, unwrap_or, option_map, refl, sym, ap, ◌∙◌, subst, arith, inl, inr}
-use Rattle.std.specs.List.{AllByRecursion, cons_option}
+use Rattle.operator_model.proofs.Common.{AllByRecursion, cons_option, Less, Equal, Greater, nat_cmp, is_eq, remove_entry, keys_of, values_of, insert_entry, is_at, cases_order, cases_eq, nat_cmp_total, All-head, All-tail, sum_by-cons, none-some}
 use Rattle.std.specs.List.Sorted.{IsStrictlySortedBy}
-use Rattle.std.specs.declared.cmp.Ordering.TheVariants.{Less, Equal, Greater}
-use Rattle.std.specs.Ordering.{nat_cmp, is_eq}
-use Rattle.std.specs.Map.{remove_entry, keys_of, values_of}
-use Rattle.std.specs.BTreeMap.{insert_entry, is_at}
-use Rattle.std.proofs.lemmas.Bool.{cases_order, cases_eq}
-use Rattle.std.proofs.lemmas.Cmp.{nat_cmp_total}
-use Rattle.std.proofs.lemmas.List.Elements.{All-head, All-tail}
-use Rattle.std.proofs.lemmas.List.Sums.{sum_by-cons}
-use Rattle.std.proofs.lemmas.Option.{none-some}
 use Rattle.std.proofs.lemmas.Map.Entries.{sum_by-insert_entry, sum_by-remove_entry}
 use Rattle.operator_model.proofs.MapLemmas.{nat_cmp_less, nat_cmp_equal, nat_cmp_greater, is_at_other, Ascends, at, at-above, lower, put_as, found_as, taken_as}
 

@@ -1,21 +1,6 @@
 -- The flows of a row: what a flow that is put, replaced or taken out leaves.
 use Rattle.std.proofs.Common.{◌≡◌, ℕ, ◌≤◌, List, [], ◌∷◌, length, ◌⊎◌, Option, Some, None, IfSome, All, unwrap_or, option_map, refl, sym, ap, ◌∙◌, subst, arith, inl, inr}
-use Rattle.std.specs.List.{cons_option}
-use Rattle.std.specs.Ordering.{nat_cmp}
-use Rattle.std.specs.Map.{values_of}
-use Rattle.std.specs.BTreeMap.{is_at}
-use Rattle.std.proofs.lemmas.Bool.{cases_eq}
-use Rattle.std.proofs.lemmas.List.Elements.{All-nil, All-cons, All-head, All-tail}
-use Rattle.std.proofs.lemmas.Option.{none-some}
-use Rattle.std.proofs.lemmas.Map.Views.{All-values-insert_entry, All-keys-insert_entry, All-map-remove_entry, IfSome-lookup_from_All}
-use Rattle.param_sets.specs.Units.{UnitSizes}
-use Rattle.admission.specs.Free.{IsIn}
-use Rattle.plant.specs.declared.operator_row.RowFields.{RowFields}
-use Rattle.flow_table.specs.declared.flow.Flow.{Flow}
-use Rattle.flow_table.specs.Flow.{committed_of}
-use Rattle.flow_table.specs.Table.{sfids_of, sids_of, flow_at, sid_if, with_flow, committed_minislots, committed_elements, HaveOwnSids}
-use Rattle.operator_model.specs.Handle.{without_flow}
-use Rattle.operator_model.specs.Sound.{IsSoundFlow}
+use Rattle.operator_model.proofs.Common.{cons_option, nat_cmp, values_of, is_at, cases_eq, All-nil, All-cons, All-head, All-tail, none-some, All-values-insert_entry, All-keys-insert_entry, All-map-remove_entry, IfSome-lookup_from_All, UnitSizes, IsIn, RowFields, Flow, committed_of, sfids_of, sids_of, flow_at, sid_if, with_flow, committed_minislots, committed_elements, HaveOwnSids, without_flow, IsSoundFlow}
 use Rattle.operator_model.proofs.MapLemmas.{Ascends, at-insert_same, at-insert_other, at-remove_same, at-remove_other}
 use Rattle.operator_model.proofs.OrderLemmas.{ascending-insert, ascending-remove, length-insert_there, length-remove}
 use Rattle.operator_model.proofs.EntryLemmas.{sum-insert, sum-remove, All-at}

@@ -1,14 +1,6 @@
 -- What a change of one flow keeps of it.
 use Rattle.std.proofs.Common.{◌<◌, ◌≡◌, ℕ, ◌+◌, ◌-◌, ◌==◌, ◌≤◌, Bool, true, false, cond, Option, Some, None, IfSome, IsSome, is_some, refl, sym, ap, ◌∙◌, subst, arith}
-use Rattle.std.proofs.lemmas.Option.{none-some, IfSome_then}
-use Rattle.std.proofs.lemmas.Bool.{true≢false, cond_both}
-use Rattle.param_sets.specs.Units.{UnitSizes}
-use Rattle.param_sets.specs.Need.{need_if}
-use Rattle.param_sets.specs.declared.sets.SetsFields.{SetsFields}
-use Rattle.flow_table.specs.declared.flow.Flow.{Flow}
-use Rattle.flow_table.specs.declared.flow.Pending.{Pending}
-use Rattle.flow_table.specs.Flow.{asks_for_grants, pending_admitted, with_pending, flow_after_ack, without_pending, taken_back, flow_after_request, flow_after_grant}
-use Rattle.operator_model.specs.Sound.{IsSoundFlow, IsSoundPending}
+use Rattle.operator_model.proofs.Common.{none-some, IfSome_then, true≢false, cond_both, UnitSizes, need_if, SetsFields, Flow, Pending, asks_for_grants, pending_admitted, with_pending, flow_after_ack, without_pending, taken_back, flow_after_request, flow_after_grant, IsSoundFlow, IsSoundPending}
 use Rattle.operator_model.proofs.FlowsLemmas.{CommitsLess}
 
 -- a flow in another's place: its SID is the other's or none, it is sound, and it has committed no more

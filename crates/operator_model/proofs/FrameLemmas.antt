@@ -1,41 +1,12 @@
 -- The frames of a run, by their numbers: each tick puts out the next one, and nothing else puts out any.
 use Rattle.std.proofs.Common.{◌≡◌, ℕ, zero, suc, ◌+◌, ◌<◌, not, true, cond, List, [], ◌∷◌, ◌++◌, length, Option, Some, None, Result, Ok, Err, option_map, find, map, count_by, refl, sym, ap, ◌∙◌, arith, nat_le}
-use Rattle.std.specs.List.{range_with_len}
-use Rattle.std.proofs.lemmas.Bool.{cond_both, cond-true, cond-false, lt-leb}
-use Rattle.std.proofs.lemmas.List.Elements.{filter_map-append}
-use Rattle.std.proofs.lemmas.List.Sums.{sum_by-cons}
-use Rattle.dsx_messages.specs.declared.modem.Modem.{Modem}
-use Rattle.dsx_messages.specs.declared.kind.Kind.{Kind}
+use Rattle.operator_model.proofs.Common.{range_with_len, cond_both, cond-true, cond-false, lt-leb, filter_map-append, sum_by-cons, Modem, Kind, Message, MessageFault, message_of, KeptEntry, same_kind, is_of, waits_for, resent_in, ConstsFields, RowFields, same_modem, Flow, asks_for_grants, flow_with, Heard, Arrival, Action, Arrive, Work, Tick, Reslice, Verdict, Refused, operator, OperatorState, Operator, refusal, verdict, encoding_refusal, StepResult, reply_result, is_of_cmts, new_unless, transaction_result, acked_if, kind_of, tid_of, message_handled, asked_of_flow, handle, resent, tick_result, frame_number, frame_numbers, is_tick}
 use Rattle.dsx_messages.specs.declared.code.Code.TheVariants as codes
-use Rattle.dsx_messages.specs.declared.message.Message.{Message}
 use Rattle.dsx_messages.specs.declared.message.Message.TheVariants as messages
-use Rattle.dsx_messages.specs.declared.fault.MessageFault.{MessageFault}
 use Rattle.dsx_messages.specs.declared.fault.MessageFault.TheVariants as faults
-use Rattle.dsx_messages.specs.Reading.{message_of}
-use Rattle.transactions.specs.declared.entry.KeptEntry.{KeptEntry}
 use Rattle.transactions.specs.declared.tick.Resend.{Resend}
-use Rattle.transactions.specs.Entry.{same_kind, is_of, waits_for}
-use Rattle.transactions.specs.Timers.{resent_in}
-use Rattle.plant.specs.declared.consts.ConstsFields.{ConstsFields}
-use Rattle.plant.specs.declared.operator_row.RowFields.{RowFields}
-use Rattle.plant.specs.Row.{same_modem}
-use Rattle.flow_table.specs.declared.flow.Flow.{Flow}
-use Rattle.flow_table.specs.Flow.{asks_for_grants}
-use Rattle.flow_table.specs.Table.{flow_with}
-use Rattle.operator_model.specs.declared.heard.Heard.{Heard}
 use Rattle.operator_model.specs.declared.heard.Heard.TheVariants as heards
-use Rattle.operator_model.specs.declared.heard.Arrival.{Arrival}
-use Rattle.operator_model.specs.declared.action.Action.{Action}
-use Rattle.operator_model.specs.declared.action.Action.TheVariants.{Arrive, Work, Tick, Reslice}
-use Rattle.operator_model.specs.declared.verdict.Verdict.{Verdict}
-use Rattle.operator_model.specs.declared.verdict.Verdict.TheVariants.{Refused}
-use Rattle.operator_model.specs.State.{operator, OperatorState, Operator}
-use Rattle.operator_model.specs.Asked.{refusal}
-use Rattle.operator_model.specs.Verdict.{verdict, encoding_refusal}
-use Rattle.operator_model.specs.Handle.{StepResult, reply_result, is_of_cmts, new_unless, transaction_result, acked_if, kind_of, tid_of, message_handled, asked_of_flow, handle}
-use Rattle.operator_model.specs.Frame.{resent, tick_result}
 use Rattle.operator_model.specs.Machine.{arrival_result, work_result, own_step, own_run}
-use Rattle.operator_model.specs.Frames.{frame_number, frame_numbers, is_tick}
 
 -- what is put out has so many frames from this one on, and the next one follows them
 pub record PutsOut (frame count : ℕ) (ran : StepResult) : Type 0 where

@@ -1,19 +1,6 @@
 -- Identifiers that no flow has, and the room that a new flow takes.
 use Rattle.std.proofs.Common.{◌≡◌, ℕ, suc, ◌+◌, ◌≤◌, Bool, true, false, cond, List, [], ◌∷◌, length, ◌⊎◌, Option, Some, None, IfSome, refl, sym, ap, ◌∙◌, arith, inl, inr}
-use Rattle.std.specs.List.{Contains, cons_option}
-use Rattle.std.specs.declared.cmp.Ordering.{Ordering}
-use Rattle.std.specs.declared.cmp.Ordering.TheVariants.{Less, Equal, Greater}
-use Rattle.std.specs.Ordering.{nat_cmp, match_ordering}
-use Rattle.std.specs.BTreeMap.{is_at}
-use Rattle.std.proofs.lemmas.Bool.{cases_eq}
-use Rattle.std.proofs.lemmas.Option.{none-some}
-use Rattle.param_sets.specs.Units.{UnitSizes}
-use Rattle.admission.specs.Free.{Numbers, IsIn, IsFree}
-use Rattle.plant.specs.declared.operator_row.RowFields.{RowFields}
-use Rattle.flow_table.specs.declared.flow.Flow.{Flow}
-use Rattle.flow_table.specs.Flow.{committed_of}
-use Rattle.flow_table.specs.Table.{sfids_of, sids_of, flow_at, sid_if, with_flow, committed_minislots, committed_elements}
-use Rattle.operator_model.specs.Sound.{IsSoundFlow}
+use Rattle.operator_model.proofs.Common.{Contains, cons_option, Ordering, Less, Equal, Greater, nat_cmp, match_ordering, is_at, cases_eq, none-some, UnitSizes, Numbers, IsIn, IsFree, RowFields, Flow, committed_of, sfids_of, sids_of, flow_at, sid_if, with_flow, committed_minislots, committed_elements, IsSoundFlow}
 use Rattle.operator_model.proofs.MapLemmas.{Ascends, is_at_other, found_as}
 use Rattle.operator_model.proofs.EntryLemmas.{sum-insert}
 use Rattle.operator_model.proofs.FlowsLemmas.{MayPut}

@@ -1,24 +1,7 @@
 -- What is handled leaves a sound state: an acknowledgement, a request for minislots, and a verdict that is carried out.
 use Rattle.std.proofs.Common.{◌≡◌, ◌≢◌, ℕ, ◌==◌, ◌&&◌, not, Bool, true, false, cond, List, get_or, Option, Some, None, IfSome, IsSome, is_some, option_map, All, find, map, refl, sym, ap, ◌∙◌, subst}
-use Rattle.std.proofs.lemmas.Bool.{and_parts, cond_both, not-false, false≢true}
-use Rattle.std.proofs.lemmas.List.{length-map}
-use Rattle.std.proofs.lemmas.List.Elements.{All-map}
-use Rattle.dsx_messages.specs.declared.modem.Modem.{Modem}
-use Rattle.dsx_messages.specs.declared.kind.Kind.{Kind}
-use Rattle.dsx_messages.specs.declared.kind.Kind.TheVariants.{Dsa, Dsc, Dsd}
-use Rattle.transactions.specs.declared.entry.KeptEntry.{KeptEntry}
-use Rattle.transactions.specs.Waits.{Waits}
-use Rattle.transactions.specs.Entry.{same_kind, is_waiting, is_of, waits_for}
-use Rattle.transactions.specs.Keeping.{held_entry, entry_after_ack}
-use Rattle.plant.specs.Row.{same_modem}
-use Rattle.flow_table.specs.declared.flow.Flow.{Flow}
-use Rattle.flow_table.specs.Flow.{asks_for_grants, flow_after_request}
+use Rattle.operator_model.proofs.Common.{and_parts, cond_both, not-false, false≢true, length-map, All-map, Modem, Kind, Dsa, Dsc, Dsd, KeptEntry, Waits, same_kind, is_waiting, is_of, waits_for, held_entry, entry_after_ack, same_modem, Flow, asks_for_grants, flow_after_request, flow_at, flow_with, is_sid, with_flow, Operator, operator, StepResult, flows_acked, acked_if, ack_result, asked_of_flow, change_if, IsWaitingOf, HasItsFlow, IsSound}
 use Rattle.flow_table.specs.Flow as flows
-use Rattle.flow_table.specs.Table.{flow_at, flow_with, is_sid, with_flow}
-use Rattle.operator_model.specs.State.{Operator, operator}
-use Rattle.operator_model.specs.Handle.{StepResult, flows_acked, acked_if, ack_result, asked_of_flow}
-use Rattle.flow_table.specs.Moved.{change_if}
-use Rattle.operator_model.specs.Sound.{IsWaitingOf, HasItsFlow, IsSound}
 use Rattle.operator_model.proofs.EntryLemmas.{at-find}
 use Rattle.operator_model.proofs.FlowsLemmas.{sound-there}
 use Rattle.operator_model.proofs.ChangeLemmas.{MayStep, put-MayStep, change-MayStep, undone-MayStep, kept-change, at-change_other, at-undone_other}

@@ -1,19 +1,6 @@
 -- The kept entries: each that waits has a flow of its own.
 use Rattle.std.proofs.Common.{◌≡◌, ◌≢◌, ◌==◌, ◌&&◌, Option, Some, None, IsSome, IfSome, is_some, ℕ, suc, Bool, true, false, cond, List, [], ◌∷◌, get_or, All, AllPairs, find, map, filter, refl, sym, ap, subst, ◌∙◌, arith}
-use Rattle.std.specs.List.{AllByRecursion}
-use Rattle.std.proofs.lemmas.Bool.{and_parts, true≢false}
-use Rattle.std.proofs.lemmas.List.Elements.{All-head, All-tail, All-cons, All-map, All-weaker}
-use Rattle.std.proofs.lemmas.List.Kept.{AllPairs-cons}
-use Rattle.std.proofs.lemmas.Option.{none-some, same_Some}
-use Rattle.dsx_messages.specs.declared.kind.Kind.{Kind}
-use Rattle.dsx_messages.specs.declared.kind.Kind.TheVariants.{Dsa, Dsc, Dsd}
-use Rattle.transactions.specs.declared.entry.KeptEntry.{KeptEntry}
-use Rattle.transactions.specs.declared.tick.GivenUp.{GivenUp}
-use Rattle.transactions.specs.Entry.{is_waiting}
-use Rattle.transactions.specs.Timers.{is_response_due, is_given_up, given_up_of, given_up_in}
-use Rattle.flow_table.specs.declared.flow.Flow.{Flow}
-use Rattle.flow_table.specs.Table.{flow_at}
-use Rattle.operator_model.specs.Sound.{IsWaitingOf, HasItsFlow, HaveOwnFlows}
+use Rattle.operator_model.proofs.Common.{AllByRecursion, and_parts, true≢false, All-head, All-tail, All-cons, All-map, All-weaker, AllPairs-cons, none-some, same_Some, Kind, Dsa, Dsc, Dsd, KeptEntry, GivenUp, is_waiting, is_response_due, is_given_up, given_up_of, given_up_in, Flow, flow_at, IsWaitingOf, HasItsFlow, HaveOwnFlows}
 
 -- ---- pairs
 

@@ -1,15 +1,10 @@
 -- A set that is read keeps what its kind of scheduling keeps.
 use Rattle.std.proofs.Common.{◌≡◌, ℕ, Option, Some, None, IfOk, refl}
-use Rattle.tlv24.specs.declared.fields.FlowFields.{FlowFields}
-use Rattle.param_sets.specs.Units.{UnitSizes}
+use Rattle.operator_model.proofs.Common.{FlowFields, UnitSizes, invalids_of, invalid_of, set_unless, set_of_kind, parameter_set_of, Scheduling, BestEffort, NonRealTimePolling, RealTimePolling, UnsolicitedGrant, KeepsItsKind}
 use Rattle.param_sets.specs.Scheduling.{scheduling_of}
 use Rattle.param_sets.specs.Kept.{kept_of, missing_of}
-use Rattle.param_sets.specs.Reading.{invalids_of, invalid_of, set_unless, set_of_kind, parameter_set_of}
-use Rattle.param_sets.specs.declared.scheduling.Scheduling.{Scheduling}
-use Rattle.param_sets.specs.declared.scheduling.Scheduling.TheVariants.{BestEffort, NonRealTimePolling, RealTimePolling, UnsolicitedGrant}
 use Rattle.param_sets.proofs.First.{none_is_true}
 use Rattle.param_sets.proofs.KeptLemmas.{are_granted}
-use Rattle.operator_model.specs.Sound.{KeepsItsKind}
 
 module _ (flow : FlowFields) (units : UnitSizes) where
   kept_kind : (kind : Scheduling) → invalid_of (kept_of kind flow) units ≡ None → KeepsItsKind (kept_of kind flow)

@@ -1,28 +1,7 @@
 -- What a tick leaves of the flows and of the kept entries.
 use Rattle.std.proofs.Common.{◌≡◌, ◌≢◌, ℕ, ◌+◌, ◌&&◌, ◌≤◌, not, Bool, true, false, cond, List, [], ◌∷◌, length, get_or, IfSome, IsSome, All, map, filter, refl, sym, ◌∙◌, subst, arith}
-use Rattle.std.specs.List.{AllByRecursion}
-use Rattle.std.specs.Map.{values_of}
-use Rattle.std.proofs.lemmas.Bool.{cond_both, not-true, or_parts}
-use Rattle.std.proofs.lemmas.List.{length-map}
-use Rattle.std.proofs.lemmas.List.Elements.{All-cons, All-weaker, All-nil}
-use Rattle.std.proofs.lemmas.List.Kept.{AllPairs-filter}
-use Rattle.std.proofs.lemmas.List.Sums.{length-filter, count_by-le-length}
-use Rattle.dsx_messages.specs.declared.kind.Kind.{Kind}
-use Rattle.transactions.specs.declared.entry.KeptEntry.{KeptEntry}
-use Rattle.transactions.specs.declared.tick.GivenUp.{GivenUp}
-use Rattle.transactions.specs.Waits.{Waits}
-use Rattle.transactions.specs.Entry.{is_waiting}
-use Rattle.transactions.specs.Timers.{is_response_due, is_resent, is_given_up, is_forgotten, given_up_of, given_up_in, kept_after}
+use Rattle.operator_model.proofs.Common.{AllByRecursion, values_of, cond_both, not-true, or_parts, length-map, All-cons, All-weaker, All-nil, AllPairs-filter, length-filter, count_by-le-length, Kind, KeptEntry, GivenUp, Waits, is_waiting, is_response_due, is_resent, is_given_up, is_forgotten, given_up_of, given_up_in, kept_after, UnitSizes, RowFields, Flow, flow_after_grant, flow_at, undone, change_at, all_undone, all_granted, IsSoundFlow, IsWaitingOf, HasItsFlow, HaveOwnFlows}
 use Rattle.transactions.specs.Timers as timers
-use Rattle.param_sets.specs.Units.{UnitSizes}
-use Rattle.plant.specs.declared.operator_row.RowFields.{RowFields}
-use Rattle.flow_table.specs.declared.flow.Flow.{Flow}
-use Rattle.flow_table.specs.Flow.{flow_after_grant}
-use Rattle.flow_table.specs.Table.{flow_at}
-use Rattle.operator_model.specs.Handle.{undone}
-use Rattle.flow_table.specs.Moved.{change_at}
-use Rattle.operator_model.specs.Frame.{all_undone, all_granted}
-use Rattle.operator_model.specs.Sound.{IsSoundFlow, IsWaitingOf, HasItsFlow, HaveOwnFlows}
 use Rattle.operator_model.proofs.FlowsLemmas.{AreFlows, then-CommitLess, same-CommitLess}
 use Rattle.operator_model.proofs.ChangeLemmas.{MayStep, undone-MayStep, change-MayStep, kept-change, at-undone_other}
 use Rattle.operator_model.proofs.FollowLemmas.{follow-granted}

@@ -1,3 +1,4 @@
+mod Common
 pub mod MapLemmas
 pub mod OrderLemmas
 pub mod EntryLemmas

@@ -4,13 +4,7 @@ use Rattle.std.specs.Int.{div_ceil}
 use Rattle.std.proofs.lemmas.Grind.{div_ceil_times}
 use Rattle.std.proofs.Math.Nat.{div-zero, suc-mul, lt_of_mul-lt-mul_right}
 use Rattle.std.proofs.lemmas.Nat.{mul-le, div-add-mod'}
-use Rattle.admission.specs.declared.budget.Budget.{Budget}
-use Rattle.param_sets.specs.Units.{UnitSizes, reserve_of}
-use Rattle.param_sets.specs.Need.{need_of_kind, need_of, need_if}
-use Rattle.param_sets.specs.Within.{IsWithin, IsWithinOrNull}
-use Rattle.param_sets.specs.declared.scheduling.Scheduling.{Scheduling}
-use Rattle.param_sets.specs.declared.scheduling.Scheduling.TheVariants.{BestEffort, NonRealTimePolling, RealTimePolling, UnsolicitedGrant}
-use Rattle.param_sets.specs.declared.param_set.ParamFields.{ParamFields}
+use Rattle.operator_model.proofs.Common.{Budget, UnitSizes, reserve_of, need_of_kind, need_of, need_if, IsWithin, IsWithinOrNull, Scheduling, BestEffort, NonRealTimePolling, RealTimePolling, UnsolicitedGrant, ParamFields}
 
 -- quotients that are rounded up rise; by 0 they are none or one
 div_ceil-le : (a b n : ℕ) → a ≤ b → div_ceil a n ≤ div_ceil b n

@@ -1,14 +1,6 @@
 -- An operator as it is opened before a frame is sound.
 use Rattle.std.proofs.Common.{◌≡◌, ℕ, ◌≤◌, List, Result, Ok, Err, IsSome, count_by, sum_by, refl, sym, subst, arith}
-use Rattle.std.proofs.lemmas.List.Elements.{All-weaker}
-use Rattle.tlv24.specs.Flow.{flow_of}
-use Rattle.plant.specs.declared.consts.ConstsFields.{ConstsFields}
-use Rattle.plant.specs.declared.provision.Provision.{Provision}
-use Rattle.plant.specs.declared.operator_row.RowFields.{RowFields}
-use Rattle.plant.specs.Provisioned.{sets_of_flow, sets_of_encoding}
-use Rattle.plant.specs.Row.{need_of_sets, need_of_provision, admits, IsProvision, IsRowOf}
-use Rattle.operator_model.specs.State.{operator, consts_from, opened_before}
-use Rattle.operator_model.specs.Sound.{IsSound}
+use Rattle.operator_model.proofs.Common.{All-weaker, flow_of, ConstsFields, Provision, RowFields, sets_of_flow, sets_of_encoding, need_of_sets, need_of_provision, admits, IsProvision, IsRowOf, operator, consts_from, opened_before, IsSound}
 use Rattle.operator_model.proofs.OpenedLemmas.{opened_sound}
 
 module _ (frame : ℕ) (consts : ConstsFields) where

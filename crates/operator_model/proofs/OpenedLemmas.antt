@@ -1,24 +1,7 @@
 -- A machine as it is opened.
 use Rattle.std.proofs.Common.{◌≡◌, ℕ, ◌+◌, ◌≤◌, Bool, true, false, cond, List, [], ◌∷◌, length, Option, Some, None, IfSome, IsSome, is_some, count_by, sum_by, refl, sym, ap, ◌∙◌, subst, arith}
 use Rattle.std.specs.List.Sorted.{IsStrictlySortedBy}
-use Rattle.std.proofs.lemmas.Bool.{false≢true}
-use Rattle.std.proofs.lemmas.List.Elements.{All-nil}
-use Rattle.std.proofs.lemmas.List.Sums.{sum_by-cons}
-use Rattle.std.proofs.lemmas.Option.{none-some}
-use Rattle.tlv24.specs.Flow.{flow_of}
-use Rattle.dsx_messages.specs.declared.modem.Modem.{Modem}
-use Rattle.admission.specs.Free.{IsFree, least_free_of}
-use Rattle.param_sets.specs.Need.{need_if}
-use Rattle.param_sets.specs.declared.sets.SetsFields.{SetsFields}
-use Rattle.plant.specs.declared.consts.ConstsFields.{ConstsFields}
-use Rattle.plant.specs.declared.provision.Provision.{Provision}
-use Rattle.plant.specs.declared.operator_row.RowFields.{RowFields}
-use Rattle.plant.specs.Provisioned.{sets_of_encoding, OpenedFlow, opened_sfids, opened_sids, opened_sid, and_under, and_opened, all_opened, opened_flows}
-use Rattle.plant.specs.Row.{need_of_sets, need_of_provision, admits, count_of, IsRowOf}
-use Rattle.flow_table.specs.declared.flow.Flow.{Flow}
-use Rattle.flow_table.specs.Table.{sfids_of, sids_of, committed_minislots, committed_elements}
-use Rattle.operator_model.specs.State.{opened_flow, opened_state, operator}
-use Rattle.operator_model.specs.Sound.{IsSoundFlow, HasItsFlow, IsSound}
+use Rattle.operator_model.proofs.Common.{false≢true, All-nil, sum_by-cons, none-some, flow_of, Modem, IsFree, least_free_of, need_if, SetsFields, ConstsFields, Provision, RowFields, sets_of_encoding, OpenedFlow, opened_sfids, opened_sids, opened_sid, and_under, and_opened, all_opened, opened_flows, need_of_sets, need_of_provision, admits, count_of, IsRowOf, Flow, sfids_of, sids_of, committed_minislots, committed_elements, opened_flow, opened_state, operator, IsSoundFlow, HasItsFlow, IsSound}
 use Rattle.operator_model.proofs.OrderLemmas.{length-insert}
 use Rattle.operator_model.proofs.FlowsLemmas.{AreFlows, put-AreFlows}
 use Rattle.operator_model.proofs.FreshLemmas.{MayPut-fresh, sid_count, length-sids, minislots-put, elements-put}

@@ -1,14 +1,7 @@
 -- Entries under numbers: an insert and a removal keep their order, and how many there are.
 use Rattle.std.proofs.Common.{◌≡◌, ℕ, ◌+◌, ◌<◌, ◌≤◌, Bool, true, false, cond, List, [], ◌∷◌, length, ◌⊎◌, Some, None, sym, ap, ◌∙◌, subst, arith, inl, inr}
 use Rattle.std.specs.List.Sorted.{IsStrictlySortedBy}
-use Rattle.std.specs.declared.cmp.Ordering.{Ordering}
-use Rattle.std.specs.declared.cmp.Ordering.TheVariants.{Less, Equal, Greater}
-use Rattle.std.specs.Ordering.{nat_cmp, is_eq, match_ordering}
-use Rattle.std.specs.Map.{remove_entry, keys_of}
-use Rattle.std.specs.BTreeMap.{insert_entry, is_at}
-use Rattle.std.proofs.lemmas.Bool.{cases_order}
-use Rattle.std.proofs.lemmas.List.Elements.{All-from_recursion, recursion_from_All}
-use Rattle.std.proofs.lemmas.Map.Views.{All-keys-insert_entry, All-map-remove_entry}
+use Rattle.operator_model.proofs.Common.{Ordering, Less, Equal, Greater, nat_cmp, is_eq, match_ordering, remove_entry, keys_of, insert_entry, is_at, cases_order, All-from_recursion, recursion_from_All, All-keys-insert_entry, All-map-remove_entry}
 use Rattle.operator_model.proofs.MapLemmas.{nat_cmp_less, nat_cmp_equal, nat_cmp_greater, lower, Ascends, at, at-above, put_as, found_as}
 
 module _ {X : Type 0} where

@@ -1,31 +1,14 @@
 -- What a tick puts out is a part of its frame's MAP.
 use Rattle.std.proofs.Common.{◌≡◌, ◌≢◌, ℕ, ◌+◌, ◌==◌, ◌&&◌, ◌≤◌, Bool, true, false, cond, List, [], ◌∷◌, length, Option, Some, None, IfSome, IsSome, unwrap_or, All, count_by, refl, sym, ap, ◌∙◌, subst, arith}
-use Rattle.std.specs.List.{AllByRecursion, cons_option, list_all}
-use Rattle.std.specs.Map.{values_of}
+use Rattle.operator_model.proofs.Common.{AllByRecursion, cons_option, list_all, values_of, false≢true, All-head, All-tail, All-from_recursion, Numbers, IsIn, IsWithinOrNull, Scheduling, ParamFields, Flowing, elements_of, IsOfItsKind, AsksWhereItMay, IsRow, Flow, is_unsolicited, asks_for_grants, flowing_of_set, flowing_in, Operator, at_frame, frame_elements, KeepsItsKind, IsSoundFlow, IsSound}
 use Rattle.std.proofs.lemmas.Bool.Decides.{nat_tests}
-use Rattle.std.proofs.lemmas.Bool.{false≢true}
-use Rattle.std.proofs.lemmas.List.Elements.{All-head, All-tail, All-from_recursion}
-use Rattle.admission.specs.Free.{Numbers, IsIn}
-use Rattle.param_sets.specs.Within.{IsWithinOrNull}
-use Rattle.param_sets.specs.declared.scheduling.Scheduling.{Scheduling}
-use Rattle.param_sets.specs.declared.param_set.ParamFields.{ParamFields}
 use Rattle.slice_scheduler.specs.declared.span.Span.{Span}
-use Rattle.slice_scheduler.specs.declared.flowing.Flowing.{Flowing}
 use Rattle.slice_scheduler.specs.declared.elements.ElementsFields.{ElementsFields}
-use Rattle.slice_scheduler.specs.Schedule.{elements_of}
-use Rattle.slice_scheduler.specs.Servable.{IsOfItsKind, AsksWhereItMay}
 use Rattle.slice_scheduler.specs.Tiles.{IsTiled}
 use Rattle.slice_scheduler.proofs.TiledLemmas.{elements-tiled}
 use Rattle.slice_scheduler.proofs.NamedLemmas.{spans-named, pending-named}
 use Rattle.slice_scheduler.proofs.FewLemmas.{elements-few, one-nobody}
-use Rattle.plant.specs.Row.{IsRow}
-use Rattle.flow_table.specs.declared.flow.Flow.{Flow}
-use Rattle.flow_table.specs.Flow.{is_unsolicited, asks_for_grants}
-use Rattle.flow_table.specs.Table.{flowing_of_set, flowing_in}
-use Rattle.operator_model.specs.State.{Operator}
-use Rattle.operator_model.specs.Frame.{at_frame, frame_elements}
 use Rattle.operator_model.specs.Part.{is_own_sid}
-use Rattle.operator_model.specs.Sound.{KeepsItsKind, IsSoundFlow, IsSound}
 use Rattle.operator_model.proofs.FlowsLemmas.{sids-each}
 use Rattle.operator_model.proofs.ServeLemmas.{served, can_ascend, can_fit, elements_within}
 use Rattle.operator_model.proofs.UndoLemmas.{flows_left_same}

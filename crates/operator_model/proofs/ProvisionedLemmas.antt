@@ -1,29 +1,7 @@
 -- Provisioned flows: their sets are nested and of their kinds, and how they stand as flows.
 use Rattle.std.proofs.Common.{◌≡◌, ℕ, List, [], ◌∷◌, Option, Some, None, Result, Ok, Err, IfOk, IfSome, map, refl, ap}
-use Rattle.std.specs.List.{cons_option}
-use Rattle.std.specs.declared.cmp.Ordering.{Ordering}
-use Rattle.std.specs.declared.cmp.Ordering.TheVariants.{Less, Equal, Greater}
-use Rattle.std.specs.Ordering.{nat_cmp, match_ordering}
-use Rattle.std.specs.BTreeMap.{insert_entry}
-use Rattle.tlv24.specs.SetType.{set_type_of}
-use Rattle.tlv24.specs.declared.fields.FlowFields.{FlowFields}
-use Rattle.tlv24.specs.declared.set_type.SetType.{SetType}
-use Rattle.tlv24.specs.declared.set_type.SetType.TheVariants.{Null, Provisioned, Admitted, ProvisionedAndAdmitted, Active, AdmittedAndActive, AllSets}
+use Rattle.operator_model.proofs.Common.{cons_option, Ordering, Less, Equal, Greater, nat_cmp, match_ordering, insert_entry, set_type_of, FlowFields, SetType, Null, Provisioned, Admitted, ProvisionedAndAdmitted, Active, AdmittedAndActive, AllSets, UnitSizes, parameter_set_of, AreNested, ParamFields, Refusal, SetsFields, within_self, ConstsFields, asked_of, sets_of_type, sets_of_set, sets_over_class, sets_of_flow, OpenedFlow, opened_sfids, opened_sids, Flow, sfids_of, sids_of, with_flow, opened_flow, KeepsItsKind, AreOfTheirKinds}
 use Rattle.tlv24.specs.declared.fault.FlowFault.{FlowFault}
-use Rattle.param_sets.specs.Units.{UnitSizes}
-use Rattle.param_sets.specs.Reading.{parameter_set_of}
-use Rattle.param_sets.specs.Sets.{AreNested}
-use Rattle.param_sets.specs.declared.param_set.ParamFields.{ParamFields}
-use Rattle.param_sets.specs.declared.refusal.Refusal.{Refusal}
-use Rattle.param_sets.specs.declared.sets.SetsFields.{SetsFields}
-use Rattle.param_sets.proofs.WithinLemmas.{within_self}
-use Rattle.plant.specs.declared.consts.ConstsFields.{ConstsFields}
-use Rattle.plant.specs.Classes.{asked_of}
-use Rattle.plant.specs.Provisioned.{sets_of_type, sets_of_set, sets_over_class, sets_of_flow, OpenedFlow, opened_sfids, opened_sids}
-use Rattle.flow_table.specs.declared.flow.Flow.{Flow}
-use Rattle.flow_table.specs.Table.{sfids_of, sids_of, with_flow}
-use Rattle.operator_model.specs.State.{opened_flow}
-use Rattle.operator_model.specs.Sound.{KeepsItsKind, AreOfTheirKinds}
 use Rattle.operator_model.proofs.KindLemmas.{read_kind}
 
 -- ---- what is provisioned is nested, and of its kind

@@ -3,13 +3,10 @@ use Rattle.std.proofs.Common.{◌≡◌, ℕ, zero, suc, ◌+◌, ◌<◌, ◌�
 use Rattle.std.specs.Prelude.{nat_eq}
 use Rattle.std.specs.List.{AllByRecursion, IsDistinct, range_with_len}
 use Rattle.std.specs.Set.{is_member}
-use Rattle.std.proofs.lemmas.Bool.{or_cases, eqb-true, ne_eqb, true_from_ne_false, false≢true}
-use Rattle.std.proofs.lemmas.Cmp.{nat_eq_equiv}
+use Rattle.operator_model.proofs.Common.{or_cases, eqb-true, ne_eqb, true_from_ne_false, false≢true, nat_eq_equiv, Numbers, IsFree, IsLeastFree, is_used, least_free_of, count_of}
 use Rattle.std.proofs.lemmas.Map.Made.{length-le_from_is_member}
 use Rattle.std.proofs.lemmas.List.FromFn.{length-range_with_len}
-use Rattle.admission.specs.Free.{Numbers, IsFree, IsLeastFree, is_used, least_free_of}
 use Rattle.admission.proofs.FreeLemmas.{test_from_used, least_free_cases, least_free_iff}
-use Rattle.plant.specs.Row.{count_of}
 
 -- ---- the numbers of a range
 

@@ -1,26 +1,8 @@
 -- The flows that are scheduled, of flows that are sound.
 use Rattle.std.proofs.Common.{◌≡◌, ℕ, ◌+◌, ◌<◌, ◌≤◌, List, [], ◌∷◌, Option, Some, None, unwrap_or, All, sum_by, sym, arith}
-use Rattle.std.specs.List.{AllByRecursion, cons_option}
+use Rattle.operator_model.proofs.Common.{AllByRecursion, cons_option, Less, nat_cmp, keys_of, values_of, ranked, All-nil, All-cons, All-head, All-tail, sum_by-cons, Budget, UnitSizes, need_of, need_if, ParamFields, Flowing, SfidsAscend, IsPast, total_need, elements_needed, Flow, committed_of, flowing_of_set, flowing_in, committed_minislots, committed_elements, Operator, at_frame, IsSoundFlow, IsSound}
 use Rattle.std.specs.List.Sorted.{IsStrictlySortedBy}
-use Rattle.std.specs.declared.cmp.Ordering.TheVariants.{Less}
-use Rattle.std.specs.Ordering.{nat_cmp}
-use Rattle.std.specs.Map.{keys_of, values_of}
-use Rattle.std.proofs.lemmas.Cmp.{ranked}
-use Rattle.std.proofs.lemmas.List.Elements.{All-nil, All-cons, All-head, All-tail}
-use Rattle.std.proofs.lemmas.List.Sums.{sum_by-cons}
-use Rattle.admission.specs.declared.budget.Budget.{Budget}
-use Rattle.param_sets.specs.Units.{UnitSizes}
-use Rattle.param_sets.specs.Need.{need_of, need_if}
-use Rattle.param_sets.specs.declared.param_set.ParamFields.{ParamFields}
 use Rattle.slice_scheduler.specs.declared.flowing.AtFields.{AtFields}
-use Rattle.slice_scheduler.specs.declared.flowing.Flowing.{Flowing}
-use Rattle.slice_scheduler.specs.Servable.{SfidsAscend, IsPast, total_need, elements_needed}
-use Rattle.flow_table.specs.declared.flow.Flow.{Flow}
-use Rattle.flow_table.specs.Flow.{committed_of}
-use Rattle.flow_table.specs.Table.{flowing_of_set, flowing_in, committed_minislots, committed_elements}
-use Rattle.operator_model.specs.State.{Operator}
-use Rattle.operator_model.specs.Frame.{at_frame}
-use Rattle.operator_model.specs.Sound.{IsSoundFlow, IsSound}
 use Rattle.operator_model.proofs.MapLemmas.{Ascends}
 use Rattle.operator_model.proofs.NeedLemmas.{AtMost, need_if-le}
 

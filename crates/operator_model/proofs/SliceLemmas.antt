@@ -1,33 +1,13 @@
 -- The slice of each frame of a run.
 use Rattle.std.proofs.Common.{◌≡◌, ℕ, ◌+◌, ◌==◌, ◌<◌, ◌≤◌, Bool, true, false, cond, List, [], ◌∷◌, ◌++◌, Option, Some, None, is_some, IfSome, All, find, map, reverse, refl, sym, ap, ◌∙◌, subst, arith, nat_le}
-use Rattle.std.specs.List.{AllByRecursion, cons_option}
+use Rattle.operator_model.proofs.Common.{AllByRecursion, cons_option, le-leb, lt-leb, leb-false, eqb-true, eqb-false, reverse-append, All-from_recursion, resent_in, ConstsFields, RowFields, Action, Arrive, Work, Tick, Reslice, SliceRow, Entry, NotPast, Unfinished, Share, NextShare, committed_minislots, operator, OperatorState, opened_state, Operator, StepResult, share_at, next_at, resent, frame_elements, frame_numbers, actions_of, AreTold, IsReplay, IsNextShare, IsSound}
 use Rattle.std.specs.Option.{option_or}
-use Rattle.std.proofs.lemmas.Bool.{le-leb, lt-leb, leb-false, eqb-true, eqb-false}
-use Rattle.std.proofs.lemmas.List.{reverse-append}
-use Rattle.std.proofs.lemmas.List.Elements.{All-from_recursion}
 use Rattle.std.proofs.lemmas.List.Folds.{find-append}
-use Rattle.transactions.specs.Timers.{resent_in}
 use Rattle.slice_scheduler.specs.Minislots.{Minislots}
 use Rattle.slice_scheduler.proofs.SumLemmas.{recursion-weaker, recursion-append}
-use Rattle.plant.specs.declared.consts.ConstsFields.{ConstsFields}
-use Rattle.plant.specs.declared.operator_row.RowFields.{RowFields}
-use Rattle.operator_model.specs.declared.action.Action.{Action}
-use Rattle.operator_model.specs.declared.action.Action.TheVariants.{Arrive, Work, Tick, Reslice}
-use Rattle.operator_model.specs.declared.action.SliceRow.{SliceRow}
-use Rattle.operator_model.specs.declared.action.Entry.{Entry}
-use Rattle.operator_model.specs.declared.action.Unfit.TheVariants.{NotPast, Unfinished}
 use Rattle.operator_model.specs.declared.output.Output.{Output}
 use Rattle.operator_model.specs.declared.output.Output.TheVariants as outputs
-use Rattle.operator_model.specs.declared.share.Share.{Share}
-use Rattle.operator_model.specs.declared.share.NextShare.{NextShare}
-use Rattle.flow_table.specs.Table.{committed_minislots}
-use Rattle.operator_model.specs.State.{operator, OperatorState, opened_state, Operator}
-use Rattle.operator_model.specs.Handle.{StepResult}
-use Rattle.operator_model.specs.Frame.{share_at, next_at, resent, frame_elements}
-use Rattle.operator_model.specs.Frames.{frame_numbers}
 use Rattle.operator_model.specs.Machine.{arrival_result, work_result, reslice_result, unfit_from, own_step, own_run, IsAllowed}
-use Rattle.operator_model.specs.Replay.{actions_of, AreTold, IsReplay}
-use Rattle.operator_model.specs.Sound.{IsNextShare, IsSound}
 use Rattle.operator_model.specs.Slices.{SliceFrom, slice_from, reslicings_in, slice_or, slice_in_frame, waiting_slice, slice_of_run, IsOfItsSlice, MayRun, FramesFollowTheirState, NextSliceFollowsItsState}
 use Rattle.operator_model.proofs.FrameLemmas.{StaysAt, worked_none, arrived_none, resent_none}
 use Rattle.operator_model.proofs.StepLemmas.{passed}

@@ -1,15 +1,6 @@
 -- What a state may go on with, and stay sound.
 use Rattle.std.proofs.Common.{ℕ, ◌≤◌, List, length, Option, Some, None, IfSome, All, arith}
-use Rattle.transactions.specs.declared.entry.KeptEntry.{KeptEntry}
-use Rattle.plant.specs.declared.consts.ConstsFields.{ConstsFields}
-use Rattle.plant.specs.declared.operator_row.RowFields.{RowFields}
-use Rattle.flow_table.specs.declared.flow.Flow.{Flow}
-use Rattle.flow_table.specs.Table.{committed_minislots, committed_elements}
-use Rattle.operator_model.specs.declared.heard.Arrival.{Arrival}
-use Rattle.operator_model.specs.declared.share.NextShare.{NextShare}
-use Rattle.operator_model.specs.State.{OperatorState, Operator, operator}
-use Rattle.operator_model.specs.Verdict.{minislots_allowed}
-use Rattle.operator_model.specs.Sound.{HasItsFlow, HaveOwnFlows, IsNextShare, IsSound}
+use Rattle.operator_model.proofs.Common.{KeptEntry, ConstsFields, RowFields, Flow, committed_minislots, committed_elements, Arrival, NextShare, OperatorState, Operator, operator, minislots_allowed, HasItsFlow, HaveOwnFlows, IsNextShare, IsSound}
 use Rattle.operator_model.proofs.FlowsLemmas.{AreFlows}
 use Rattle.operator_model.proofs.ChangeLemmas.{MayStep}
 

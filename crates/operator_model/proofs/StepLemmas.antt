@@ -1,25 +1,7 @@
 -- Each action that is not refused leaves a sound state, and so does a run of them.
 use Rattle.std.proofs.Common.{◌≡◌, ℕ, ◌+◌, ◌==◌, ◌||◌, ◌≤◌, Bool, true, false, cond, List, [], ◌∷◌, ◌++◌, length, Option, Some, None, is_some, refl, sym, subst, arith, nat_le, nat_lt}
-use Rattle.std.proofs.lemmas.Bool.{cond_both, leb-false, ltb-false, eqb-false, or_parts}
-use Rattle.std.proofs.lemmas.List.{length_push}
-use Rattle.std.proofs.lemmas.Option.{none-some}
-use Rattle.dsx_messages.specs.declared.modem.Modem.{Modem}
-use Rattle.plant.specs.declared.consts.ConstsFields.{ConstsFields}
-use Rattle.plant.specs.declared.operator_row.RowFields.{RowFields}
-use Rattle.plant.specs.Row.{IsRowOf}
-use Rattle.flow_table.specs.Table.{committed_minislots}
-use Rattle.operator_model.specs.declared.heard.Heard.{Heard}
-use Rattle.operator_model.specs.declared.heard.Arrival.{Arrival}
-use Rattle.operator_model.specs.declared.action.SliceRow.{SliceRow}
-use Rattle.operator_model.specs.declared.action.Action.{Action}
-use Rattle.operator_model.specs.declared.action.Action.TheVariants.{Arrive, Work, Tick, Reslice}
-use Rattle.operator_model.specs.declared.action.Entry.{Entry}
-use Rattle.operator_model.specs.declared.action.Unfit.TheVariants.{NotPast, Unfinished, OffFrame, BudgetOverSlice, OverBudget}
-use Rattle.operator_model.specs.State.{operator, OperatorState, opened_state, Operator}
-use Rattle.operator_model.specs.Handle.{StepResult}
+use Rattle.operator_model.proofs.Common.{cond_both, leb-false, ltb-false, eqb-false, or_parts, length_push, none-some, Modem, ConstsFields, RowFields, IsRowOf, committed_minislots, Heard, Arrival, SliceRow, Action, Arrive, Work, Tick, Reslice, Entry, NotPast, Unfinished, OffFrame, BudgetOverSlice, OverBudget, operator, OperatorState, opened_state, Operator, StepResult, actions_of, AreTold, IsReplay, IsNextShare, IsSound}
 use Rattle.operator_model.specs.Machine.{arrival_result, work_result, reslice_result, own_step, is_off_frame, unfit_from, IsAllowed, own_run}
-use Rattle.operator_model.specs.Replay.{actions_of, AreTold, IsReplay}
-use Rattle.operator_model.specs.Sound.{IsNextShare, IsSound}
 use Rattle.operator_model.proofs.SoundLemmas.{inbox_on}
 use Rattle.operator_model.proofs.CarryLemmas.{handle_sound}
 use Rattle.operator_model.proofs.TickLemmas.{tick_sound}

@@ -1,19 +1,7 @@
 -- A tick leaves a sound state.
 use Rattle.std.proofs.Common.{◌≡◌, ℕ, ◌+◌, ◌==◌, ◌≤◌, not, Bool, true, false, cond, List, get_or, Option, Some, None, IfSome, IsSome, All, filter, refl, sym, subst, arith}
-use Rattle.std.proofs.lemmas.Bool.{eqb-false}
-use Rattle.std.proofs.lemmas.List.Elements.{All-map, All-filter, filter_passes}
-use Rattle.transactions.specs.declared.entry.KeptEntry.{KeptEntry}
-use Rattle.transactions.specs.Timers.{is_forgotten, given_up_in, kept_after}
+use Rattle.operator_model.proofs.Common.{eqb-false, All-map, All-filter, filter_passes, KeptEntry, is_forgotten, given_up_in, kept_after, granted_of, ConstsFields, Flow, flowing_in, committed_minislots, Share, NextShare, Operator, operator, at_frame, all_granted, share_at, next_at, flows_left, tick_result, IsWaitingOf, HasItsFlow, IsShare, IsNextShare, IsSound}
 use Rattle.transactions.specs.Timers as timers
-use Rattle.slice_scheduler.specs.Schedule.{granted_of}
-use Rattle.plant.specs.declared.consts.ConstsFields.{ConstsFields}
-use Rattle.flow_table.specs.declared.flow.Flow.{Flow}
-use Rattle.flow_table.specs.Table.{flowing_in, committed_minislots}
-use Rattle.operator_model.specs.declared.share.Share.{Share}
-use Rattle.operator_model.specs.declared.share.NextShare.{NextShare}
-use Rattle.operator_model.specs.State.{Operator, operator}
-use Rattle.operator_model.specs.Frame.{at_frame, all_granted, share_at, next_at, flows_left, tick_result}
-use Rattle.operator_model.specs.Sound.{IsWaitingOf, HasItsFlow, IsShare, IsNextShare, IsSound}
 use Rattle.operator_model.proofs.FlowsLemmas.{then-CommitLess}
 use Rattle.operator_model.proofs.ChangeLemmas.{MayStep}
 use Rattle.operator_model.proofs.SoundLemmas.{sound-AreFlows}

@@ -1,26 +1,6 @@
 -- What is given up is undone: who is scheduled stays.
 use Rattle.std.proofs.Common.{◌≡◌, ◌≢◌, ℕ, Bool, true, false, cond, List, [], ◌∷◌, Option, Some, None, IfSome, IsSome, refl, sym, ap, ◌∙◌, subst}
-use Rattle.std.specs.List.{AllByRecursion}
-use Rattle.std.proofs.lemmas.Bool.{true≢false}
-use Rattle.param_sets.specs.Units.{UnitSizes}
-use Rattle.param_sets.specs.Within.{IsWithinOrNull}
-use Rattle.param_sets.specs.declared.param_set.ParamFields.{ParamFields}
-use Rattle.param_sets.specs.declared.sets.SetsFields.{SetsFields}
-use Rattle.dsx_messages.specs.declared.kind.Kind.{Kind}
-use Rattle.dsx_messages.specs.declared.kind.Kind.TheVariants.{Dsa, Dsc, Dsd}
-use Rattle.transactions.specs.declared.tick.GivenUp.{GivenUp}
-use Rattle.transactions.specs.Timers.{given_up_in}
-use Rattle.slice_scheduler.specs.declared.flowing.Flowing.{Flowing}
-use Rattle.plant.specs.declared.operator_row.RowFields.{RowFields}
-use Rattle.flow_table.specs.declared.flow.Flow.{Flow}
-use Rattle.flow_table.specs.declared.flow.Pending.{Pending}
-use Rattle.flow_table.specs.Flow.{without_pending, taken_back}
-use Rattle.flow_table.specs.Table.{flow_at, flowing_of_set, flowing_in}
-use Rattle.operator_model.specs.State.{Operator}
-use Rattle.operator_model.specs.Handle.{undone}
-use Rattle.flow_table.specs.Moved.{change_if}
-use Rattle.operator_model.specs.Frame.{all_undone, flows_left}
-use Rattle.operator_model.specs.Sound.{IsSoundPending, IsSoundFlow, IsWaitingOf, IsSound}
+use Rattle.operator_model.proofs.Common.{AllByRecursion, true≢false, UnitSizes, IsWithinOrNull, ParamFields, SetsFields, Kind, Dsa, Dsc, Dsd, GivenUp, given_up_in, Flowing, RowFields, Flow, Pending, without_pending, taken_back, flow_at, flowing_of_set, flowing_in, Operator, undone, change_if, all_undone, flows_left, IsSoundPending, IsSoundFlow, IsWaitingOf, IsSound}
 use Rattle.operator_model.proofs.EntryLemmas.{read-insert, read-remove}
 use Rattle.operator_model.proofs.FlowsLemmas.{AreFlows, sound-there}
 use Rattle.operator_model.proofs.ChangeLemmas.{MayStep, undone-MayStep, at-undone_other}

@@ -1,24 +1,9 @@
 -- A verdict is right: the flow that it puts is sound, has identifiers of its own, and what is committed with it is allowed.
 use Rattle.std.proofs.Common.{◌≡◌, ℕ, ◌&&◌, ◌<◌, ◌≤◌, Bool, true, false, List, length, Option, Some, None, Result, Ok, Err, IfOk, IfSome, IsSome, is_some, is_none, refl, sym, subst, arith, nat_le, nat_lt}
-use Rattle.std.proofs.lemmas.Bool.{cond_both, leb-false, ltb-false, and_parts, true≢false, false≢true}
-use Rattle.dsx_messages.specs.declared.modem.Modem.{Modem}
-use Rattle.dsx_messages.specs.declared.kind.Kind.{Kind}
-use Rattle.dsx_messages.specs.declared.kind.Kind.TheVariants.{Dsa, Dsc, Dsd}
-use Rattle.dsx_messages.specs.declared.reply.ReplyFields.{ReplyFields}
+use Rattle.operator_model.proofs.Common.{cond_both, leb-false, ltb-false, and_parts, true≢false, false≢true, Modem, Kind, Dsa, Dsc, Dsd, ReplyFields, IsIn, least_free_of, Flow, sfids_of, sids_of, flow_at, with_flow, committed_minislots, committed_elements, Addition, Change, Verdict, Refused, Put, Deleted, Operator, transaction, free_flow, addition_of, change_of, kind_of, IsSoundFlow, IsWaitingOf, IsSound}
 use Rattle.dsx_messages.specs.declared.message.Request.{Request}
 use Rattle.dsx_messages.specs.declared.message.Request.TheVariants as requests
-use Rattle.admission.specs.Free.{IsIn, least_free_of}
-use Rattle.flow_table.specs.declared.flow.Flow.{Flow}
-use Rattle.flow_table.specs.Table.{sfids_of, sids_of, flow_at, with_flow, committed_minislots, committed_elements}
-use Rattle.operator_model.specs.declared.verdict.Addition.{Addition}
-use Rattle.operator_model.specs.declared.verdict.Change.{Change}
-use Rattle.operator_model.specs.declared.verdict.Verdict.{Verdict}
-use Rattle.operator_model.specs.declared.verdict.Verdict.TheVariants.{Refused, Put, Deleted}
-use Rattle.operator_model.specs.State.{Operator}
-use Rattle.operator_model.specs.Asked.{transaction, free_flow, addition_of, change_of}
 use Rattle.operator_model.specs.Verdict.{limit_of, minislots_allowed, within_limit, new_flow, added_reply, added_under, addition_within_limit, changed_flow, changed_reply, changed_with, changed_with_new, wants_sid, change_within_limit, addition_verdict, change_verdict, deletion_verdict, verdict}
-use Rattle.operator_model.specs.Handle.{kind_of}
-use Rattle.operator_model.specs.Sound.{IsSoundFlow, IsWaitingOf, IsSound}
 use Rattle.operator_model.proofs.OrderLemmas.{length-insert, length-insert_there}
 use Rattle.operator_model.proofs.EntryLemmas.{All-at}
 use Rattle.operator_model.proofs.FlowsLemmas.{MayPut, MayPut-again, sound-there}

@@ -1,20 +1,7 @@
 -- An encoding is answered by a set exactly where it asks for it.
 use Rattle.std.proofs.Common.{◌≡◌, ℕ, ◌≤◌, ◌==◌, ◌||◌, nat_lt, false, refl, sym, ◌∙◌, ap, subst, arith}
-use Rattle.std.proofs.lemmas.Bool.Decides.{nat_tests}
-use Rattle.std.specs.Prelude.{Option, Some, None, Result, Ok, IsSome, IfOk}
+use Rattle.param_sets.proofs.Common.{nat_tests, Option, Some, None, Result, Ok, IsSome, IfOk, AreInRange, FlowFields, UnitSizes, frames_in_interval, scheduling_of, IsParameterSet, kept_of, missings_of, missing_of, invalids_of, invalid_of, set_unless, set_of_kind, parameter_set_of, AsksFor, StatesRequired, TakesFrames, Scheduling, BestEffort, NonRealTimePolling, RealTimePolling, UnsolicitedGrant, ParamFields, Refusal}
 use Rattle.std.specs.Option.{is_none}
-use Rattle.tlv24.specs.Range.{AreInRange}
-use Rattle.tlv24.specs.declared.fields.FlowFields.{FlowFields}
-use Rattle.param_sets.specs.Units.{UnitSizes, frames_in_interval}
-use Rattle.param_sets.specs.Scheduling.{scheduling_of}
-use Rattle.param_sets.specs.ParamSet.{IsParameterSet}
-use Rattle.param_sets.specs.Kept.{kept_of, missings_of, missing_of}
-use Rattle.param_sets.specs.Reading.{invalids_of, invalid_of, set_unless, set_of_kind, parameter_set_of}
-use Rattle.param_sets.specs.AsksFor.{AsksFor, StatesRequired, TakesFrames}
-use Rattle.param_sets.specs.declared.scheduling.Scheduling.{Scheduling}
-use Rattle.param_sets.specs.declared.scheduling.Scheduling.TheVariants.{BestEffort, NonRealTimePolling, RealTimePolling, UnsolicitedGrant}
-use Rattle.param_sets.specs.declared.param_set.ParamFields.{ParamFields}
-use Rattle.param_sets.specs.declared.refusal.Refusal.{Refusal}
 use Rattle.param_sets.proofs.First.{AreFalse, none_is_true, all_are_false}
 use Rattle.param_sets.proofs.KeptLemmas.{is_parameter_set}
 

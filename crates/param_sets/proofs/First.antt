@@ -1,7 +1,6 @@
 -- The first test that is true.
 use Rattle.std.proofs.Common.{◌≡◌, ℕ, Bool, true, false, List, [], ◌∷◌, refl}
-use Rattle.std.specs.Prelude.{None}
-use Rattle.param_sets.specs.FirstTrue.{first_true}
+use Rattle.param_sets.proofs.Common.{None, first_true}
 
 -- no test is true
 abbrev pub AreFalse : List (Bool × ℕ) → Type 0

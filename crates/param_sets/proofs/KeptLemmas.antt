@@ -1,16 +1,6 @@
 -- What a kind keeps of an encoding is a parameter set, where nothing is out of its range.
 use Rattle.std.proofs.Common.{◌≡◌, ℕ, ◌≤◌, refl, arith}
-use Rattle.std.proofs.lemmas.Bool.Decides.{nat_tests}
-use Rattle.std.specs.Prelude.{Option, Some, None, IfSome, unwrap_or}
-use Rattle.tlv24.specs.Range.{AreInRange}
-use Rattle.tlv24.specs.declared.fields.FlowFields.{FlowFields}
-use Rattle.param_sets.specs.Units.{UnitSizes}
-use Rattle.param_sets.specs.ParamSet.{IsParameterSet, HasGrants}
-use Rattle.param_sets.specs.Kept.{kept_of}
-use Rattle.param_sets.specs.Reading.{invalids_of, invalid_of}
-use Rattle.param_sets.specs.declared.scheduling.Scheduling.{Scheduling}
-use Rattle.param_sets.specs.declared.scheduling.Scheduling.TheVariants.{BestEffort, NonRealTimePolling, RealTimePolling, UnsolicitedGrant}
-use Rattle.param_sets.specs.declared.param_set.ParamFields.{ParamFields}
+use Rattle.param_sets.proofs.Common.{nat_tests, Option, Some, None, IfSome, unwrap_or, AreInRange, FlowFields, UnitSizes, IsParameterSet, HasGrants, kept_of, invalids_of, invalid_of, Scheduling, BestEffort, NonRealTimePolling, RealTimePolling, UnsolicitedGrant, ParamFields}
 use Rattle.param_sets.proofs.First.{AreFalse, none_is_true}
 
 pub priority_most : (priority : Option ℕ) → IfSome priority (λ n. n ≤ 7) → unwrap_or priority 0 ≤ 7

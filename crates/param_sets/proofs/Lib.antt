@@ -1,3 +1,4 @@
+mod Common
 pub mod First
 pub mod KeptLemmas
 pub mod AskedLemmas

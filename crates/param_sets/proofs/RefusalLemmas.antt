@@ -1,20 +1,7 @@
 -- What a refusal says: the scheduling type is named where the kind is unknown, and a missing subtype where it is required.
 use Rattle.std.proofs.Common.{◌≡◌, ℕ, Bool, true, false, List, [], ◌∷◌, refl, ◌∙◌, ap, arith}
-use Rattle.std.specs.Prelude.{Option, Some, None, Result, Ok, Err, ◌↔◌}
-use Rattle.tlv24.specs.Subtype.{scheduling_type_subtype}
-use Rattle.tlv24.specs.declared.fields.FlowFields.{FlowFields}
+use Rattle.param_sets.proofs.Common.{Option, Some, None, Result, Ok, Err, ◌↔◌, scheduling_type_subtype, FlowFields, RejectRequiredParameterNotPresent, RejectInvalidForContext, first_true, UnitSizes, scheduling_of, kept_of, missing_of, IsLeastMissing, invalids_of, invalid_of, set_unless, set_of_kind, parameter_set_of, Scheduling, BestEffort, NonRealTimePolling, RealTimePolling, UnsolicitedGrant, ParamFields, Refusal}
 use Rattle.dsx_messages.specs.declared.code.Code.{Code}
-use Rattle.dsx_messages.specs.declared.code.Code.TheVariants.{RejectRequiredParameterNotPresent, RejectInvalidForContext}
-use Rattle.param_sets.specs.FirstTrue.{first_true}
-use Rattle.param_sets.specs.Units.{UnitSizes}
-use Rattle.param_sets.specs.Scheduling.{scheduling_of}
-use Rattle.param_sets.specs.Kept.{kept_of, missing_of}
-use Rattle.param_sets.specs.AsksFor.{IsLeastMissing}
-use Rattle.param_sets.specs.Reading.{invalids_of, invalid_of, set_unless, set_of_kind, parameter_set_of}
-use Rattle.param_sets.specs.declared.scheduling.Scheduling.{Scheduling}
-use Rattle.param_sets.specs.declared.scheduling.Scheduling.TheVariants.{BestEffort, NonRealTimePolling, RealTimePolling, UnsolicitedGrant}
-use Rattle.param_sets.specs.declared.param_set.ParamFields.{ParamFields}
-use Rattle.param_sets.specs.declared.refusal.Refusal.{Refusal}
 
 -- no row names this number
 abbrev NamesOthers : ℕ → List (Bool × ℕ) → Type 0

@@ -1,14 +1,9 @@
 -- A set is within another exactly where no subtype fails; `IsWithin` is an order.
 use Rattle.std.proofs.Common.{◌≡◌, ℕ, ◌<◌, ◌≤◌, ◌==◌, not, nat_lt, false, refl, ap, ◌∙◌, arith}
-use Rattle.std.proofs.lemmas.Bool.Decides.{nat_tests}
-use Rattle.std.specs.Prelude.{Option, Some, None}
-use Rattle.param_sets.specs.Scheduling.{scheduling_number}
+use Rattle.param_sets.proofs.Common.{nat_tests, Option, Some, None, scheduling_number, Scheduling, BestEffort, NonRealTimePolling, RealTimePolling, UnsolicitedGrant, ParamFields}
 use Rattle.param_sets.specs.Within.{IsWithin, IsNoGreaterLimit, IsWithinOrNull, is_greater_limit, failings_of, first_failing}
-use Rattle.param_sets.specs.declared.scheduling.Scheduling.{Scheduling}
-use Rattle.param_sets.specs.declared.scheduling.Scheduling.TheVariants.{BestEffort, NonRealTimePolling, RealTimePolling, UnsolicitedGrant}
 use Rattle.param_sets.specs.Sets.{AreNested, IsWithinProvisioned}
 use Rattle.param_sets.specs.declared.sets.SetsFields.{SetsFields}
-use Rattle.param_sets.specs.declared.param_set.ParamFields.{ParamFields}
 use Rattle.param_sets.proofs.First.{AreFalse, none_is_true, all_are_false}
 
 -- two kinds with one number are one kind

@@ -1,14 +1,6 @@
 -- The packets of a capture have addresses of six bytes, so its file is read.
-use Rattle.std.specs.Prelude.{◌≡◌, ℕ, List, [], ◌∷◌, ◌++◌, length, All, Contains}
-use Rattle.std.specs.List.{filter_map}
+use Rattle.pcap_capture.proofs.Common.{◌≡◌, ℕ, List, [], ◌∷◌, ◌++◌, length, All, Contains, filter_map, All-nil, All-push, All-append, recursion_from_All, Clock, Packet, frame_of, file_of, frames_of_file, IsAddressed, AreRead}
 use Rattle.std.proofs.Common.{sym, subst}
-use Rattle.std.proofs.lemmas.List.Elements.{All-nil, All-push, All-append, recursion_from_All}
-use Rattle.pcap_capture.specs.declared.clock.Clock.{Clock}
-use Rattle.pcap_capture.specs.declared.packet.Packet.{Packet}
-use Rattle.pcap_capture.specs.Frames.{frame_of}
-use Rattle.pcap_capture.specs.File.{file_of}
-use Rattle.pcap_capture.specs.Reading.{frames_of_file}
-use Rattle.pcap_capture.specs.Laws.{IsAddressed, AreRead}
 use Rattle.pcap_capture.proofs.HeldLemmas.{frame_holds}
 use Rattle.pcap_capture.proofs.ReadLemmas.{file_read}
 

@@ -1,13 +1,7 @@
-use Rattle.std.specs.Prelude.{◌≡◌, ℕ, ◌+◌, List, [], ◌∷◌, length, Bool, true, false, Option, Some, None, if◌then◌else◌, nat_le, IfSome, ◌≤◌, ◌<◌, ◌^◌, refl}
+use Rattle.pcap_capture.proofs.Common.{◌≡◌, ℕ, ◌+◌, List, [], ◌∷◌, length, Bool, true, false, Option, Some, None, if◌then◌else◌, nat_le, IfSome, ◌≤◌, ◌<◌, ◌^◌, refl, leb-true, take-append_seam, Packet, Sent, Reply, Map, frame_of, frame_of_managed, FrameHolds, HoldsPacket, IsAddressed}
 use Rattle.std.proofs.Common.{arith, sym, ◌∙◌, ap, subst, length-append}
-use Rattle.std.proofs.lemmas.Bool.{leb-true}
-use Rattle.std.proofs.Math.Seq.{take-append_seam}
-use Rattle.pcap_capture.specs.declared.packet.Packet.{Packet}
-use Rattle.pcap_capture.specs.declared.packet.Packet.TheVariants.{Sent, Reply, Map}
 use Rattle.pcap_capture.specs.Management.{ManagementMessage, mac_frame}
 use Rattle.pcap_capture.specs.Packets.{managed_of, packet_message, if_fits}
-use Rattle.pcap_capture.specs.Frames.{frame_of, frame_of_managed}
-use Rattle.pcap_capture.specs.Laws.{FrameHolds, HoldsPacket, IsAddressed}
 
 -- an address by its bytes
 record Six (xs : List ℕ) : Type 0 where

@@ -1,3 +1,4 @@
+mod Common
 pub mod AddressLemmas
 pub mod BitLemmas
 pub mod HeldLemmas

@@ -1,25 +1,13 @@
 -- A run has one capture: how its outputs are divided among its steps is determined.
-use Rattle.std.specs.Prelude.{◌≡◌, ℕ, ◌+◌, List, [], ◌∷◌, ◌++◌, map, length, take, drop, Option, Some, None, false, refl}
-use Rattle.std.specs.List.{flat_map}
+use Rattle.pcap_capture.proofs.Common.{◌≡◌, ℕ, ◌+◌, List, [], ◌∷◌, ◌++◌, map, length, take, drop, Option, Some, None, false, refl, flat_map, take-append_seam, drop-append_seam, PlantFields, Step, Out, outputs_under, is_collect, isolated_run, IsLeast, IsTraceOf, target, IsCollected, AreOwn, IsTold, AreInOrder, Ordered, Clock, Packet, file_of, CaptureView, Turn, clock_of, sent_in, told_in, packets_of, HaveOwnOutputs, IsCaptureOf}
 use Rattle.std.proofs.Common.{arith, sym, ◌∙◌, ap, subst, append_assoc, append-nil}
-use Rattle.std.proofs.Math.Seq.{take-append_seam, drop-append_seam}
 use Rattle.plant.specs.declared.operator_row.RowFields.{RowFields}
-use Rattle.plant.specs.declared.plant.PlantFields.{PlantFields}
 use Rattle.operator_model.specs.declared.action.Action.{Action}
 use Rattle.operator_model.specs.State.{operator}
 use Rattle.operator_model.specs.Machine.{own_step}
-use Rattle.run_model.specs.declared.step.Step.{Step}
 use Rattle.run_model.specs.declared.step.Step.TheVariants as steps
-use Rattle.run_model.specs.declared.step.Out.{Out}
 use Rattle.run_model.specs.declared.step.Out.TheVariants as outs
-use Rattle.run_model.specs.OwnSteps.{outputs_under, is_collect}
-use Rattle.run_model.specs.IsTraceOf.{isolated_run, IsLeast, IsTraceOf}
-use Rattle.run_model.specs.Ordered.{target, IsCollected, AreOwn, IsTold, AreInOrder, Ordered}
 use Rattle.run_model.proofs.Kept.{collects_same, one_least}
-use Rattle.pcap_capture.specs.declared.clock.Clock.{Clock}
-use Rattle.pcap_capture.specs.declared.packet.Packet.{Packet}
-use Rattle.pcap_capture.specs.File.{file_of}
-use Rattle.pcap_capture.specs.Capture.{CaptureView, Turn, clock_of, sent_in, told_in, packets_of, HaveOwnOutputs, IsCaptureOf}
 
 -- ---- lists
 

@@ -1,15 +1,7 @@
-use Rattle.std.specs.Prelude.{◌≡◌, ℕ, zero, suc, ◌+◌, ◌*◌, ◌<◌, ◌≤◌, ◌/◌, ◌%◌, ◌^◌, List, [], ◌∷◌, ◌++◌, length, take, drop, Bool, true, false, Option, Some, None, nat_lt, refl, IfSome}
-use Rattle.std.specs.List.{filter_map, cons_option, AllByRecursion}
+use Rattle.pcap_capture.proofs.Common.{◌≡◌, ℕ, zero, suc, ◌+◌, ◌*◌, ◌<◌, ◌≤◌, ◌/◌, ◌%◌, ◌^◌, List, [], ◌∷◌, ◌++◌, length, take, drop, Bool, true, false, Option, Some, None, nat_lt, refl, IfSome, filter_map, cons_option, AllByRecursion, take-append_seam, drop-append_seam, drop-append-add, lt-ltb, Clock, Packet, frame_of, kept_in, records_in, frames_of_file, IsAddressed}
 use Rattle.std.proofs.Common.{arith, sym, ◌∙◌, ap, subst}
-use Rattle.std.proofs.Math.Seq.{take-append_seam, drop-append_seam, drop-append-add}
-use Rattle.std.proofs.lemmas.Bool.{lt-ltb}
 use Rattle.std.proofs.lemmas.Nat.{from_le_bytes-to_le_bytes_4}
-use Rattle.pcap_capture.specs.declared.clock.Clock.{Clock}
-use Rattle.pcap_capture.specs.declared.packet.Packet.{Packet}
-use Rattle.pcap_capture.specs.Frames.{frame_of}
 use Rattle.pcap_capture.specs.File.{word_bytes, record_of, packet_frame, next_after, records_from, file_of}
-use Rattle.pcap_capture.specs.Reading.{kept_in, records_in, frames_of_file}
-use Rattle.pcap_capture.specs.Laws.{IsAddressed}
 use Rattle.pcap_capture.proofs.HeldLemmas.{short_frame}
 
 -- what stands before a frame in its record

@@ -1,21 +1,8 @@
-use Rattle.std.specs.Prelude.{◌≡◌, ℕ, List, [], ◌∷◌, ◌++◌, map, filter, not, refl}
-use Rattle.std.specs.List.{flat_map}
+use Rattle.pcap_capture.proofs.Common.{◌≡◌, ℕ, List, [], ◌∷◌, ◌++◌, map, filter, not, refl, flat_map, map-append, flat_map-append, filter-append, PlantFields, Message, Request, Step, Out, target, IsTold, Clock, Packet, file_of, CaptureView, Turn, opened_capture, with_packets, sent_in, told_in, packets_of, HaveOwnOutputs, CapturesRun, IsCaptureOf, HoldsRun, is_sent}
 use Rattle.std.proofs.Common.{sym, ◌∙◌, ap, subst, append_assoc, append-nil}
-use Rattle.std.proofs.lemmas.List.{map-append}
-use Rattle.std.proofs.lemmas.Grind.{flat_map-append}
-use Rattle.std.proofs.lemmas.List.Elements.{filter-append}
-use Rattle.plant.specs.declared.plant.PlantFields.{PlantFields}
-use Rattle.operator_model.specs.declared.heard.Heard.TheVariants.{Message, Request}
 use Rattle.operator_model.specs.declared.output.Output.TheVariants as outputs
-use Rattle.run_model.specs.declared.step.Step.{Step}
 use Rattle.run_model.specs.declared.step.Step.TheVariants as steps
-use Rattle.run_model.specs.declared.step.Out.{Out}
 use Rattle.run_model.specs.declared.step.Out.TheVariants as outs
-use Rattle.run_model.specs.Ordered.{target, IsTold}
-use Rattle.pcap_capture.specs.declared.clock.Clock.{Clock}
-use Rattle.pcap_capture.specs.declared.packet.Packet.{Packet}
-use Rattle.pcap_capture.specs.File.{file_of}
-use Rattle.pcap_capture.specs.Capture.{CaptureView, Turn, opened_capture, with_packets, sent_in, told_in, packets_of, HaveOwnOutputs, CapturesRun, IsCaptureOf, HoldsRun, is_sent}
 
 pub opened_run : (plant : PlantFields) → CapturesRun plant [] [] (opened_capture plant.consts)
 opened_run plant = record { turns = []; steps_are = refl; outs_are = refl; own = tt; clock_is = refl; packets_are = refl }

@@ -1,25 +1,9 @@
-use Rattle.std.specs.Prelude.{◌≡◌, ℕ, zero, suc, ◌+◌, ◌*◌, List, [], ◌∷◌, ◌++◌, map, length, refl}
-use Rattle.std.specs.List.{flat_map, range_with_len}
+use Rattle.pcap_capture.proofs.Common.{◌≡◌, ℕ, zero, suc, ◌+◌, ◌*◌, List, [], ◌∷◌, ◌++◌, map, length, refl, flat_map, range_with_len, map-append, filter_map-append, flat_map-append, PlantFields, Message, Request, Step, Out, maps_in, IsTraceOf, Clock, Packet, Sent, Reply, Map, frame_of, record_of, records_from, file_of, file_header, CaptureView, Turn, sent_in, told_in, packets_of, CapturesRun}
 use Rattle.std.proofs.Common.{arith, sym, ◌∙◌, ap}
-use Rattle.std.proofs.lemmas.List.{map-append}
-use Rattle.std.proofs.lemmas.List.Elements.{filter_map-append}
-use Rattle.std.proofs.lemmas.Grind.{flat_map-append}
-use Rattle.plant.specs.declared.plant.PlantFields.{PlantFields}
-use Rattle.operator_model.specs.declared.heard.Heard.TheVariants.{Message, Request}
 use Rattle.operator_model.specs.declared.output.Output.TheVariants as outputs
 use Rattle.map_assembly.specs.declared.map_bytes.MapBytes.{MapBytes}
-use Rattle.run_model.specs.declared.step.Step.{Step}
 use Rattle.run_model.specs.declared.step.Step.TheVariants as steps
-use Rattle.run_model.specs.declared.step.Out.{Out}
 use Rattle.run_model.specs.declared.step.Out.TheVariants as outs
-use Rattle.run_model.specs.OwnSteps.{maps_in}
-use Rattle.run_model.specs.IsTraceOf.{IsTraceOf}
-use Rattle.pcap_capture.specs.declared.clock.Clock.{Clock}
-use Rattle.pcap_capture.specs.declared.packet.Packet.{Packet}
-use Rattle.pcap_capture.specs.declared.packet.Packet.TheVariants.{Sent, Reply, Map}
-use Rattle.pcap_capture.specs.Frames.{frame_of}
-use Rattle.pcap_capture.specs.File.{record_of, records_from, file_of, file_header}
-use Rattle.pcap_capture.specs.Capture.{CaptureView, Turn, sent_in, told_in, packets_of, CapturesRun}
 use Rattle.pcap_capture.specs.Times.{counted_from}
 
 -- the frame of a MAP

@@ -1,13 +1,7 @@
 -- Addresses, and those that an operator lists.
 use Rattle.std.proofs.Common.{◌≡◌, ℕ, ◌+◌, Bool, true, false, ◌||◌, List, [], ◌∷◌, ◌++◌, is_some, inl, inr, refl, ap}
-use Rattle.std.specs.List.{position_from}
-use Rattle.std.proofs.lemmas.Bool.{cases_Bool}
-use Rattle.std.proofs.lemmas.List.Folds.{list_any-append}
+use Rattle.plant.proofs.Common.{position_from, cases_Bool, list_any-append, Modem, RowFields, same_modem, is_listed, all_modems}
 use Rattle.std.proofs.lemmas.Slice.Eq.{bytes_eq-Decides}
-use Rattle.dsx_messages.specs.declared.modem.Modem.{Modem}
-use Rattle.plant.specs.declared.operator_row.RowFields.{RowFields}
-use Rattle.plant.specs.Row.{same_modem, is_listed}
-use Rattle.plant.specs.Plant.{all_modems}
 
 pub same_is_equal : (a b : Modem) → same_modem a b ≡ true → a ≡ b
 same_is_equal a b h = ap (λ (bytes : List ℕ). record { 0 = bytes }) ((bytes_eq-Decides a.0 b.0).0 h)

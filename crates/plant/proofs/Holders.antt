@@ -1,14 +1,6 @@
 -- The operator that lists a modem is the first that does, and in a valid plant the only one.
 use Rattle.std.proofs.Common.{◌≡◌, ◌≢◌, ℕ, zero, suc, ◌+◌, ◌≤◌, ◌↔◌, inl, inr, Bool, true, false, ◌||◌, List, [], ◌∷◌, ◌++◌, length, length-append, get_or, AllPairs, Option, Some, None, is_some, refl, sym, subst, ap, ◌∙◌, arith}
-use Rattle.std.specs.Prelude.{slice_get}
-use Rattle.std.specs.List.{position_from}
-use Rattle.std.proofs.lemmas.Bool.{cases_Bool, false≢true}
-use Rattle.std.proofs.lemmas.List.{get_or_append_left, get_or-append-add}
-use Rattle.std.proofs.lemmas.List.Folds.{Any-from_list_any}
-use Rattle.dsx_messages.specs.declared.modem.Modem.{Modem}
-use Rattle.plant.specs.declared.operator_row.RowFields.{RowFields}
-use Rattle.plant.specs.Row.{is_listed, same_modem}
-use Rattle.plant.specs.Plant.{all_modems}
+use Rattle.plant.proofs.Common.{slice_get, position_from, cases_Bool, false≢true, get_or_append_left, get_or-append-add, Any-from_list_any, Modem, RowFields, is_listed, same_modem, all_modems}
 use Rattle.plant.specs.Roster.{holder, ListsFirst}
 use Rattle.plant.proofs.Addresses.{same_is_equal, listed_append, some_holder}
 

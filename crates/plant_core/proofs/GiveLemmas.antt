@@ -1,18 +1,7 @@
 -- Histories, one by one.
 use Rattle.std.proofs.Common.{◌≡◌, ℕ, zero, suc, ◌+◌, ◌<◌, ◌≤◌, List, [], ◌∷◌, ◌++◌, length, map, take, get_or, slice_set, Some, option_map, sym, refl, ap, ap₂, ◌∙◌, arith}
-use Rattle.std.specs.Prelude.{slice_get}
-use Rattle.std.specs.List.{AllWithin}
-use Rattle.std.proofs.lemmas.List.{length-set, map-set, take_all}
-use Rattle.std.proofs.lemmas.List.Elements.{AllWithin-more_set}
-use Rattle.std.proofs.lemmas.Option.{slice_get-map, slice_get_read, same_Some}
-use Rattle.operator_model.specs.declared.action.SliceRow.{SliceRow}
+use Rattle.plant_core.proofs.Common.{slice_get, AllWithin, length-set, map-set, take_all, AllWithin-more_set, slice_get-map, slice_get_read, same_Some, SliceRow, Entry, Output, HeldHistory, get_other, seen_at, set_alike, histories_after_reslice}
 use Rattle.operator_model.specs.declared.action.Action.TheVariants as actions
-use Rattle.operator_model.specs.declared.action.Entry.{Entry}
-use Rattle.operator_model.specs.declared.output.Output.{Output}
-use Rattle.operator_book.specs.Kept.{HeldHistory}
-use Rattle.run_model.proofs.Entries.{get_other}
-use Rattle.live_core.proofs.PlaceLemmas.{seen_at, set_alike}
-use Rattle.plant_core.specs.Recorded.{histories_after_reslice}
 
 abbrev pub entries_of : HeldHistory → List Entry
 entries_of history = history.entries

@@ -1,3 +1,4 @@
+mod Common
 pub mod WaitingLemmas
 pub mod RecordLemmas
 pub mod StepLemmas

@@ -1,22 +1,9 @@
 -- A core that is opened, with nothing recorded.
 use Rattle.std.proofs.Common.{◌≡◌, List, [], ◌∷◌, length, map, refl, sym, ap, subst, ◌∙◌}
-use Rattle.std.specs.Prelude.{replicate}
-use Rattle.std.proofs.lemmas.List.{length-map, length-replicate}
-use Rattle.plant.specs.declared.consts.ConstsFields.{ConstsFields}
-use Rattle.plant.specs.declared.operator_row.RowFields.{RowFields}
-use Rattle.plant.specs.declared.plant.PlantFields.{PlantFields}
-use Rattle.plant.specs.Plant.{IsPlant}
-use Rattle.operator_model.specs.declared.action.Entry.{Entry}
-use Rattle.operator_model.specs.Replay.{BookView, opened_book}
-use Rattle.map_assembly.specs.Gathering.{gathering_of, IsGathering}
+use Rattle.plant_core.proofs.Common.{replicate, length-map, length-replicate, ConstsFields, RowFields, PlantFields, IsPlant, Entry, BookView, opened_book, gathering_of, IsGathering, CoreView, IsStateAfter, IsReachable, forgotten, IsOf, SliceChange, with_histories, recorded_view, IsRecordOf}
 use Rattle.map_assembly.proofs.GoneLemmas.{alike_self}
 use Rattle.run_model.specs.Opened.{opened_core}
-use Rattle.run_model.specs.IsStateAfter.{CoreView, IsStateAfter}
 use Rattle.run_model.proofs.Opening.{opened_reached}
-use Rattle.live_core.specs.Reachable.{IsReachable}
-use Rattle.live_core.specs.Performing.{forgotten, IsOf}
-use Rattle.plant_core.specs.declared.slice_change.SliceChange.{SliceChange}
-use Rattle.plant_core.specs.Recorded.{with_histories, recorded_view, IsRecordOf}
 use Rattle.plant_core.proofs.RecordLemmas.{belongs}
 
 -- opened books have no history

@@ -1,14 +1,7 @@
 -- A core stays reachable, whether a step was done or refused.
 use Rattle.std.proofs.Common.{◌≡◌, List, ◌++◌, Result, Ok, Err, OnOk, OnErr, ap, sym, subst}
-use Rattle.plant.specs.Plant.{IsPlant}
-use Rattle.map_assembly.specs.Gathering.{IsGathering}
-use Rattle.run_model.specs.declared.step.Step.{Step}
+use Rattle.plant_core.proofs.Common.{IsPlant, IsGathering, Step, Out, CoreView, Steps, IsReachable, stepped}
 use Rattle.run_model.specs.declared.step.Step.TheVariants as steps
-use Rattle.run_model.specs.declared.step.Out.{Out}
-use Rattle.run_model.specs.IsStateAfter.{CoreView}
-use Rattle.run_model.specs.Steps.{Steps}
-use Rattle.live_core.specs.Reachable.{IsReachable}
-use Rattle.live_core.proofs.ReachLemmas.{stepped}
 
 -- a step keeps the plant
 plant_kept : (step : Step) (old new : CoreView) (now : List Out) → Steps step old new now → new.plant ≡ old.plant

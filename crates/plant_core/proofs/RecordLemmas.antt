@@ -1,35 +1,13 @@
 -- The record of a core follows what a step makes of the core.
 use Rattle.std.proofs.Common.{◌≡◌, ℕ, suc, ◌<◌, List, get_or, [], ◌∷◌, ◌++◌, length, map, take, drop, ◌-◌, slice_set, Some, option_map, if◌then◌else◌, Bool, true, false, Result, Ok, Err, OnOk, OnErr, length-append, refl, sym, ap, ap₂, subst, ◌∙◌, arith}
-use Rattle.std.specs.Prelude.{slice_get}
-use Rattle.std.proofs.lemmas.List.{map-set, map-append, length-map, drop_at, take-append-drop}
-use Rattle.std.proofs.lemmas.Option.{slice_get-map, slice_get_within, same_Some}
+use Rattle.plant_core.proofs.Common.{slice_get, map-set, map-append, length-map, drop_at, take-append-drop, slice_get-map, slice_get_within, same_Some, ElementsFields, RowFields, PlantFields, SliceRow, Action, Entry, Output, own_step, BookView, operator_of_book, book_after_action, HeldHistory, Gathering, is_last, IsGathering, Out, CoreView, Acts, Collects, Reslices, forgotten, IsOf, Performs, ActPlan, IsActPlan, seen_at, set_alike, SliceChange, with_histories, reslicing_of, recorded_gathering, recorded_view, IsRecordOf, histories_after_reslice}
 use Rattle.slice_scheduler.specs.Minislots.{Minislots}
-use Rattle.slice_scheduler.specs.declared.elements.ElementsFields.{ElementsFields}
-use Rattle.plant.specs.declared.operator_row.RowFields.{RowFields}
-use Rattle.plant.specs.declared.plant.PlantFields.{PlantFields}
-use Rattle.operator_model.specs.declared.action.SliceRow.{SliceRow}
-use Rattle.operator_model.specs.declared.action.Action.{Action}
 use Rattle.operator_model.specs.declared.action.Action.TheVariants as actions
-use Rattle.operator_model.specs.declared.action.Entry.{Entry}
-use Rattle.operator_model.specs.declared.output.Output.{Output}
-use Rattle.operator_model.specs.Machine.{own_step}
-use Rattle.operator_model.specs.Replay.{BookView, operator_of_book, book_after_action}
-use Rattle.operator_book.specs.Kept.{HeldHistory}
 use Rattle.map_assembly.specs.declared.slicing.Reslicing.{Reslicing}
-use Rattle.map_assembly.specs.Gathering.{Gathering, is_last, IsGathering}
 use Rattle.map_assembly.specs.LettingGo.{GoesOnAlike}
-use Rattle.run_model.specs.declared.step.Out.{Out}
-use Rattle.run_model.specs.IsStateAfter.{CoreView}
-use Rattle.run_model.specs.Steps.{Acts, Collects, Reslices}
 use Rattle.run_model.proofs.Moving.{silent}
-use Rattle.live_core.specs.Performing.{forgotten, IsOf, Performs}
-use Rattle.live_core.specs.declared.act_plan.ActPlan.{ActPlan}
-use Rattle.live_core.specs.Planning.{IsActPlan}
 use Rattle.live_core.proofs.GoLemmas.{acts_go, collects_go, reslices_go}
 use Rattle.live_core.proofs.AlikeLemmas.{held_on}
-use Rattle.live_core.proofs.PlaceLemmas.{seen_at, set_alike}
-use Rattle.plant_core.specs.declared.slice_change.SliceChange.{SliceChange}
-use Rattle.plant_core.specs.Recorded.{with_histories, reslicing_of, recorded_gathering, recorded_view, IsRecordOf, histories_after_reslice}
 
 abbrev history_of : BookView → List Entry
 history_of book = book.history

@@ -1,18 +1,9 @@
 -- A run, step by step.
 use Rattle.std.proofs.Common.{◌≡◌, ℕ, ◌+◌, ◌<◌, List, [], ◌∷◌, ◌++◌, length, take, get_or, Err, Some, refl, sym, ap, subst, ◌∙◌}
-use Rattle.std.specs.Prelude.{slice_get}
-use Rattle.std.proofs.lemmas.Option.{slice_get_read}
-use Rattle.plant.specs.declared.plant.PlantFields.{PlantFields}
-use Rattle.plant.specs.Plant.{IsPlant}
-use Rattle.map_assembly.specs.Gathering.{IsGathering}
-use Rattle.run_model.specs.declared.step.Step.{Step}
-use Rattle.run_model.specs.declared.step.Out.{Out}
-use Rattle.run_model.specs.IsStateAfter.{CoreView, IsStateAfter}
-use Rattle.run_model.specs.Steps.{Steps}
+use Rattle.plant_core.proofs.Common.{slice_get, slice_get_read, PlantFields, IsPlant, IsGathering, Step, Out, CoreView, IsStateAfter, Steps, step_fault, IsReported}
 use Rattle.run_model.proofs.OneStep.{step_reached}
 use Rattle.run_model.proofs.Runs.{reached_more}
 use Rattle.live_core.specs.declared.core_fault.CoreFault.{CoreFault}
-use Rattle.live_core.specs.Faults.{step_fault, IsReported}
 
 pub step_more : (plant : PlantFields) (before : List Step) (step : Step) (told made now outs : List Out) (old new : CoreView) → IsPlant plant → IsGathering old.gathering
     → Steps step old new now → outs ≡ made ++ now → made ≡ [] → IsStateAfter plant before told old → IsStateAfter plant (before ++ step ∷ []) (told ++ outs) new

@@ -1,28 +1,13 @@
 -- A step of a core next to its record is planned and refused as one of the core without histories.
 use Rattle.std.proofs.Common.{◌≡◌, ℕ, List, length, Option, Some, None, option_map, refl, sym, ap, subst, ◌∙◌, arith}
-use Rattle.std.specs.Prelude.{slice_get}
-use Rattle.std.proofs.lemmas.Option.{slice_get-map, slice_get_within}
+use Rattle.plant_core.proofs.Common.{slice_get, slice_get-map, slice_get_within, PlantFields, SliceRow, Action, IsAllowed, BookView, operator_of_book, CoreView, some_at, ActPlan, ResliceFault, act_fault, step_fault, IsOfAStep, reslice_fault, forgotten, IsOf, IsActPlan}
 use Rattle.dsx_messages.specs.declared.modem.Modem.{Modem}
-use Rattle.plant.specs.declared.plant.PlantFields.{PlantFields}
 use Rattle.plant.specs.Roster.{holder}
 use Rattle.plant.proofs.Holders.{holder_holds}
 use Rattle.operator_model.specs.declared.heard.Heard.{Heard}
-use Rattle.operator_model.specs.declared.action.SliceRow.{SliceRow}
-use Rattle.operator_model.specs.declared.action.Action.{Action}
-use Rattle.operator_model.specs.Machine.{IsAllowed}
-use Rattle.operator_model.specs.Replay.{BookView, operator_of_book}
 use Rattle.operator_book.specs.Planned.{IsPlanOf, IsCommittable}
 use Rattle.run_model.specs.declared.step.Step.TheVariants as steps
-use Rattle.run_model.specs.IsStateAfter.{CoreView}
-use Rattle.run_model.proofs.Entries.{some_at}
-use Rattle.live_core.specs.declared.act_plan.ActPlan.{ActPlan}
 use Rattle.live_core.specs.declared.core_fault.CoreFault.TheVariants.{Reslice}
-use Rattle.live_core.specs.declared.core_fault.ResliceFault.{ResliceFault}
-use Rattle.live_core.specs.Faults.{act_fault, step_fault}
-use Rattle.live_core.specs.Reachable.{IsOfAStep}
-use Rattle.live_core.specs.Reslicing.{reslice_fault}
-use Rattle.live_core.specs.Performing.{forgotten, IsOf}
-use Rattle.live_core.specs.Planning.{IsActPlan}
 use Rattle.live_core.proofs.BehindLemmas.{found}
 use Rattle.live_core.proofs.FaultLemmas.{same_step_fault}
 

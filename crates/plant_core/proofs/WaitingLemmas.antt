@@ -1,20 +1,8 @@
 -- Frames that wait.
 use Rattle.std.proofs.Common.{◌≡◌, ℕ, zero, suc, ◌+◌, ◌<◌, ◌≤◌, List, [], ◌∷◌, ◌++◌, length, get_or, drop, All, Result, Ok, Err, OnErr, Some, None, IsSome, refl, sym, ap, subst, ◌∙◌, append-nil, arith}
-use Rattle.std.specs.Prelude.{slice_get, slice_index_or}
-use Rattle.std.specs.List.{flat_map}
-use Rattle.std.proofs.lemmas.List.{drop-append-le, drop_more}
-use Rattle.std.proofs.lemmas.List.Elements.{filter_map-append}
+use Rattle.plant_core.proofs.Common.{slice_get, slice_index_or, flat_map, drop-append-le, drop_more, filter_map-append, ElementsFields, ConstsFields, RowFields, Action, Entry, Output, own_step, BookView, AreTold, IsReplay, book_after_action, frame_with_number, frames_of}
 use Rattle.std.proofs.lemmas.List.Concat.{flat_map-append}
-use Rattle.slice_scheduler.specs.declared.elements.ElementsFields.{ElementsFields}
-use Rattle.plant.specs.declared.consts.ConstsFields.{ConstsFields}
-use Rattle.plant.specs.declared.operator_row.RowFields.{RowFields}
-use Rattle.operator_model.specs.declared.action.Action.{Action}
-use Rattle.operator_model.specs.declared.action.Entry.{Entry}
-use Rattle.operator_model.specs.declared.output.Output.{Output}
 use Rattle.operator_model.specs.State.{OperatorState, operator}
-use Rattle.operator_model.specs.Machine.{own_step}
-use Rattle.operator_model.specs.Replay.{BookView, AreTold, IsReplay, book_after_action}
-use Rattle.run_model.specs.IsStateAfter.{frame_with_number, frames_of}
 use Rattle.live_core.proofs.FrameLemmas.{first_none, first_alone, one_frame}
 use Rattle.plant_core.specs.Waiting.{frames_in, waiting_in, IsOneFrame}
 

@@ -1,31 +1,14 @@
 -- The reading of the classes.
 use Rattle.std.proofs.Common.{◌≡◌, ℕ, suc, ◌+◌, ◌<◌, ◌≤◌, nat_le, ◌&&◌, Bool, true, false, not, codes, List, [], ◌∷◌, ◌++◌, length, length-append, get_or, Option, Some, None, Result, Ok, Err, refl, sym, ap, ◌∙◌, subst, arith}
-use borrow.Author.Count.{below_more}
-use Rattle.std.specs.List.{list_any}
-use Rattle.std.proofs.lemmas.Bool.{true≢false}
-use Rattle.std.proofs.lemmas.List.{get_or_append_left, get_or_push}
-use Rattle.toml.specs.Data.{Data, string, array, table, Items, Members, get_member, get_item, as_array}
-use Rattle.lists.specs.Results.{◌>>=◌}
+use Rattle.plant_file_laws.proofs.Common.{below_more, list_any, true≢false, get_or_append_left, get_or_push, Data, string, array, table, Items, Members, get_member, get_item, as_array, ◌>>=◌, BadValue, Key, Classes, Table, Entry, Place, each, items_len, expected_value, checked_value, at_field, text_at, bytes_at, table_of, ok_same, bind_ok, at_most, le_true, array_is, text_said, bytes_is, table_said, under, class_name_is, encoding_is, item_in, items_or_none, items_in, standing_at, value_of_key, in_turn, class_keys, IsValueOfKey}
 use Rattle.tlv24.specs.Flow.{flow_of}
 use Rattle.tlv24.specs.declared.fields.FlowFields.{FlowFields}
 use Rattle.tlv24.specs.declared.fault.FlowFault.{FlowFault}
 use Rattle.plant.specs.declared.class_table.Class.{Class}
-use Rattle.slice_table.specs.declared.plant_fault.PlantFault.TheVariants.{BadValue}
-use Rattle.slice_table.specs.declared.plant_key.Key.{Key}
-use Rattle.slice_table.specs.declared.plant_key.Key.TheVariants.{Classes, Table, Entry}
 use Rattle.slice_table.specs.declared.plant_key.Field.TheVariants as field
-use Rattle.slice_table.specs.declared.plant_key.Place.{Place}
 use Rattle.slice_table.specs.declared.plant_key.Place.TheVariants as place
 use Rattle.plant.specs.Classes.{is_class_named}
-use Rattle.slice_table.specs.Tree.{each, items_len, expected_value, checked_value, at_field, text_at, bytes_at, table_of}
 use Rattle.slice_table.specs.ReadConsts.{is_class_name, class_name_at, states_parameters, parameters_in, class_encoding_at, class_read, classes_in, classes_if}
-use Rattle.slice_table.proofs.Parsed.{ok_same, bind_ok}
-use Rattle.slice_table.proofs.Values.{at_most}
-use Rattle.slice_table.proofs.SaidKeys.{le_true, array_is, text_said, bytes_is, table_said, under}
-use Rattle.slice_table.proofs.SaidConsts.{class_name_is, encoding_is}
-use Rattle.plant_file_laws.specs.Held.{item_in, items_or_none, items_in, standing_at, value_of_key}
-use Rattle.plant_file_laws.specs.Keys.{in_turn, class_keys}
-use Rattle.plant_file_laws.specs.Stands.{IsValueOfKey}
 use Rattle.plant_file_laws.proofs.ListLemmas.{some_same, one_of}
 use Rattle.plant_file_laws.proofs.FoundLemmas.{blame, Blames, blames_bind, blames_checked, Found, found_behind, found_bind, found_before, found_key, found_each, judged_required, refused}
 use Rattle.plant_file_laws.proofs.KeyLemmas.{held_in, found_table, blames_text, blames_bytes}

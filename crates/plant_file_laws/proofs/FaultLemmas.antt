@@ -1,30 +1,12 @@
 -- A plant file is refused for the fault of the first key that is at fault.
 use Rattle.std.proofs.Common.{◌≡◌, ◌⊎◌, ◌↔◌, codes, List, [], ◌∷◌, ◌++◌, inl, inr, Option, Some, None, Ok, Err, refl, sym, ap, ◌∙◌, subst}
-use Rattle.std.specs.List.{AllByRecursion}
-use Rattle.std.proofs.lemmas.List.Elements.{All-from_recursion, recursion_from_All}
-use Rattle.toml.specs.Data.{Data, Members, get_member}
-use Rattle.lists.specs.Results.{◌>>=◌}
-use Rattle.plant.specs.declared.consts.ConstsFields.{ConstsFields}
-use Rattle.plant.specs.declared.operator_row.RowFields.{RowFields}
+use Rattle.plant_file_laws.proofs.Common.{AllByRecursion, All-from_recursion, recursion_from_All, Data, Members, get_member, ◌>>=◌, ConstsFields, RowFields, PlantFault, Key, Classes, Operators, PlantResult, SaysConsts, SaysRows, ok_same, bind_ok, bind_both, consts_are, rows_are, IsFirst, items_in, value_of_key, keys_of, keys_at, plant_fields, in_turn, class_keys, operator_keys, IsMissing, IsWrong, IsAtFault, IsToldAs, IsOfTheFirstKey, IsOfAllKeys, HasNoFault}
 use Rattle.plant.specs.declared.plant.PlantFields.{PlantFields}
-use Rattle.slice_table.specs.declared.plant_fault.PlantFault.{PlantFault}
-use Rattle.slice_table.specs.declared.plant_key.Key.{Key}
-use Rattle.slice_table.specs.declared.plant_key.Key.TheVariants.{Classes, Operators}
 use Rattle.slice_table.specs.declared.plant_key.Place.TheVariants as place
-use Rattle.slice_table.specs.Tree.{PlantResult}
 use Rattle.slice_table.specs.Checks.{rows_fault, unless}
 use Rattle.slice_table.specs.ReadConsts.{plant_keys_of, classes_if, with_classes, consts_of}
 use Rattle.slice_table.specs.ReadRows.{rows_of}
 use Rattle.slice_table.specs.ReadPlant.{plant_of}
-use Rattle.slice_table.specs.Says.{SaysConsts, SaysRows}
-use Rattle.slice_table.proofs.Parsed.{ok_same, bind_ok}
-use Rattle.slice_table.proofs.SaidKeys.{bind_both}
-use Rattle.slice_table.proofs.SaidConsts.{consts_are}
-use Rattle.slice_table.proofs.SaidRows.{rows_are}
-use Rattle.lists.specs.First.{IsFirst}
-use Rattle.plant_file_laws.specs.Held.{items_in, value_of_key}
-use Rattle.plant_file_laws.specs.Keys.{keys_of, keys_at, plant_fields, in_turn, class_keys, operator_keys}
-use Rattle.plant_file_laws.specs.Faults.{IsMissing, IsWrong, IsAtFault, IsToldAs, IsOfTheFirstKey, IsOfAllKeys, HasNoFault}
 use Rattle.plant_file_laws.proofs.ListLemmas.{first_one, none-first}
 use Rattle.plant_file_laws.proofs.FoundLemmas.{Found, found_bind, found_last}
 use Rattle.plant_file_laws.proofs.PlantLemmas.{found_plant}

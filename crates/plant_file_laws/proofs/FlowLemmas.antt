@@ -1,29 +1,14 @@
 -- The reading of an operator's provisioned flows.
 use Rattle.std.proofs.Common.{◌≡◌, ℕ, suc, ◌+◌, true, List, [], ◌∷◌, ◌++◌, length, length-append, Option, Some, None, Ok, Err, refl, sym, ap, ◌∙◌, subst, arith}
 use Rattle.std.proofs.Common.{IsSome}
-use Rattle.toml.specs.Data.{Data, string, array, table, Items, Members, get_item, as_str, as_array}
-use Rattle.hex.specs.Hex.{decode_sized}
-use Rattle.lists.specs.Results.{◌>>=◌}
-use Rattle.dsx_messages.specs.declared.modem.Modem.{Modem}
-use Rattle.plant.specs.declared.consts.ConstsFields.{ConstsFields}
+use Rattle.plant_file_laws.proofs.Common.{Data, string, array, table, Items, Members, get_item, as_str, as_array, decode_sized, ◌>>=◌, Modem, ConstsFields, BadValue, Key, Table, Entry, Place, SaysConsts, SaysModems, ok_same, bind_ok, required_ok, checked_ok, bind_both, required_said, checked_said, array_is, bytes_is, address_is, table_said, under, modems_are, sets_there, item_in, table_in, items_or_none, items_in, standing_at, value_of_key, in_turn, flow_keys, IsValueOfKey}
 use Rattle.plant.specs.declared.provision.Provision.{Provision}
-use Rattle.slice_table.specs.declared.plant_fault.PlantFault.TheVariants.{BadValue}
-use Rattle.slice_table.specs.declared.plant_key.Key.{Key}
-use Rattle.slice_table.specs.declared.plant_key.Key.TheVariants.{Table, Entry}
 use Rattle.slice_table.specs.declared.plant_key.Field.TheVariants as field
-use Rattle.slice_table.specs.declared.plant_key.Place.{Place}
 use Rattle.slice_table.specs.declared.plant_key.Place.TheVariants as place
 use Rattle.plant.specs.Provisioned.{sets_of_encoding}
 use Rattle.plant.specs.Row.{is_listed}
 use Rattle.slice_table.specs.Tree.{PlantResult, each, required_value, expected_value, checked_value, at_field, bytes_at, modem_in, modem_of, modem_at, table_of}
 use Rattle.slice_table.specs.ReadRows.{own_modem_at, has_sets, provision_at, provision_read, provisions_in, provisions_if}
-use Rattle.slice_table.specs.Says.{SaysConsts, SaysModems}
-use Rattle.slice_table.proofs.Parsed.{ok_same, bind_ok, required_ok, checked_ok}
-use Rattle.slice_table.proofs.SaidKeys.{bind_both, required_said, checked_said, array_is, bytes_is, address_is, table_said, under}
-use Rattle.slice_table.proofs.SaidRows.{modems_are, sets_there}
-use Rattle.plant_file_laws.specs.Held.{item_in, table_in, items_or_none, items_in, standing_at, value_of_key}
-use Rattle.plant_file_laws.specs.Keys.{in_turn, flow_keys}
-use Rattle.plant_file_laws.specs.Stands.{IsValueOfKey}
 use Rattle.plant_file_laws.proofs.ListLemmas.{some_same}
 use Rattle.plant_file_laws.proofs.FoundLemmas.{Blames, blames_required, blames_bind, blames_expected, blames_checked, Found, found_behind, found_bind, found_key, found_each, judged_required}
 use Rattle.plant_file_laws.proofs.KeyLemmas.{held_in, found_table, blames_bytes, consts_one}

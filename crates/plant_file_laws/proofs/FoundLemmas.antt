@@ -1,17 +1,6 @@
 -- What a reading of keys, one after the other, finds.
 use Rattle.std.proofs.Common.{◌≡◌, Bool, true, false, ℕ, suc, ◌+◌, add-zero, List, [], ◌∷◌, ◌++◌, inl, inr, Option, Some, None, Ok, Err, refl, sym, ap, ◌∙◌, subst, arith}
-use Rattle.std.specs.List.{AllByRecursion}
-use Rattle.toml.specs.Data.{Data, Items, no_items, item, Members, get_item}
-use Rattle.lists.specs.Results.{◌>>=◌}
-use Rattle.slice_table.specs.declared.plant_fault.PlantFault.{PlantFault}
-use Rattle.slice_table.specs.declared.plant_fault.PlantFault.TheVariants.{Missing, BadValue}
-use Rattle.slice_table.specs.declared.plant_key.Key.{Key}
-use Rattle.slice_table.specs.Tree.{PlantResult, each, required_value, expected_value, checked_value}
-use Rattle.lists.specs.First.{IsFirst}
-use Rattle.plant_file_laws.specs.Held.{value_of_key}
-use Rattle.plant_file_laws.specs.Keys.{in_turn}
-use Rattle.plant_file_laws.specs.Stands.{IsValueOfKey, MustStand}
-use Rattle.plant_file_laws.specs.Faults.{IsMissing, IsWrong, IsAtFault, IsToldAs}
+use Rattle.plant_file_laws.proofs.Common.{AllByRecursion, Data, Items, no_items, item, Members, get_item, ◌>>=◌, PlantFault, Missing, BadValue, Key, PlantResult, each, required_value, expected_value, checked_value, IsFirst, value_of_key, in_turn, IsValueOfKey, MustStand, IsMissing, IsWrong, IsAtFault, IsToldAs}
 use Rattle.plant_file_laws.proofs.ListLemmas.{some_same, none-append, first-here, first-behind, first-before}
 
 -- ---- what a reading blames

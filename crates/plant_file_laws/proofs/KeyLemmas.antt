@@ -1,30 +1,14 @@
 -- The reading of one key finds whether what stands under it may stand there.
 use Rattle.std.proofs.Common.{◌≡◌, ℕ, pos, ◌≤◌, ◌↔◌, nat_le, ◌&&◌, Bool, true, false, [], ◌∷◌, Option, Some, None, IsNone, Ok, Err, refl, sym, ap, ◌∙◌, subst}
-use Rattle.std.proofs.lemmas.Bool.{and_parts, true≢false}
-use Rattle.toml.specs.Data.{Data, string, integer, array, table, Members, as_array, as_table, as_str}
-use Rattle.hex.specs.Hex.{decode_of}
-use Rattle.lists.specs.Results.{◌>>=◌}
+use Rattle.plant_file_laws.proofs.Common.{and_parts, true≢false, Data, string, integer, array, table, Members, as_array, as_table, as_str, decode_of, ◌>>=◌, ConstsFields, BadValue, Field, Place, Key, Table, Entry, SaysConsts, SaysSlice, two, ok_same, bind_ok, required_ok, at_most, both_true, le_true, natural_is, table_is, array_said, range_is, slice_is, text_said, consts_are, table_in, field_in, standing_at, value_of_key, IsValueOfKey, MustStand, IsNumber, IsNumberIn, IsRange}
 use Rattle.admission.specs.Free.{Numbers}
 use Rattle.slice_scheduler.specs.Minislots.{Minislots}
-use Rattle.plant.specs.declared.consts.ConstsFields.{ConstsFields}
-use Rattle.slice_table.specs.declared.plant_fault.PlantFault.TheVariants.{BadValue}
-use Rattle.slice_table.specs.declared.plant_key.Field.{Field}
 use Rattle.slice_table.specs.declared.plant_key.Field.TheVariants as field
-use Rattle.slice_table.specs.declared.plant_key.Place.{Place}
 use Rattle.slice_table.specs.declared.plant_key.Place.TheVariants as place
-use Rattle.slice_table.specs.declared.plant_key.Key.{Key}
-use Rattle.slice_table.specs.declared.plant_key.Key.TheVariants.{Table, Entry}
 use Rattle.slice_table.specs.declared.ranges.Bounds.{Bounds}
 use Rattle.slice_table.specs.Ranges.{range_of, default_of}
 use Rattle.slice_table.specs.Tree.{PlantResult, required_value, expected_value, checked_value, at_field, natural, number_of, number_if, number_at, number_of_key, pair_in, array_at, pair_at, text_at, bytes_if_decoded, bytes_at, table_of}
 use Rattle.slice_table.specs.ReadRows.{is_range, range_at, fits_frame, slice_at}
-use Rattle.slice_table.specs.Says.{SaysConsts, SaysSlice, two}
-use Rattle.slice_table.proofs.Parsed.{ok_same, bind_ok, required_ok}
-use Rattle.slice_table.proofs.Values.{at_most}
-use Rattle.slice_table.proofs.SaidKeys.{both_true, le_true, natural_is, table_is, array_said, range_is, slice_is, text_said}
-use Rattle.slice_table.proofs.SaidConsts.{consts_are}
-use Rattle.plant_file_laws.specs.Held.{table_in, field_in, standing_at, value_of_key}
-use Rattle.plant_file_laws.specs.Stands.{IsValueOfKey, MustStand, IsNumber, IsNumberIn, IsRange}
 use Rattle.plant_file_laws.proofs.ListLemmas.{some_same}
 use Rattle.plant_file_laws.proofs.FoundLemmas.{Blames, blames_required, blames_bind, blames_expected, blames_checked, Found, Judged, found_key, judged_required}
 

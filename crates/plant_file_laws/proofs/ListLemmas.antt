@@ -1,8 +1,6 @@
 -- Lists, and the first of a list that something holds of.
 use Rattle.std.proofs.Common.{◌≡◌, ℕ, ◌<◌, List, [], ◌∷◌, ◌++◌, append_assoc, length, Option, Some, refl, sym, ap, ◌∙◌, subst, arith}
-use Rattle.std.specs.List.{AllByRecursion}
-use Rattle.std.proofs.lemmas.List.Elements.{All-nil, All-cons, recursion_from_All}
-use Rattle.lists.specs.First.{IsFirst}
+use Rattle.plant_file_laws.proofs.Common.{AllByRecursion, All-nil, All-cons, recursion_from_All, IsFirst}
 
 pub some_same : {X : Type 0} (x y : X) → ◌≡◌ {A = Option X} (Some x) (Some y) → x ≡ y
 some_same x y h = cc

@@ -1,37 +1,15 @@
 -- The reading of the operators.
 use Rattle.std.proofs.Common.{◌≡◌, ◌≢◌, ℕ, suc, ◌+◌, ◌<◌, ◌≤◌, nat_le, ◌&&◌, Bool, true, false, not, if◌then◌else◌, codes, List, [], ◌∷◌, ◌++◌, length, length-append, get_or, inl, inr, Option, Some, None, Ok, Err, refl, sym, ap, ◌∙◌, subst, arith}
-use borrow.Author.Count.{below_more}
-use Rattle.std.specs.Prelude.{map}
-use Rattle.std.specs.List.{list_any}
+use Rattle.plant_file_laws.proofs.Common.{below_more, map, list_any, true≢false, false≢true, get_or_append_left, get_or_push, Data, string, array, table, Items, no_items, item, Members, get_member, get_item, as_str, as_array, ◌>>=◌, Modem, ConstsFields, RowFields, Missing, BadValue, Key, Operators, Table, Entry, Field, Place, IsAddress, SayInTurn, SaysConsts, at_most, le_true, string_is, array_is, array_said, text_said, table_said, under, name_is, modems_are, row_is, item_in, items_or_none, items_in, standing_at, value_of_key, in_turn, operator_keys, operator_fields, flow_keys, IsValueOfKey, AllItems, IsAtFault}
 use Rattle.std.specs.Str.{bytes_eq}
-use Rattle.std.proofs.lemmas.Bool.{true≢false, false≢true}
-use Rattle.std.proofs.lemmas.List.{get_or_append_left, get_or_push}
 use Rattle.std.proofs.lemmas.Slice.Eq.{bytes_eq-Decides}
-use Rattle.toml.specs.Data.{Data, string, array, table, Items, no_items, item, Members, get_member, get_item, as_str, as_array}
-use Rattle.lists.specs.Results.{◌>>=◌}
-use Rattle.dsx_messages.specs.declared.modem.Modem.{Modem}
 use Rattle.grant_policy.specs.declared.policy.Policy.{Policy}
 use Rattle.grant_policy.specs.declared.policy.Policy.TheVariants.{Strict, Short}
-use Rattle.plant.specs.declared.consts.ConstsFields.{ConstsFields}
-use Rattle.plant.specs.declared.operator_row.RowFields.{RowFields}
-use Rattle.slice_table.specs.declared.plant_fault.PlantFault.TheVariants.{Missing, BadValue}
-use Rattle.slice_table.specs.declared.plant_key.Key.{Key}
-use Rattle.slice_table.specs.declared.plant_key.Key.TheVariants.{Operators, Table, Entry}
-use Rattle.slice_table.specs.declared.plant_key.Field.{Field}
 use Rattle.slice_table.specs.declared.plant_key.Field.TheVariants as field
-use Rattle.slice_table.specs.declared.plant_key.Place.{Place}
 use Rattle.slice_table.specs.declared.plant_key.Place.TheVariants as place
 use Rattle.slice_table.specs.Tree.{PlantResult, each, items_len, required_value, expected_value, checked_value, at_field, number_of_key, text_at, array_at, modem_of, table_of}
 use Rattle.plant.specs.Name.{is_operator_name}
 use Rattle.slice_table.specs.ReadRows.{is_called, name_at, slice_at, range_at, aged_at, policy_named, policy_at, modem_read, modems_at, provisions_if, row_at, row_read, rows_of}
-use Rattle.slice_table.specs.Says.{IsAddress, SayInTurn, SaysConsts}
-use Rattle.slice_table.proofs.Values.{at_most}
-use Rattle.slice_table.proofs.SaidKeys.{le_true, string_is, array_is, array_said, text_said, table_said, under}
-use Rattle.slice_table.proofs.SaidRows.{name_is, modems_are, row_is}
-use Rattle.plant_file_laws.specs.Held.{item_in, items_or_none, items_in, standing_at, value_of_key}
-use Rattle.plant_file_laws.specs.Keys.{in_turn, operator_keys, operator_fields, flow_keys}
-use Rattle.plant_file_laws.specs.Stands.{IsValueOfKey, AllItems}
-use Rattle.plant_file_laws.specs.Faults.{IsAtFault}
 use Rattle.plant_file_laws.proofs.ListLemmas.{some_same, one_of}
 use Rattle.plant_file_laws.proofs.FoundLemmas.{blame, Blames, blames_bind, blames_checked, refused, Found, found_behind, found_bind, found_last, found_before, found_key, found_each, judged_required}
 use Rattle.plant_file_laws.proofs.KeyLemmas.{held_in, found_table, found_number_in, found_range, found_slice, blames_text, blames_array}

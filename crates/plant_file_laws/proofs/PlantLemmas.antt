@@ -1,20 +1,9 @@
 -- The reading of the table `plant`.
 use Rattle.std.proofs.Common.{◌≡◌, ◌↔◌, ℕ, codes, List, [], ◌∷◌, ◌++◌, inl, inr, Option, Some, None, Ok, refl, sym, ap, ◌∙◌, subst}
-use Rattle.std.specs.Prelude.{map}
-use Rattle.toml.specs.Data.{Data, table, Members, get_member}
-use Rattle.lists.specs.Results.{◌>>=◌}
-use Rattle.slice_table.specs.declared.plant_key.Field.{Field}
+use Rattle.plant_file_laws.proofs.Common.{map, Data, table, Members, get_member, ◌>>=◌, Field, Table, Entry, PlantResult, required_value, at_field, number_at, number_of_key, table_of, SaysNumberIn, number_in_is, table_said, under, field_in, table_in, standing_at, value_of_key, keys_at, plant_fields, IsNumber, IsNumberIn, OfPlant, number, IsAtFault, IsMissing}
 use Rattle.slice_table.specs.declared.plant_key.Field.TheVariants as field
 use Rattle.slice_table.specs.declared.plant_key.Place.TheVariants as place
-use Rattle.slice_table.specs.declared.plant_key.Key.TheVariants.{Table, Entry}
-use Rattle.slice_table.specs.Tree.{PlantResult, required_value, at_field, number_at, number_of_key, table_of}
 use Rattle.slice_table.specs.ReadConsts.{units_at, backoffs_at, timers_at, plant_keys_at, plant_keys_of}
-use Rattle.slice_table.specs.Says.{SaysNumberIn}
-use Rattle.slice_table.proofs.SaidKeys.{number_in_is, table_said, under}
-use Rattle.plant_file_laws.specs.Held.{field_in, table_in, standing_at, value_of_key}
-use Rattle.plant_file_laws.specs.Keys.{keys_at, plant_fields}
-use Rattle.plant_file_laws.specs.Stands.{IsNumber, IsNumberIn, OfPlant, number}
-use Rattle.plant_file_laws.specs.Faults.{IsAtFault, IsMissing}
 use Rattle.plant_file_laws.proofs.ListLemmas.{some_same, first-here, first-behind}
 use Rattle.plant_file_laws.proofs.FoundLemmas.{Found, found_bind, found_key}
 use Rattle.plant_file_laws.proofs.KeyLemmas.{held_in, HasNumber, found_table, found_number, found_number_in}

@@ -1,25 +1,8 @@
 -- A turn from its ticket to its end.
 use Rattle.std.proofs.Common.{◌≡◌, ℕ, ◌<◌, List, [], ◌∷◌, ◌++◌, length, Some, None, Option, Result, Ok, Err, OnOk, IfOk, OnErr, sym, refl, ap, ◌∙◌, subst}
-use Rattle.std.proofs.lemmas.List.{append_cancel_left}
-use Rattle.atomic_table.specs.Seated.{TableId}
-use Rattle.atomic_table.specs.Table.{rest}
-use Rattle.operator_model.specs.declared.action.Action.{Action}
-use Rattle.operator_model.specs.declared.action.Entry.{Entry}
+use Rattle.plant_passes.proofs.Common.{append_cancel_left, TableId, rest, Action, Entry, own_step, stranger_of, unfit_of, BookView, operator_of_book, book_after_action, Modem, MarkedEntry, Origin, Knowledge, BookParts, origin_of, IsOwnRun, history_entry, mark_entry, entries, places, SeatNow, with_ticket, SeesHistory, HasBookInHand, with_entry, history_in_hand, after_closing, seat_view, ActsInTurn, EndsCell, IsCellAction, IsInTurn, HasBookWith}
 use Rattle.operator_model.specs.declared.output.Output.{Output}
-use Rattle.operator_model.specs.Machine.{own_step, stranger_of, unfit_of}
-use Rattle.operator_model.specs.Replay.{BookView, operator_of_book, book_after_action}
 use Rattle.operator_model.specs.declared.action.Unfit.{Unfit}
-use Rattle.dsx_messages.specs.declared.modem.Modem.{Modem}
-use Rattle.plant_passes.specs.declared.view.MarkedEntry.{MarkedEntry}
-use Rattle.plant_passes.specs.declared.view.Origin.{Origin}
-use Rattle.plant_passes.specs.declared.view.Knowledge.{Knowledge}
-use Rattle.plant_passes.specs.declared.view.BookParts.{BookParts}
-use Rattle.plant_passes.specs.Runs.{origin_of, IsOwnRun}
-use Rattle.plant_passes.specs.Histories.{history_entry, mark_entry, entries, places}
-use Rattle.plant_passes.specs.Seats.{SeatNow}
-use Rattle.plant_passes.specs.Steps.{with_ticket, SeesHistory, HasBookInHand, with_entry, history_in_hand, after_closing}
-use Rattle.plant_passes.specs.Passes.{seat_view, ActsInTurn, EndsCell}
-use Rattle.plant_passes.specs.Turns.{IsCellAction, IsInTurn, HasBookWith}
 use Rattle.plant_passes.proofs.Logs.{entries_push, places_own}
 
 pub one_in_hand : {X : Type 0} (m : SeatNow X) (c : List (ℕ × Option (BookParts X))) → HasBookInHand m c

@@ -1,11 +1,6 @@
 -- One look after another.
 use Rattle.std.proofs.Common.{◌≡◌, ◌≢◌, ℕ, ◌<◌, true, List, ◌++◌, Some, sym, ap, ◌∙◌, subst, append_assoc}
-use Rattle.plant_passes.specs.declared.view.MarkedEntry.{MarkedEntry}
-use Rattle.plant_passes.specs.declared.view.Knowledge.{Knowledge}
-use Rattle.plant_passes.specs.Histories.{StartsWith, StartsWithAll}
-use Rattle.plant_passes.specs.Seats.{closing_mark, SeatNow, knowledge}
-use Rattle.plant_passes.specs.Steps.{SeesHistory, FindsServing, HasBookInHand}
-use Rattle.plant_passes.specs.Turns.{WaitsForTurn, IsInTurn}
+use Rattle.plant_passes.proofs.Common.{MarkedEntry, Knowledge, StartsWith, StartsWithAll, closing_mark, SeatNow, knowledge, SeesHistory, FindsServing, HasBookInHand, WaitsForTurn, IsInTurn}
 
 pub begins_again : (a b c : List MarkedEntry) → StartsWith b a → StartsWith c b → StartsWith c a
 begins_again a b c p q = (p.0 ++ q.0, q.1 ∙ (ap (λ l. l ++ q.0) p.1 ∙ append_assoc a p.0 q.0))

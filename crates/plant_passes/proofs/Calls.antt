@@ -1,19 +1,15 @@
 -- What a call of a cell answers, of what its steps answered.
 use Rattle.std.proofs.Common.{◌≡◌, ◌≢◌, inl, inr, true, [], ◌∷◌, ◌++◌, length, Result, Ok, Err, IfErr, IsErrAnd, sym, subst, ap, ◌∙◌, append_assoc, arith}
 use Rattle.std.proofs.lemmas.Bool.Decides.{nat_tests}
-use Rattle.dsx_messages.specs.declared.modem.Modem.{Modem}
-use Rattle.operator_model.specs.declared.action.Action.{Action}
+use Rattle.plant_passes.proofs.Common.{Modem, Action, is_spent, history_entry, mark_entry, PassView, ActsInTurn, LooksOn, EndsCell, RefusesBeforeTurn, RefusesTurn, RefusesArrival, state_seen}
 use Rattle.operator_model.specs.declared.action.Action.TheVariants.{Arrive, Work, Tick, Reslice}
 use Rattle.operator_model.specs.declared.action.Unfit as misfits
 use Rattle.operator_model.specs.State.{OperatorState}
-use Rattle.operator_model.specs.Machine.{is_spent}
 use Rattle.operator_book.specs.declared.book.BookFault.{BookFault}
 use Rattle.operator_book.specs.declared.book.BookFault.TheVariants.{NotMine, FramesSpent, Unfit, NoMemory}
 use Rattle.run_receipts.specs.declared.receipt.Receipt.{Receipt}
 use Rattle.cell_state.specs.declared.cell_fault.CellFault.{CellFault}
 use Rattle.cell_state.specs.declared.cell_fault.CellFault.TheVariants.{Book, Passed, Stopped, Closed}
-use Rattle.plant_passes.specs.Histories.{history_entry, mark_entry}
-use Rattle.plant_passes.specs.Passes.{PassView, ActsInTurn, LooksOn, EndsCell, RefusesBeforeTurn, RefusesTurn, RefusesArrival, state_seen}
 use Rattle.plant_passes.proofs.Again.{begins_again}
 
 -- an action after a look, told by a copy of it

@@ -1,25 +1,10 @@
 -- The first passes of a cell, and passes that are taken in.
 use Rattle.std.proofs.Common.{◌≡◌, ℕ, zero, suc, ◌-◌, ◌<◌, ◌≤◌, false, List, [], ◌∷◌, ◌++◌, map, length, All, Contains, Some, Option, option_map, sym, refl, ap, ◌∙◌, subst, arith, append_assoc}
-use Rattle.std.proofs.lemmas.Bool.{cond_both}
-use Rattle.std.proofs.lemmas.List.{map-append}
+use Rattle.plant_passes.proofs.Common.{cond_both, map-append, some, get_elem?, State, TableId, BookParts, origin_of, CellOpening, IsCellTable, Origin, MarkedEntry, Knowledge, StartsWith, Knows, joint, CellView, PassView, IsOfCell, first_passes, IsLongest, Gathers}
 use Rattle.std.proofs.lemmas.List.Elements.{All-pop, All-weaker, All-nil, All-cons, Contains-append_left, Contains-append_right, Contains-push}
-use mathlib.Core.Option.{some}
-use lib.ListN.{get_elem?}
-use Rattle.atomic_table.specs.Table.{State}
-use Rattle.atomic_table.specs.Seated.{TableId}
 use Rattle.grant_policy.specs.declared.policy.Policy.{Policy}
-use Rattle.plant_passes.specs.declared.view.BookParts.{BookParts}
-use Rattle.plant_passes.specs.Runs.{origin_of}
-use Rattle.plant_passes.specs.Rule.{CellOpening, IsCellTable}
 use Rattle.plant_passes.proofs.Logs.{begins_self}
 use Rattle.plant_passes.proofs.Moves.{ends}
-use Rattle.plant_passes.specs.declared.view.Origin.{Origin}
-use Rattle.plant_passes.specs.declared.view.MarkedEntry.{MarkedEntry}
-use Rattle.plant_passes.specs.declared.view.Knowledge.{Knowledge}
-use Rattle.plant_passes.specs.Histories.{StartsWith}
-use Rattle.plant_passes.specs.Seats.{Knows, joint}
-use Rattle.plant_passes.specs.Passes.{CellView, PassView, IsOfCell, first_passes, IsLongest}
-use Rattle.plant_passes.specs.Turns.{Gathers}
 
 abbrev head_of : {A : Type 0} → A → List A → A
 head_of d [] = d

@@ -1,15 +1,6 @@
 -- Histories that begin one another, the places of a pass's entries, and lists of views.
 use Rattle.std.proofs.Common.{◌≡◌, ◌≢◌, ℕ, zero, suc, ◌+◌, ◌<◌, ◌≤◌, eqb, Bool, true, false, cond, ◌⊎◌, List, [], ◌∷◌, ◌++◌, length, set, sym, refl, ap, ◌∙◌, inl, inr, ⊎_elim, arith, append_assoc, append-nil, length-append, ne_eqb, eq-eqb}
-use Rattle.std.proofs.lemmas.List.{map-append}
-use Rattle.std.proofs.lemmas.Bool.{cond_both, ltb-true, ltb-false}
-use mathlib.Core.Option.{some, some-injective, some-ne-none}
-use lib.ListN.{get_elem?}
-use Rattle.atomic_table.proofs.Lists.{set_else}
-use Rattle.operator_model.specs.declared.action.Entry.{Entry}
-use Rattle.plant_passes.specs.declared.view.MarkedEntry.{MarkedEntry}
-use Rattle.plant_passes.specs.declared.view.Knowledge.{Knowledge}
-use Rattle.plant_passes.specs.Histories.{mark_entry, mark_entries, entries, places_from, places, StartsWith, StartsWithAll, longer}
-use Rattle.plant_passes.specs.Seats.{passes_of, no_pass}
+use Rattle.plant_passes.proofs.Common.{map-append, cond_both, ltb-true, ltb-false, some, some-injective, some-ne-none, get_elem?, set_else, Entry, MarkedEntry, Knowledge, mark_entry, mark_entries, entries, places_from, places, StartsWith, StartsWithAll, longer, passes_of, no_pass}
 
 pub begins_self : (log : List MarkedEntry) → StartsWith log log
 begins_self log = ([], sym (append-nil log))

@@ -1,23 +1,10 @@
 -- Each kind of step keeps the rule, and tells what it is to tell.
 use Rattle.std.proofs.Common.{◌≡◌, ◌≢◌, ℕ, ◌+◌, ◌-◌, ◌<◌, ◌≤◌, eqb, Bool, true, false, cond, ◌||◌, ◌⊎◌, List, [], ◌∷◌, ◌++◌, length, set, get_or, Some, None, Option, sym, refl, ap, ◌∙◌, subst, inl, inr, ⊎_elim, arith, length-append, ne_eqb, eq-eqb}
-use mathlib.Core.Option.{some, none, some-injective, some-ne-none}
+use Rattle.plant_passes.proofs.Common.{some, none, some-injective, some-ne-none, get_elem?, State, Act, Valid, step, keeps, takes, gives, stepped, carried_after, opening, Allows, Splits, Joins, at_set, set_else, set_again, at_longer, at_last, Entry, Origin, origin_of, IsOwnRun, MarkedEntry, Knowledge, BookParts, mark_entry, mark_entries, entries, places, StartsWith, StartsWithAll, closing_mark, SeatNow, Knows, opener, after_giving, new_pass, copy_of, joint, no_pass, CellOpening, opening_of, Progress, IsOpen, CountsTurns, HasTicket, HasTurn, IsTrueOf, IsTicketOut, AreTicketsOut, AreTicketsApart, IsHistorySeen, IsBookAtHome, IsBookOut, IsCellTable, SeesHistory, with_ticket, DrawsTicket, LooksAtServing, with_entry, EndsTurn, after_closing, ClosesCell}
 use mathlib.Core.Option as maths
 use mathlib.Core.Logic.{dite}
 use native.Mathlib.Decide.{ℕ_discrete}
-use lib.ListN.{get_elem?}
 use prog.Atomic.{either}
-use Rattle.atomic_table.specs.Table.{State, Act, Valid, step, keeps, takes, gives, stepped, carried_after, opening, Allows, Splits, Joins}
-use Rattle.atomic_table.proofs.Lists.{at_set, set_else, set_again, at_longer, at_last}
-use Rattle.operator_model.specs.declared.action.Entry.{Entry}
-use Rattle.plant_passes.specs.declared.view.Origin.{Origin}
-use Rattle.plant_passes.specs.Runs.{origin_of, IsOwnRun}
-use Rattle.plant_passes.specs.declared.view.MarkedEntry.{MarkedEntry}
-use Rattle.plant_passes.specs.declared.view.Knowledge.{Knowledge}
-use Rattle.plant_passes.specs.declared.view.BookParts.{BookParts}
-use Rattle.plant_passes.specs.Histories.{mark_entry, mark_entries, entries, places, StartsWith, StartsWithAll}
-use Rattle.plant_passes.specs.Seats.{closing_mark, SeatNow, Knows, opener, after_giving, new_pass, copy_of, joint, no_pass}
-use Rattle.plant_passes.specs.Rule.{CellOpening, opening_of, Progress, IsOpen, CountsTurns, HasTicket, HasTurn, IsTrueOf, IsTicketOut, AreTicketsOut, AreTicketsApart, IsHistorySeen, IsBookAtHome, IsBookOut, IsCellTable}
-use Rattle.plant_passes.specs.Steps.{SeesHistory, with_ticket, DrawsTicket, LooksAtServing, with_entry, EndsTurn, after_closing, ClosesCell}
 use Rattle.plant_passes.proofs.Logs.{begins_self, begins_more, begins_all_more, longer_begins, longer_whole_left, longer_whole_right, places_other, places_own, places_past, entries_push, entries_marks, length_marks, passes_set, passes_append, set_at, at_one, at_end, passes_two}
 
 -- what a change of one view keeps

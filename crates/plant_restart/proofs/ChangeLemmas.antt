@@ -1,35 +1,13 @@
 -- A plant is changed whose operators go on by their names.
 use Rattle.std.proofs.Common.{◌≡◌, ℕ, suc, List, [], ◌∷◌, length, map, Option, Some, option_map, refl, sym, ap, subst, ◌∙◌, arith}
-use Rattle.std.specs.Prelude.{slice_get, ◌≢◌}
-use Rattle.std.specs.List.{AllByRecursion}
-use Rattle.std.proofs.lemmas.List.{map-id}
-use Rattle.std.proofs.lemmas.Option.{slice_get-map, slice_get_within}
-use Rattle.grant_policy.specs.declared.policy.Policy.{Policy}
-use Rattle.snapshot_format.specs.declared.saved.SavedOperator.{SavedOperator}
-use Rattle.plant.specs.declared.operator_row.RowFields.{RowFields}
-use Rattle.plant.specs.declared.plant.PlantFields.{PlantFields}
-use Rattle.plant.specs.Consts.{KeepsConsts}
+use Rattle.plant_restart.proofs.Common.{slice_get, ◌≢◌, AllByRecursion, map-id, slice_get-map, slice_get_within, Policy, SavedOperator, RowFields, PlantFields, KeepsConsts, OperatorState, Operator, opened_state, BookView, PairsByRecursion, pairs_from_AllPairs, pairs-map, Start, CoreView, IsPlantChange, IsAfterFrom, Rests, HaveOwnNames, own_state, map_is, over_map, state_under, state_or_opened, operator_by_name, operators_by_name, start_by_name, RestartFault, NoMemory, state_of_book, states_by_name, saved_book, saved_by_name, IsRestarted, IsRestartFault, CanRestart}
 use Rattle.plant.specs.Plant.{IsPlant}
-use Rattle.operator_model.specs.State.{OperatorState, Operator, opened_state}
-use Rattle.operator_model.specs.Replay.{BookView}
 use Rattle.map_assembly.specs.Gathering.{IsGathering}
-use Rattle.map_assembly.proofs.OrderLemmas.{PairsByRecursion, pairs_from_AllPairs, pairs-map}
 use Rattle.run_model.specs.declared.step.Step.{Step}
 use Rattle.run_model.specs.declared.step.Out.{Out}
-use Rattle.run_model.specs.Starts.{Start}
-use Rattle.run_model.specs.IsStateAfter.{CoreView}
-use Rattle.run_model.specs.Changing.{IsPlantChange}
 use Rattle.run_model.proofs.Entries.{some_at}
-use Rattle.live_core.specs.After.{IsAfterFrom}
-use Rattle.live_core.specs.Resting.{Rests}
-use Rattle.live_core.proofs.ResumeLemmas.{HaveOwnNames, own_state, map_is, over_map}
 use Rattle.live_core.proofs.RestLemmas.{book_at_place, stands_now, rests_at}
-use Rattle.plant_restart.specs.ByName.{state_under, state_or_opened, operator_by_name, operators_by_name, start_by_name}
-use Rattle.plant_restart.specs.declared.fault.RestartFault.{RestartFault}
-use Rattle.plant_restart.specs.declared.fault.RestartFault.TheVariants.{NoMemory}
 use Rattle.plant_restart.specs.declared.fault.ChangeFault.TheVariants.{Restart}
-use Rattle.plant_restart.specs.Saving.{state_of_book, states_by_name, saved_book, saved_by_name}
-use Rattle.plant_restart.specs.Restarted.{IsRestarted, IsRestartFault, CanRestart}
 use Rattle.plant_restart.specs.Changing.{IsChangeOf, IsChangeRefused, CanChange}
 use Rattle.plant_restart.proofs.NameLemmas.{state_there, no_state}
 use Rattle.plant_restart.proofs.RefusalLemmas.{memory_alone}

@@ -1,3 +1,4 @@
+mod Common
 pub mod NameLemmas
 pub mod RestartLemmas
 pub mod RefusalLemmas

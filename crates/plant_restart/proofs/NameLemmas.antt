@@ -1,18 +1,8 @@
 -- States that are found by their names.
 use Rattle.std.proofs.Common.{◌≡◌, ℕ, zero, suc, ◌+◌, ◌<◌, ◌≤◌, List, [], ◌∷◌, length, map, drop, get_or, Option, Some, None, Bool, true, false, cond, refl, sym, ap, ◌∙◌}
-use Rattle.std.specs.Prelude.{slice_get, ◌≢◌}
+use Rattle.plant_restart.proofs.Common.{slice_get, ◌≢◌, AllByRecursion, at_drop_more, at_drop_all, none-some, same_Some, OperatorState, PairsByRecursion, at_place, SavedOperator, state_of, state_under, saved_by_name}
 use Rattle.std.specs.Str.{bytes_eq}
-use Rattle.std.specs.List.{AllByRecursion}
-use Rattle.std.proofs.lemmas.List.{at_drop_more, at_drop_all}
 use Rattle.std.proofs.lemmas.Slice.Eq.{bytes_eq-Decides}
-use Rattle.std.proofs.lemmas.Option.{none-some, same_Some}
-use Rattle.operator_model.specs.State.{OperatorState}
-use Rattle.map_assembly.proofs.OrderLemmas.{PairsByRecursion}
-use Rattle.run_model.proofs.OwnFrames.{at_place}
-use Rattle.snapshot_format.specs.declared.saved.SavedOperator.{SavedOperator}
-use Rattle.snapshot_format.specs.States.{state_of}
-use Rattle.plant_restart.specs.ByName.{state_under}
-use Rattle.plant_restart.specs.Saving.{saved_by_name}
 
 other_name : (a b : List ℕ) → a ≢ b → bytes_eq a b ≡ false
 other_name a b ne = by (bytes_eq a b) refl

@@ -1,12 +1,8 @@
 -- What an operator notices of a change of its plant.
 use Rattle.std.proofs.Common.{[], ◌∷◌, refl, ap, ◌∙◌}
-use Rattle.plant.specs.declared.operator_row.RowFields.{RowFields}
-use Rattle.run_model.specs.Starts.{Start}
-use Rattle.run_model.specs.Changing.{IsPlantChange}
+use Rattle.plant_restart.proofs.Common.{RowFields, Start, IsPlantChange, start_by_name, states_by_name}
 use Rattle.run_model.specs.Periods.{Period, ArePeriodsOf}
 use Rattle.run_model.proofs.PeriodLemmas.{alike}
-use Rattle.plant_restart.specs.ByName.{start_by_name}
-use Rattle.plant_restart.specs.Saving.{states_by_name}
 use Rattle.plant_restart.specs.Noticing.{IsRunOverChange, ChangeKeepsState, ChangeIsNotNoticed}
 
 module _ (row : RowFields) (before after : Period) (over : IsRunOverChange row before after) where

@@ -1,22 +1,11 @@
 -- Operators that can start are refused for want of memory alone.
 use Rattle.std.proofs.Common.{◌≡◌, ℕ, ◌+◌, ◌≤◌, List, length, take, Option, IfSome, inl, inr, refl, subst, arith}
-use Rattle.std.proofs.lemmas.List.{get_or-take, length-take-le}
-use Rattle.std.proofs.lemmas.List.Elements.{All-take, recursion_from_All}
+use Rattle.plant_restart.proofs.Common.{get_or-take, length-take-le, All-take, recursion_from_All, Policy, PlantFields, OperatorState, Operator, at_place, ResumeFault, first_from, GoesAlong, GoTogether, slices_now, slices_next, IsOddFault, IsSliceFault, IsResumeFault, RestartFault, RankingsMismatch, State, Core, NoMemory, operators_by_name, IsRestartFault, CanRestart}
 use Rattle.slice_scheduler.specs.Minislots.{Minislots}
-use Rattle.grant_policy.specs.declared.policy.Policy.{Policy}
 use Rattle.plant.specs.declared.consts.Channel.{Channel}
-use Rattle.plant.specs.declared.plant.PlantFields.{PlantFields}
-use Rattle.operator_model.specs.State.{OperatorState, Operator}
 use Rattle.operator_book.specs.Resuming.{IsStateUnder}
 use Rattle.map_assembly.specs.Plan.{AreSlices, IsInFrame, IsFirstInvalid}
-use Rattle.run_model.proofs.OwnFrames.{at_place}
-use Rattle.live_core.specs.declared.resume_fault.ResumeFault.{ResumeFault}
 use Rattle.live_core.specs.declared.resume_fault.ResumeFault.TheVariants as resume
-use Rattle.live_core.specs.Resumed.{first_from, GoesAlong, GoTogether, slices_now, slices_next, IsOddFault, IsSliceFault, IsResumeFault}
-use Rattle.plant_restart.specs.declared.fault.RestartFault.{RestartFault}
-use Rattle.plant_restart.specs.declared.fault.RestartFault.TheVariants.{RankingsMismatch, State, Core, NoMemory}
-use Rattle.plant_restart.specs.ByName.{operators_by_name}
-use Rattle.plant_restart.specs.Restarted.{IsRestartFault, CanRestart}
 
 -- slices that are valid are so up to each of them
 front_valid : (channel : Channel) (count n : ℕ) (slices : List Minislots) → n ≤ length slices → AreSlices channel count slices → AreSlices channel n (take n slices)

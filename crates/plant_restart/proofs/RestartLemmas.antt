@@ -1,26 +1,8 @@
 -- Operators that start in states by their names.
 use Rattle.std.proofs.Common.{◌≡◌, ℕ, ◌+◌, ◌<◌, List, [], ◌∷◌, length, map, drop, get_or, All, Some, sym, ap, subst, ◌∙◌, refl}
-use Rattle.std.specs.Prelude.{slice_get, ◌≢◌}
-use Rattle.std.specs.List.{AllByRecursion}
-use Rattle.std.proofs.lemmas.List.{at_drop_more, map-id}
-use Rattle.std.proofs.lemmas.List.Elements.{All-from_recursion}
-use Rattle.grant_policy.specs.declared.policy.Policy.{Policy}
-use Rattle.plant.specs.declared.consts.ConstsFields.{ConstsFields}
-use Rattle.plant.specs.declared.operator_row.RowFields.{RowFields}
-use Rattle.plant.specs.declared.plant.PlantFields.{PlantFields}
-use Rattle.operator_model.specs.State.{OperatorState, Operator}
-use Rattle.map_assembly.proofs.OrderLemmas.{all-map}
-use Rattle.run_model.specs.IsStateAfter.{CoreView}
+use Rattle.plant_restart.proofs.Common.{slice_get, ◌≢◌, AllByRecursion, at_drop_more, map-id, All-from_recursion, Policy, ConstsFields, RowFields, PlantFields, OperatorState, Operator, all-map, CoreView, ResumeFault, start_with, IsResumeFault, IsAfterFrom, over_map, RestartFault, RankingsMismatch, State, Core, NoMemory, operator_by_name, operators_by_name, IsRowFault, IsRowsFault, IsRestarted, IsRestartFault}
 use Rattle.run_model.specs.Opened.{started_core}
-use Rattle.live_core.specs.declared.resume_fault.ResumeFault.{ResumeFault}
 use Rattle.live_core.specs.declared.resume_fault.ResumeFault.TheVariants as resume
-use Rattle.live_core.specs.Resumed.{start_with, IsResumeFault}
-use Rattle.live_core.specs.After.{IsAfterFrom}
-use Rattle.live_core.proofs.ResumeLemmas.{over_map}
-use Rattle.plant_restart.specs.declared.fault.RestartFault.{RestartFault}
-use Rattle.plant_restart.specs.declared.fault.RestartFault.TheVariants.{RankingsMismatch, State, Core, NoMemory}
-use Rattle.plant_restart.specs.ByName.{operator_by_name, operators_by_name}
-use Rattle.plant_restart.specs.Restarted.{IsRowFault, IsRowsFault, IsRestarted, IsRestartFault}
 
 -- ---- row by row
 

@@ -1,18 +1,7 @@
 -- Snapshots that are restored, or not.
 use Rattle.std.proofs.Common.{◌≡◌, ℕ, ◌+◌, ◌<◌, ◌≤◌, List, [], ◌∷◌, length, map, take, get_or, All, sym, ap, subst}
-use Rattle.std.specs.Prelude.{Contains}
-use Rattle.std.proofs.lemmas.List.{map-append, take_more, take_all}
-use Rattle.std.proofs.lemmas.List.Elements.{All-contains, All-push}
-use Rattle.grant_policy.specs.declared.policy.Policy.{Policy}
-use Rattle.plant.specs.declared.plant.PlantFields.{PlantFields}
-use Rattle.operator_model.specs.State.{OperatorState}
-use Rattle.live_core.proofs.ResumeLemmas.{over_map}
-use Rattle.snapshot_format.specs.declared.saved.SavedOperator.{SavedOperator}
-use Rattle.plant_restart.specs.declared.fault.RestartFault.{RestartFault}
-use Rattle.plant_restart.specs.declared.fault.RestartFault.TheVariants.{NoMemory}
+use Rattle.plant_restart.proofs.Common.{Contains, map-append, take_more, take_all, All-contains, All-push, Policy, PlantFields, OperatorState, over_map, SavedOperator, RestartFault, NoMemory, saved_by_name, names_of, HasNoRow, HaveRows, IsRestartFault, IsRestoreFault, CanRestart}
 use Rattle.plant_restart.specs.declared.fault.RestoreFault.TheVariants.{UnknownOperator, Restart}
-use Rattle.plant_restart.specs.Saving.{saved_by_name}
-use Rattle.plant_restart.specs.Restarted.{names_of, HasNoRow, HaveRows, IsRestartFault, IsRestoreFault, CanRestart}
 use Rattle.plant_restart.proofs.RefusalLemmas.{memory_alone}
 
 module _ (plant : PlantFields) (policies : List Policy) (frame : ℕ) (operators : List SavedOperator) where

@@ -1,18 +1,8 @@
 -- The states of a core's operators, as they are saved.
 use Rattle.std.proofs.Common.{◌≡◌, ℕ, zero, suc, ◌+◌, ◌≤◌, List, [], ◌∷◌, ◌++◌, map, take, Option, Some, None, option_map, sym, ap, ap₂, ◌∙◌, add-one}
-use Rattle.std.specs.Prelude.{slice_get}
-use Rattle.std.proofs.lemmas.List.{length-map, map-append}
-use Rattle.std.proofs.lemmas.Option.{none-some, same_Some, slice_get-map}
-use Rattle.operator_model.specs.State.{OperatorState, Operator}
-use Rattle.operator_model.specs.Replay.{BookView}
-use Rattle.run_model.specs.IsStateAfter.{CoreView}
-use Rattle.snapshot_format.specs.declared.saved.SavedOperator.{SavedOperator}
-use Rattle.snapshot_format.specs.States.{state_of, saved_state}
+use Rattle.plant_restart.proofs.Common.{slice_get, length-map, map-append, none-some, same_Some, slice_get-map, OperatorState, Operator, BookView, CoreView, SavedOperator, state_of, saved_state, Rests, over_map, map_is, state_of_book, states_by_name, saved_book, saved_by_name}
 use Rattle.snapshot_format.proofs.StateLemmas.{state_is}
 use Rattle.live_core.specs.DeskView.{book_of}
-use Rattle.live_core.specs.Resting.{Rests}
-use Rattle.live_core.proofs.ResumeLemmas.{over_map, map_is}
-use Rattle.plant_restart.specs.Saving.{state_of_book, states_by_name, saved_book, saved_by_name}
 
 -- ---- one operator after the other
 

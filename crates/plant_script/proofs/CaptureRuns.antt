@@ -1,24 +1,10 @@
 -- The steps of a script's lines, captured one after the other.
 use Rattle.std.proofs.Common.{◌≡◌, ℕ, ◌+◌, ◌<◌, ◌≤◌, List, [], ◌∷◌, ◌++◌, length, take, get_or, Option, Some, None, IsSome, refl, sym, ap, subst, ◌∙◌}
-use Rattle.std.specs.Prelude.{slice_get}
-use Rattle.std.proofs.lemmas.List.{map-append, take_more}
-use Rattle.std.proofs.lemmas.Option.{slice_get-get_or, slice_get_past}
-use Rattle.plant.specs.declared.plant.PlantFields.{PlantFields}
-use Rattle.run_model.specs.declared.step.Step.{Step}
-use Rattle.run_model.specs.declared.step.Out.{Out}
+use Rattle.plant_script.proofs.Common.{slice_get, map-append, take_more, slice_get-get_or, slice_get_past, PlantFields, Step, Out, CoreView, IsStateAfter, CoreFault, step_fault, LineStep, steps_without_numbers, Answer, IsEndStatus, IsCapturedRunOf, IsRefused, AreCaptured, HasCaptured, IsStatusOf, status_code}
 use Rattle.run_model.specs.Ordered.{target, IsTold}
-use Rattle.run_model.specs.IsStateAfter.{CoreView, IsStateAfter}
-use Rattle.live_core.specs.declared.core_fault.CoreFault.{CoreFault}
-use Rattle.live_core.specs.Faults.{step_fault}
-use Rattle.script_format.specs.declared.script.LineStep.{LineStep}
-use Rattle.script_format.specs.Script.{steps_without_numbers}
 use Rattle.pcap_capture.specs.Capture.{CaptureView, opened_capture, CapturesRun, IsCaptureOf}
 use Rattle.pcap_capture.proofs.OneCapture.{last_told}
 use Rattle.pcap_capture.proofs.RunLemmas.{opened_run}
-use Rattle.plant_script.specs.declared.answer.Answer.{Answer}
-use Rattle.plant_script.specs.Run.{IsEndStatus, IsCapturedRunOf}
-use Rattle.plant_script.specs.Done.{IsRefused, AreCaptured, HasCaptured, IsStatusOf}
-use Rattle.plant_script.specs.Statuses.{status_code}
 
 -- nothing is done, and nothing captured
 pub none_captured : (plant : PlantFields) (core : CoreView) (captured : CaptureView) → IsStateAfter plant [] [] core → captured ≡ opened_capture plant.consts

@@ -1,3 +1,4 @@
+mod Common
 pub mod CaptureRuns
 pub mod HalfDone
 pub mod LiveRuns

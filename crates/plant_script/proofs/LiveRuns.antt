@@ -1,25 +1,10 @@
 -- A run that is written as its steps are done.
 use Rattle.std.proofs.Common.{◌≡◌, ◌≢◌, inl, inr, ℕ, List, [], ◌++◌, Option, Some, None, IsSome, refl, sym, ap, subst, ◌∙◌}
-use Rattle.std.specs.Prelude.{slice_get, take}
-use Rattle.std.specs.Io.KnownBytes.{Appends}
-use Rattle.std.proofs.KnownBytes.{Appends-trans}
-use Rattle.plant.specs.declared.plant.PlantFields.{PlantFields}
-use Rattle.run_model.specs.Starts.{first_start}
-use Rattle.run_model.specs.IsStateAfter.{CoreView}
-use Rattle.live_core.specs.declared.core_fault.CoreFault.{CoreFault}
-use Rattle.live_core.specs.Faults.{step_fault}
+use Rattle.plant_script.proofs.Common.{slice_get, take, Appends, Appends-trans, PlantFields, first_start, CoreView, CoreFault, step_fault, LineStep, steps_without_numbers, outs_text, StepsEnd, IsStepsEndAt, HasDone, memory_line, IsEndStatus, EndsBy, IsScriptRun, status_of, line_of, IsWritten, EndsRun}
 use Rattle.live_core.specs.Performing.{IsOf}
 use Rattle.live_core.proofs.BehindLemmas.{behind}
 use Rattle.live_core.proofs.FaultLemmas.{same_step_fault}
-use Rattle.script_format.specs.declared.script.LineStep.{LineStep}
-use Rattle.script_format.specs.Script.{steps_without_numbers}
-use Rattle.script_format.specs.Text.{outs_text}
-use Rattle.line_service.specs.declared.steps_end.StepsEnd.{StepsEnd}
 use Rattle.line_service.specs.declared.steps_end.StepsEnd.TheVariants as ends
-use Rattle.line_service.specs.Steps.{IsStepsEndAt, HasDone}
-use Rattle.plant_script.specs.Run.{memory_line, IsEndStatus, EndsBy, IsScriptRun}
-use Rattle.plant_script.specs.Ends.{status_of, line_of}
-use Rattle.plant_script.specs.Task.{IsWritten, EndsRun}
 
 -- the run of the core with histories ends where the live core's does
 ends_by : (live core : CoreView) (next : Option LineStep) (end : StepsEnd) → IsOf live core → IsStepsEndAt live next end → EndsBy core next (status_of end) (line_of end)

@@ -1,22 +1,10 @@
 -- How far the program comes, and what it has written then.
 use Rattle.std.proofs.Common.{◌≡◌, ◌≢◌, ◌⊎◌, inl, inr, ℕ, Bool, List, [], ◌++◌, Option, Some, None, IfSome, Result, Ok, Err, IfOk, refl, sym, subst, ◌∙◌}
-use Rattle.std.specs.Prelude.{MatchResult}
-use Rattle.std.specs.Io.KnownBytes.{Appends}
-use Rattle.command_line.specs.Order.{Order, order_of}
-use Rattle.command_line.specs.declared.asked.Word.{Word}
-use Rattle.command_line.specs.declared.asked.WordsFault.{WordsFault}
-use Rattle.command_line.specs.CommandLine.{NamesOrder, AsksHelp, AreWrong, GivesOrder, GivesHelp, GivesWrong}
-use Rattle.plant_script.specs.declared.answer.Answer.{Answer}
+use Rattle.plant_script.proofs.Common.{MatchResult, Appends, Order, order_of, Word, WordsFault, NamesOrder, AsksHelp, AreWrong, GivesOrder, GivesHelp, GivesWrong, Answer, memory_line, status_code, IsThreadedRunOf, RunsTo, IsWritten, WritesOutcome, Comes, AnswersWith, RunsOut, AnswersRead, AnswersOrder, EndsOrder, ReachesOrder, Completes, AnswersWords, ReachesWords}
 use Rattle.plant_script.specs.declared.progress.Progress.{Progress}
 use Rattle.plant_script.specs.declared.progress.Progress.TheVariants.{Ended, Threads}
 use Rattle.plant_script.specs.declared.task.InputOutcome.TheVariants as outcomes
 use Rattle.plant_script.specs.declared.task.Task.{Task}
-use Rattle.plant_script.specs.Run.{memory_line}
-use Rattle.plant_script.specs.Statuses.{status_code}
-use Rattle.plant_script.specs.OnThreads.{IsThreadedRunOf}
-use Rattle.plant_script.specs.Task.{RunsTo, IsWritten, WritesOutcome, Comes}
-use Rattle.plant_script.specs.Words.{AnswersWith}
-use Rattle.plant_script.specs.Reaching.{RunsOut, AnswersRead, AnswersOrder, EndsOrder, ReachesOrder, Completes, AnswersWords, ReachesWords}
 use Rattle.plant_script.proofs.Tasks.{same_order}
 
 -- one status is not another

@@ -1,18 +1,7 @@
 -- Where a step of a run on threads is refused.
 use Rattle.std.proofs.Common.{◌≡◌, ◌⊎◌, inl, inr, ℕ, zero, suc, ◌<◌, List, [], ◌∷◌, ◌++◌, length, take, drop, get_or, Some, refl, sym, ap, subst, ◌∙◌, arith}
-use Rattle.std.specs.Prelude.{slice_get, not}
-use Rattle.std.specs.List.{prefix_len}
-use Rattle.std.proofs.lemmas.Bool.{cases_order}
-use Rattle.std.proofs.lemmas.List.{length-map, take-append-le, take-append-drop}
-use Rattle.std.proofs.lemmas.Option.{slice_get-get_or, slice_get_within}
-use Rattle.plant.specs.declared.plant.PlantFields.{PlantFields}
-use Rattle.run_model.specs.declared.step.Step.{Step}
+use Rattle.plant_script.proofs.Common.{slice_get, not, prefix_len, cases_order, length-map, take-append-le, take-append-drop, slice_get-get_or, slice_get_within, PlantFields, Step, ticks_of, IsSpentAt, IsFirstSpent, is_reslice, before_reslice, LineStep, steps_without_numbers, ReportsLine, ReportsPlace, ReportsSpent, ReportsCore}
 use Rattle.run_model.specs.declared.step.Step.TheVariants as steps
-use Rattle.run_audit.specs.Outcome.{ticks_of}
-use Rattle.run_plan.specs.Spending.{IsSpentAt, IsFirstSpent, is_reslice, before_reslice}
-use Rattle.script_format.specs.declared.script.LineStep.{LineStep}
-use Rattle.script_format.specs.Script.{steps_without_numbers}
-use Rattle.plant_script.specs.OnThreads.{ReportsLine, ReportsPlace, ReportsSpent, ReportsCore}
 
 -- ---- the line at a place
 

@@ -1,10 +1,6 @@
 -- What was handled so far.
-use Rattle.std.specs.Prelude.{◌≡◌, ℕ, List, ◌++◌, drop}
-use Rattle.operator_model.specs.State.{operator}
-use Rattle.operator_model.specs.Machine.{own_run}
-use Rattle.operator_model.specs.Replay.{BookView}
+use Rattle.plant_script.proofs.Common.{◌≡◌, ℕ, List, ◌++◌, drop, operator, own_run, BookView, sent_actions, outputs_of, text_of_outputs}
 use Rattle.plant_script.specs.OperatorA.{row_a, consts_a}
-use Rattle.plant_script.specs.One.{sent_actions, outputs_of, text_of_outputs}
 use Rattle.plant_script.specs.View.{IsOfA}
 
 -- the book is operator A's, and its run of the messages from the place on ends the text

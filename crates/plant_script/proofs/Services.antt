@@ -1,21 +1,13 @@
 -- What a service comes to.
 use Rattle.std.proofs.Common.{◌≡◌, inl, inr, ℕ, Bool, List, [], Option, Some, None, IfSome, Result, Ok, refl, sym, subst, ◌∙◌}
-use Rattle.std.specs.Io.KnownBytes.{Appends}
+use Rattle.plant_script.proofs.Common.{Appends, PlantFields, Out, Step, Start, first_start, CoreView, serve, AnswersFront, AnswersServe, EndsOrder}
 use Rattle.toml.specs.Parse.{parse_document}
-use Rattle.plant.specs.declared.plant.PlantFields.{PlantFields}
 use Rattle.slice_table.specs.declared.plant_fault.PlantFault.{PlantFault}
 use Rattle.slice_table.specs.ReadPlant.{text_plant}
-use Rattle.run_model.specs.declared.step.Out.{Out}
-use Rattle.run_model.specs.declared.step.Step.{Step}
-use Rattle.run_model.specs.Starts.{Start, first_start}
-use Rattle.run_model.specs.IsStateAfter.{CoreView}
 use Rattle.live_core.specs.After.{IsAfter, IsAfterFrom}
 use Rattle.script_format.specs.Input.{plant_text, script_text}
 use Rattle.line_service.specs.Service.{service_text, IsServiceOf}
-use Rattle.command_line.specs.Order.{serve}
 use Rattle.plant_script.specs.Serving.{IsServed, EndsService}
-use Rattle.plant_script.specs.Words.{AnswersFront, AnswersServe}
-use Rattle.plant_script.specs.Reaching.{EndsOrder}
 
 -- a service of a core as it is opened
 pub service_served : (known : Option (List ℕ)) (plant : PlantFields) (live new : CoreView) (w0 w1 : Option (List ℕ)) → IsAfter plant [] [] live

@@ -1,24 +1,6 @@
 -- The steps of a script's lines, one after the other.
 use Rattle.std.proofs.Common.{◌≡◌, inl, ℕ, zero, suc, ◌<◌, ◌≤◌, length, arith, List, [], ◌∷◌, ◌++◌, take, Option, Some, None, IsSome, refl, sym, ap, subst, ◌∙◌, append-nil}
-use Rattle.std.specs.Prelude.{slice_get}
-use Rattle.std.proofs.lemmas.List.{map-append}
-use Rattle.std.proofs.lemmas.Option.{slice_get_past, slice_get_within}
-use Rattle.plant.specs.declared.operator_row.RowFields.{RowFields}
-use Rattle.plant.specs.declared.plant.PlantFields.{PlantFields}
-use Rattle.run_model.specs.declared.step.Step.{Step}
-use Rattle.run_model.specs.declared.step.Out.{Out}
-use Rattle.run_model.specs.IsStateAfter.{CoreView, IsStateAfter}
-use Rattle.live_core.specs.declared.core_fault.CoreFault.{CoreFault}
-use Rattle.live_core.specs.Faults.{step_fault}
-use Rattle.script_format.specs.declared.script.LineStep.{LineStep}
-use Rattle.script_format.specs.Script.{steps_without_numbers}
-use Rattle.script_format.specs.Text.{actions_text}
-use Rattle.line_service.proofs.LeftLemmas.{first_left, none_left, take_next, drop_next}
-use Rattle.plant_script.specs.declared.answer.Answer.{Answer}
-use Rattle.plant_script.specs.Run.{last_line, IsEndStatus, IsScriptRun}
-use Rattle.plant_script.specs.Task.{history_at, IsEnded}
-use Rattle.plant_script.specs.Done.{IsRefused, HasRun, book_text}
-use Rattle.plant_script.specs.Statuses.{status_code}
+use Rattle.plant_script.proofs.Common.{slice_get, map-append, slice_get_past, slice_get_within, RowFields, PlantFields, Step, Out, CoreView, IsStateAfter, CoreFault, step_fault, LineStep, steps_without_numbers, actions_text, first_left, none_left, take_next, drop_next, Answer, last_line, IsEndStatus, IsScriptRun, history_at, IsEnded, IsRefused, HasRun, book_text, status_code}
 use Rattle.plant_script.proofs.HalfDone.{IsHalfDone}
 
 -- ---- what stands at a place of a list

@@ -1,23 +1,7 @@
 -- What a task's run answers.
 use Rattle.std.proofs.Common.{◌≡◌, ℕ, suc, ◌+◌, inl, inr, Bool, List, [], ◌∷◌, Option, Some, Result, Ok, subst, arith, refl}
-use Rattle.std.specs.Prelude.{slice_get}
-use Rattle.std.specs.List.{position_from}
-use Rattle.std.proofs.lemmas.Bool.{cases_Bool}
-use Rattle.plant.specs.declared.operator_row.RowFields.{RowFields}
-use Rattle.plant.specs.declared.plant.PlantFields.{PlantFields}
-use Rattle.script_format.specs.declared.script.LineStep.{LineStep}
-use Rattle.script_format.specs.Text.{history_text}
-use Rattle.command_line.specs.declared.asked.RunReport.TheVariants.{History}
-use Rattle.plant_script.specs.declared.task.InputOutcome.{InputOutcome}
+use Rattle.plant_script.proofs.Common.{slice_get, position_from, cases_Bool, RowFields, PlantFields, LineStep, history_text, History, InputOutcome, IsScriptRun, history_at, RunsTo, Comes, Order, order_of, Word, WordsFault, GivesOrder, AnswersSteps, status_code}
 use Rattle.plant_script.specs.declared.task.InputOutcome.TheVariants as outcomes
-use Rattle.plant_script.specs.Run.{IsScriptRun}
-use Rattle.plant_script.specs.Task.{history_at, RunsTo, Comes}
-use Rattle.command_line.specs.Order.{Order, order_of}
-use Rattle.command_line.specs.declared.asked.Word.{Word}
-use Rattle.command_line.specs.declared.asked.WordsFault.{WordsFault}
-use Rattle.command_line.specs.CommandLine.{GivesOrder}
-use Rattle.plant_script.specs.Words.{AnswersSteps}
-use Rattle.plant_script.specs.Statuses.{status_code}
 
 same_some : {A : Type 0} (x y : A) → ◌≡◌ {A = Option A} (Some x) (Some y) → x ≡ y
 same_some x y h = cc

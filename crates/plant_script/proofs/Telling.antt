@@ -1,20 +1,12 @@
 -- The lines of books and MAPs, one after the other.
 use Rattle.std.proofs.Common.{◌≡◌, ℕ, ◌+◌, ◌<◌, List, [], ◌∷◌, ◌++◌, length, map, drop, get_or, sym, ap, ◌∙◌, append_assoc}
-use Rattle.std.specs.Prelude.{slice_get}
-use Rattle.std.specs.List.{flat_map}
+use Rattle.plant_script.proofs.Common.{slice_get, flat_map, drop_more, PlantFields, BookView, MapBytes, history_outputs, outs_from, outs_of, operator_name, map_line, out_line, output_line, outs_text}
 use Rattle.std.proofs.lemmas.Grind.{flat_map-append}
-use Rattle.std.proofs.lemmas.List.{drop_more}
 use Rattle.std.proofs.lemmas.List.Folds.{flat_map-map}
-use Rattle.plant.specs.declared.plant.PlantFields.{PlantFields}
 use Rattle.operator_model.specs.declared.action.Entry.{Entry}
 use Rattle.operator_model.specs.declared.output.Output.{Output}
-use Rattle.operator_model.specs.Replay.{BookView}
-use Rattle.map_assembly.specs.declared.map_bytes.MapBytes.{MapBytes}
 use Rattle.run_model.specs.OwnSteps.{outputs_under}
 use Rattle.run_model.specs.declared.step.Out.TheVariants as outs
-use Rattle.run_receipts.specs.OwnParts.{history_outputs}
-use Rattle.run_audit.specs.Outs.{outs_from, outs_of}
-use Rattle.script_format.specs.Text.{operator_name, map_line, out_line, output_line, outs_text}
 
 -- what is left of a list, seen by f, begins with what is read
 pub map_left : {X Y : Type 0} (f : X → Y) (xs : List X) (i : ℕ) (x : X) → i < length xs → x ≡ get_or xs i x

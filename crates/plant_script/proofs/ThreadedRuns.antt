@@ -1,26 +1,13 @@
 -- What is reported of a run on threads.
 use Rattle.std.proofs.Common.{◌≡◌, inl, inr, ℕ, List, Result, Ok, Err, ap, subst, ◌∙◌}
-use Rattle.plant.specs.declared.plant.PlantFields.{PlantFields}
-use Rattle.operator_model.specs.Replay.{BookView}
+use Rattle.plant_script.proofs.Common.{PlantFields, BookView, MapBytes, Step, CoreFault, IsOutcome, outs_of, IsFirstSpent, before_reslice, LineStep, steps_without_numbers, outs_text, Answer, ReportsCore, ReportsFault, IsThreadedRunOf, status_code}
 use Rattle.operator_book.specs.declared.book.BookFault.TheVariants.{FramesSpent}
-use Rattle.map_assembly.specs.declared.map_bytes.MapBytes.{MapBytes}
-use Rattle.run_model.specs.declared.step.Step.{Step}
-use Rattle.live_core.specs.declared.core_fault.CoreFault.{CoreFault}
 use Rattle.live_core.specs.declared.core_fault.CoreFault.TheVariants.{Book}
 use Rattle.run_receipts.specs.declared.receipt.Receipt.{Receipt}
 use Rattle.run_receipts.specs.declared.run_fault.RunFault.{RunFault}
 use Rattle.run_receipts.specs.declared.run_fault.RunFault.TheVariants.{Core}
-use Rattle.run_audit.specs.Outcome.{IsOutcome}
-use Rattle.run_audit.specs.Outs.{outs_of}
 use Rattle.run_plan.specs.Serving.{IsServable, IsFirstUnserved}
-use Rattle.run_plan.specs.Spending.{IsFirstSpent, before_reslice}
 use Rattle.plant_workers.specs.Faulting.{IsFault}
-use Rattle.script_format.specs.declared.script.LineStep.{LineStep}
-use Rattle.script_format.specs.Script.{steps_without_numbers}
-use Rattle.script_format.specs.Text.{outs_text}
-use Rattle.plant_script.specs.declared.answer.Answer.{Answer}
-use Rattle.plant_script.specs.OnThreads.{ReportsCore, ReportsFault, IsThreadedRunOf}
-use Rattle.plant_script.specs.Statuses.{status_code}
 use Rattle.plant_script.proofs.RefusedSteps.{first_of_all, core_spent}
 
 -- what is refused before a thread starts

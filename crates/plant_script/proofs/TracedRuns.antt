@@ -1,21 +1,9 @@
 -- A run that is told in words as its steps are done.
 use Rattle.std.proofs.Common.{◌≡◌, ◌⊎◌, inl, inr, ℕ, List, ◌++◌, Option, Some, None, refl, sym, ap, subst, ◌∙◌}
-use Rattle.std.specs.Prelude.{slice_get}
-use Rattle.std.specs.Io.KnownBytes.{Appends}
-use Rattle.std.proofs.KnownBytes.{Appends-trans}
-use Rattle.plant.specs.declared.plant.PlantFields.{PlantFields}
-use Rattle.run_model.specs.IsStateAfter.{CoreView}
-use Rattle.script_format.specs.declared.script.LineStep.{LineStep}
-use Rattle.line_service.specs.declared.steps_end.StepsEnd.{StepsEnd}
+use Rattle.plant_script.proofs.Common.{slice_get, Appends, Appends-trans, PlantFields, CoreView, LineStep, StepsEnd, IsStepsEndAt, Trace, memory_line, EndsBy, status_of, line_of, EndsTraceBy, IsTracedRunOf, EndsTraced, RunsTo, IsWritten}
 use Rattle.line_service.specs.declared.steps_end.StepsEnd.TheVariants as ends
-use Rattle.line_service.specs.Steps.{IsStepsEndAt}
 use Rattle.trace_report.specs.declared.decision.Decision.{Decision}
 use Rattle.trace_report.specs.Trace.{HasNoWords, IsTraceEndAt, HasTraced}
-use Rattle.command_line.specs.declared.asked.RunReport.TheVariants.{Trace}
-use Rattle.plant_script.specs.Run.{memory_line, EndsBy}
-use Rattle.plant_script.specs.Ends.{status_of, line_of}
-use Rattle.plant_script.specs.Traced.{EndsTraceBy, IsTracedRunOf, EndsTraced}
-use Rattle.plant_script.specs.Task.{RunsTo, IsWritten}
 use Rattle.plant_script.proofs.LiveRuns.{no_five, no_six}
 
 -- the run ends where its steps do

@@ -1,11 +1,8 @@
 -- Inputs that can be served, and inputs that cannot, where what is read is known.
 use Rattle.std.proofs.Common.{◌≡◌, ℕ, ◌<◌, ◌≤◌, nat_le, Bool, true, false, ◌&&◌, List, length, Option, Some, None, IfSome, refl, sym, ap, subst, arith}
-use Rattle.std.specs.Io.KnownBytes.{Consumes}
+use Rattle.plant_script.proofs.Common.{Consumes, le-leb, lt-leb, length-append, is_readable}
 use Rattle.std.specs.Str.{IsUtf8, is_utf8}
-use Rattle.std.proofs.lemmas.Bool.{le-leb, lt-leb}
-use Rattle.std.proofs.lemmas.List.{length-append}
 use Rattle.std.proofs.lemmas.Str.{IsUtf8-from_is_utf8, is_utf8-from_IsUtf8}
-use Rattle.plant_script.specs.One.{is_readable}
 
 pub readable : (input : List ℕ) → length input ≤ 1048576 → IsUtf8 input → is_readable input ≡ true
 readable input fits utf8 = rw (le-leb (length input) 1048576 fits, is_utf8-from_IsUtf8 input utf8) refl

@@ -1,13 +1,9 @@
 -- The least operator that refused a turn for itself, thread by thread.
 use Rattle.std.specs.List.{list_any}
 use Rattle.std.proofs.Common.{[], ◌∷◌, map, ◌||◌, ◌≡◌, ℕ, ◌+◌, ◌<◌, ◌≤◌, Bool, List, length, if◌then◌else◌, Option, Some, None, ◌⊎◌, inl, inr, refl, sym, ap, ◌∙◌, subst, arith}
-use Rattle.std.specs.Prelude.{slice_get}
+use Rattle.plant_workers.proofs.Common.{slice_get, same_Some, same_at, EarlyEnd, own_turn, lesser_turn, EndsLeast, IsLeastOf, IsLeastTurn}
 use Rattle.std.proofs.lemmas.Bool.{cases_eq, cases_lt, lt-ltb, le-ltb}
-use Rattle.std.proofs.lemmas.Option.{same_Some}
-use Rattle.run_model.proofs.Entries.{same_at}
 use Rattle.cell_state.specs.declared.cell_fault.CellFault.{CellFault}
-use Rattle.plant_workers.specs.declared.thread_report.EarlyEnd.{EarlyEnd}
-use Rattle.plant_workers.specs.Refusing.{own_turn, lesser_turn, EndsLeast, IsLeastOf, IsLeastTurn}
 
 abbrev Turned : Type 0
 Turned = ℕ × CellFault

@@ -1,2 +1,3 @@
+mod Common
 pub mod FaultLemmas
 pub mod LeastLemmas

@@ -1,10 +1,8 @@
 -- Words without an option.
 use Rattle.std.proofs.Common.{◌≡◌, ◌+◌, ℕ, List, [], ◌∷◌, false, refl, ap, arith}
-use Rattle.program_options.specs.declared.options.OptionName.{OptionName}
+use Rattle.program_options.proofs.Common.{OptionName, Hyphens, Named, Other, word_kind, has_value, left_after, words_left, count_after, option_count}
 use Rattle.program_options.specs.declared.options.OptionName.TheVariants.{Input, Json, Strict, State, SnapshotEvery}
 use Rattle.program_options.specs.declared.options.WordKind.{WordKind}
-use Rattle.program_options.specs.declared.options.WordKind.TheVariants.{Hyphens, Named, Other}
-use Rattle.program_options.specs.Options.{word_kind, has_value, left_after, words_left, count_after, option_count}
 
 -- an option that is named is there
 named : (n : ℕ) → n + 1 ≡ 0 → ⊥

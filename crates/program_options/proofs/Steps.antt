@@ -3,14 +3,9 @@ use Rattle.std.proofs.Common.{◌≡◌, ◌≤◌, ◌<◌, ◌+◌, ◌++◌, 
 use Rattle.std.proofs.Math.Numerals.{add-one}
 use Rattle.std.proofs.Math.Seq.{take-length}
 use Rattle.std.specs.Result.{IsErrAnd}
-use Rattle.std.proofs.lemmas.List.{drop_more, append_assoc, append-nil, map-append, drop-map, drop-drop, length-map, length-drop}
-use Rattle.clap.specs.Walk.{texts}
-use Rattle.program_options.specs.declared.options.OptionName.{OptionName}
+use Rattle.program_options.proofs.Common.{drop_more, append_assoc, append-nil, map-append, drop-map, drop-drop, length-map, length-drop, texts, OptionName, Hyphens, Named, Other, word_kind, has_value, is_same_option, words_left, values_named, option_count, is_found, found_count, found_values, with_option, IsSoFar, HasNoValue}
 use Rattle.program_options.specs.declared.options.ProgramOptions.{ProgramOptions}
-use Rattle.program_options.specs.declared.options.WordKind.TheVariants.{Hyphens, Named, Other}
 use Rattle.program_options.specs.declared.options.SeparatedWords.{SeparatedWords}
-use Rattle.program_options.specs.Options.{word_kind, has_value, is_same_option, words_left, values_named, option_count, is_found, found_count, found_values, with_option}
-use Rattle.program_options.specs.Separating.{IsSoFar, HasNoValue}
 
 -- ---- counting
 

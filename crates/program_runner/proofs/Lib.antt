@@ -1,3 +1,4 @@
+mod Common
 mod WithoutOptions
 mod StateLemmas
 mod HeadLemmas

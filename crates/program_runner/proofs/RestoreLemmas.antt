@@ -1,19 +1,10 @@
 -- What is written for an input of which the first bytes are read before the others.
 use Rattle.std.proofs.Common.{◌≡◌, ◌≢◌, ◌&&◌, ℕ, Bool, true, false, MatchBool, List, [], ◌∷◌, ◌++◌, Option, Some, None, inl, inr, refl, sym, ap, subst, ◌∙◌, codes}
 use Rattle.std.proofs.lemmas.Slice.Eq.{bytes_eq-Decides}
-use Rattle.std.specs.Fmt.{option_append}
-use Rattle.std.specs.Io.KnownBytes.{Appends}
-use Rattle.std.specs.Str.{bytes_eq}
+use Rattle.program_runner.proofs.Common.{option_append, Appends, bytes_eq, NamesOrder, AsksHelp, AreWrong, WhereKnown, is_snapshot_head, IsWordAnswer, IsRunAnswer, IsCommandAnswer, IsHeadRead, IsResumeAnswer, IsRestoreAnswer, service_word, is_run}
 use Rattle.command_line.specs.Order.{run}
-use Rattle.command_line.specs.CommandLine.{NamesOrder, AsksHelp, AreWrong}
 use Rattle.command_line.proofs.WordLemmas.{named_not_asked}
-use Rattle.line_service.specs.Bytes.{WhereKnown}
-use Rattle.resumed_service.specs.Beginning.{is_snapshot_head}
 use Rattle.plant_script.specs.Reaching.{AnswersWords}
-use Rattle.program_runner.specs.Answered.{IsWordAnswer, IsRunAnswer, IsCommandAnswer}
-use Rattle.program_runner.specs.Heads.{IsHeadRead}
-use Rattle.program_runner.specs.Resume.{IsResumeAnswer, IsRestoreAnswer}
-use Rattle.program_runner.specs.ServiceWords.{service_word, is_run}
 
 -- ---- the bytes that were read, and the others after them
 

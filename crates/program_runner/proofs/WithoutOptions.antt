@@ -1,7 +1,6 @@
 -- What is written for words without an option.
 use Rattle.std.proofs.Common.{◌≡◌, ◌≢◌, ◌≤◌, [], ℕ, List, Bool, true, false, MatchBool, cond, is_some, Option, Some, None, IfSome, refl, sym, subst, ◌∙◌, arith, inl, inr}
-use Rattle.std.specs.Io.KnownBytes.{Appends}
-use Rattle.clap.specs.Walk.{texts}
+use Rattle.program_runner.proofs.Common.{Appends, texts, memory_line, AreWrong, AsksHelp, IsProgramAnswer, IsWordAnswer, IsRunAnswer, IsCommandAnswer, IsWithoutOption, HasNoOption, is_snapshot_head, IsResumeAnswer, IsRestoreAnswer, service_word, is_run, NamesNoService}
 use Rattle.program_options.specs.declared.options.OptionName.TheVariants.{Input, Json, Strict, State}
 use Rattle.program_options.specs.declared.options.OutputFormat.{OutputFormat}
 use Rattle.program_options.specs.declared.options.OutputFormat.TheVariants.{Plain, JsonLines}
@@ -13,15 +12,9 @@ use Rattle.program_options.specs.declared.options.OptionsFault.TheVariants.{Twic
 use Rattle.program_options.specs.Options.{is_json, is_strict}
 use Rattle.program_options.specs.Separating.{IsSeparatedFrom, HasOptionsFault}
 use Rattle.program_options.proofs.NoOption.{all_left}
-use Rattle.plant_script.specs.Run.{memory_line}
-use Rattle.command_line.specs.CommandLine.{AreWrong, AsksHelp}
 use Rattle.resumed_service.specs.declared.begin_fault.BeginFault.TheVariants as begin_faults
-use Rattle.program_runner.specs.Answered.{IsProgramAnswer, IsWordAnswer, IsRunAnswer, IsCommandAnswer, IsWithoutOption, HasNoOption}
-use Rattle.resumed_service.specs.Beginning.{is_snapshot_head}
 use Rattle.program_runner.specs.declared.service_word.ServiceWord.{ServiceWord}
 use Rattle.program_runner.specs.declared.service_word.ServiceWord.TheVariants.{Resume, Restore, Snapshot}
-use Rattle.program_runner.specs.Resume.{IsResumeAnswer, IsRestoreAnswer}
-use Rattle.program_runner.specs.ServiceWords.{service_word, is_run, NamesNoService}
 
 -- ---- a fault
 

@@ -1,10 +1,6 @@
 -- Texts in which no line of three dashes is.
 use Rattle.std.proofs.Common.{◌≡◌, ◌≢◌, ℕ, zero, suc, ◌+◌, ◌<◌, ◌≤◌, ◌==◌, ◌&&◌, ◌||◌, Bool, true, false, cond, List, [], ◌∷◌, ◌++◌, length, take, drop, refl, sym, ap, ◌∙◌, arith, append_assoc, length-append, codes, nat_lt}
-use Rattle.std.specs.List.{AllByRecursion, flat_map}
-use Rattle.std.specs.Str.{bytes_eq}
-use Rattle.std.proofs.lemmas.Bool.{ne_eqb, ltb-true, ltb-false}
-use Rattle.std.proofs.lemmas.List.{take_at, drop_at, drop_all}
-use Rattle.std.proofs.lemmas.Slice.Eq.{bytes_eq-Decides}
+use Rattle.restart_laws.proofs.Common.{AllByRecursion, flat_map, bytes_eq, ne_eqb, ltb-true, ltb-false, take_at, drop_at, drop_all, bytes_eq-Decides}
 use Rattle.script_format.specs.Input.{is_bar, before_bar, plant_text, script_text}
 
 abbrev pub dashes : List ℕ

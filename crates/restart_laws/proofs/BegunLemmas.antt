@@ -1,34 +1,8 @@
 -- A service that begins with a plant file: each operator is opened before the plant's first frame.
 use Rattle.std.proofs.Common.{◌≡◌, ℕ, ◌≤◌, false, true, Bool, MatchBool, suc, List, [], ◌∷◌, length, map, replicate, Some, All, refl, sym, ap, subst, ◌∙◌, arith}
-use Rattle.std.specs.Prelude.{slice_get}
-use Rattle.std.specs.List.{AllByRecursion}
-use Rattle.std.proofs.lemmas.List.Elements.{recursion_from_All, All-from_recursion}
-use Rattle.toml.specs.Parse.{parse_document}
-use Rattle.slice_scheduler.specs.Minislots.{Minislots}
-use Rattle.plant.specs.declared.operator_row.RowFields.{RowFields}
-use Rattle.plant.specs.declared.plant.PlantFields.{PlantFields}
-use Rattle.plant.specs.Plant.{IsPlant}
-use Rattle.plant.specs.Row.{IsRowOf}
-use Rattle.operator_model.specs.State.{OperatorState, operator, opened_before}
-use Rattle.operator_model.specs.Slices.{waiting_slice}
-use Rattle.operator_model.specs.Sound.{IsSound}
+use Rattle.restart_laws.proofs.Common.{slice_get, AllByRecursion, recursion_from_All, All-from_recursion, parse_document, Minislots, RowFields, PlantFields, IsPlant, IsRowOf, OperatorState, operator, opened_before, waiting_slice, IsSound, Reslicing, quota_of, IsGathering, own_of, IsStart, gathering_from, started_core, at_place, IsAfterFrom, waiting_among, started_after, Snapshot, operator_by_name, start_by_name, front_text, GoesOnFrom, BeginsAnew, IsRunSoFarOf, resumed_service, PlantFileBegins}
 use Rattle.operator_model.proofs.OpenedBeforeLemmas.{opened_before_sound}
-use Rattle.map_assembly.specs.declared.slicing.Reslicing.{Reslicing}
-use Rattle.map_assembly.specs.Part.{quota_of}
-use Rattle.map_assembly.specs.Gathering.{IsGathering}
 use Rattle.map_assembly.proofs.NewLemmas.{plant_slices, gathering_resumed}
-use Rattle.run_model.specs.Starts.{own_of, IsStart}
-use Rattle.run_model.specs.Opened.{gathering_from, started_core}
-use Rattle.run_model.proofs.OwnFrames.{at_place}
-use Rattle.live_core.specs.After.{IsAfterFrom}
-use Rattle.live_core.specs.Resumed.{waiting_among}
-use Rattle.live_core.proofs.GoLemmas.{started_after}
-use Rattle.snapshot_format.specs.declared.saved.Snapshot.{Snapshot}
-use Rattle.plant_restart.specs.ByName.{operator_by_name, start_by_name}
-use Rattle.resumed_service.specs.Beginning.{front_text, GoesOnFrom, BeginsAnew}
-use Rattle.resumed_service.specs.Items.{IsRunSoFarOf}
-use Rattle.resumed_service.specs.Resumed.{resumed_service}
-use Rattle.restart_laws.specs.Processes.{PlantFileBegins}
 use Rattle.restart_laws.proofs.CoreLemmas.{start_of}
 use Rattle.restart_laws.proofs.PlantLemmas.{valid_plant, have_minislots}
 use Rattle.restart_laws.proofs.FileLemmas.{begins}

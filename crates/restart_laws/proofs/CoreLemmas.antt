@@ -1,48 +1,11 @@
 -- A live core that rests, and its operators in the states that are saved of them.
 use Rattle.std.proofs.Common.{◌≡◌, ◌≢◌, ℕ, suc, ◌≤◌, List, [], ◌∷◌, length, map, Option, Some, None, option_map, refl, sym, ap, subst, ◌∙◌, arith}
-use Rattle.std.specs.Prelude.{slice_get}
-use Rattle.std.specs.List.{AllByRecursion}
-use Rattle.std.proofs.lemmas.List.{length-map, map-id}
-use Rattle.std.proofs.lemmas.List.Elements.{All-from_recursion}
-use Rattle.std.proofs.lemmas.Option.{slice_get-map, slice_get_within}
-use Rattle.slice_scheduler.specs.Minislots.{Minislots}
-use Rattle.plant.specs.declared.operator_row.RowFields.{RowFields}
-use Rattle.plant.specs.declared.plant.PlantFields.{PlantFields}
-use Rattle.plant.specs.Consts.{KeepsConsts}
-use Rattle.plant.specs.Plant.{IsPlant}
+use Rattle.restart_laws.proofs.Common.{slice_get, AllByRecursion, length-map, map-id, All-from_recursion, slice_get-map, slice_get_within, Minislots, RowFields, PlantFields, KeepsConsts, IsPlant, NextShare, OperatorState, Operator, operator, opened_state, BookView, IsSound, Reslicing, quota_of, AreQuotas, AreSlices, frame_slices, IsGathering, PairsByRecursion, pairs_from_AllPairs, pairs-map, Step, Out, own_steps, Start, CoreView, IsPlantChange, gathering_from, started_core, some_at, may, IsAfterFrom, later_of, waiting_if, waiting_among, waits_from, first_from, MayResume, GoesAlong, GoTogether, slices_now, slices_next, HaveOwnNames, own_state, map_is, over_map, resumed_starts, book_at_place, stands_now, rests_at, HasCore, behind, started_after, state_under, state_or_opened, operator_by_name, operators_by_name, start_by_name, state_of_book, states_by_name, IsRestarted, IsOfItsModems, StartsOfItsModems}
 use Rattle.plant.proofs.Kept.{keeps_itself}
-use Rattle.operator_model.specs.declared.share.NextShare.{NextShare}
-use Rattle.operator_model.specs.State.{OperatorState, Operator, operator, opened_state}
-use Rattle.operator_model.specs.Replay.{BookView}
-use Rattle.operator_model.specs.Sound.{IsSound}
-use Rattle.map_assembly.specs.declared.slicing.Reslicing.{Reslicing}
-use Rattle.map_assembly.specs.Part.{quota_of}
-use Rattle.map_assembly.specs.Plan.{AreQuotas, AreSlices}
-use Rattle.map_assembly.specs.Gathering.{frame_slices, IsGathering}
-use Rattle.map_assembly.proofs.OrderLemmas.{PairsByRecursion, pairs_from_AllPairs, pairs-map}
-use Rattle.run_model.specs.declared.step.Step.{Step}
-use Rattle.run_model.specs.declared.step.Out.{Out}
-use Rattle.run_model.specs.OwnSteps.{own_steps}
-use Rattle.run_model.specs.Starts.{Start}
-use Rattle.run_model.specs.IsStateAfter.{CoreView}
-use Rattle.run_model.specs.Changing.{IsPlantChange}
-use Rattle.run_model.specs.Opened.{gathering_from, started_core}
-use Rattle.run_model.proofs.Entries.{some_at}
-use Rattle.run_model.proofs.Fits.{may}
-use Rattle.live_core.specs.After.{IsAfterFrom}
 use Rattle.live_core.specs.Resting.{Rests}
-use Rattle.live_core.specs.Resumed.{later_of, waiting_if, waiting_among, waits_from, first_from, MayResume, GoesAlong, GoTogether, slices_now, slices_next}
-use Rattle.live_core.proofs.ResumeLemmas.{HaveOwnNames, own_state, map_is, over_map, resumed_starts}
-use Rattle.live_core.proofs.RestLemmas.{book_at_place, stands_now, rests_at}
-use Rattle.live_core.proofs.BehindLemmas.{HasCore, behind}
-use Rattle.live_core.proofs.GoLemmas.{started_after}
-use Rattle.plant_restart.specs.ByName.{state_under, state_or_opened, operator_by_name, operators_by_name, start_by_name}
-use Rattle.plant_restart.specs.Saving.{state_of_book, states_by_name}
-use Rattle.plant_restart.specs.Restarted.{IsRestarted}
 use Rattle.plant_restart.specs.Changing.{IsChangeOf}
 use Rattle.plant_restart.proofs.NameLemmas.{state_there}
 use Rattle.plant_restart.proofs.ChangeLemmas.{change_of}
-use Rattle.restart_laws.specs.Restarting.{IsOfItsModems, StartsOfItsModems}
 use Rattle.restart_laws.proofs.ModemLemmas.{run_of_its_modems}
 use Rattle.restart_laws.proofs.RunLemmas as runs
 

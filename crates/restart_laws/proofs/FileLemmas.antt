@@ -1,22 +1,9 @@
 -- The plant file in force stays as the reader of the lines needs it.
 use Rattle.std.proofs.Common.{◌≡◌, ◌≢◌, ℕ, zero, suc, ◌+◌, ◌==◌, Bool, true, false, cond, MatchBool, List, [], ◌∷◌, ◌++◌, length, take, drop, Ok, inl, inr, refl, sym, ap, subst, ◌∙◌, arith, codes}
-use Rattle.std.specs.List.{AllByRecursion, flat_map}
-use Rattle.std.specs.Str.{is_utf8}
-use Rattle.std.proofs.lemmas.Bool.{ne_eqb, eqb-false}
+use Rattle.restart_laws.proofs.Common.{AllByRecursion, flat_map, is_utf8, ne_eqb, eqb-false, All-from_recursion, bytes_eq-Decides, parse_document, text_plant, is_bar, before_bar, plant_text, script_text, Snapshot, is_snapshot_head, front_text, BeginsAnew, GoesOnFrom, InService, ItemAnswer, IsItemAnswer, AreItemAnswers, resumed_service, IsReadWhole, IsFileInForce, BeginsInForce, StaysInForce, after_answers}
 use Rattle.std.proofs.lemmas.Bool.Decides.{nat_tests}
-use Rattle.std.proofs.lemmas.List.Elements.{All-from_recursion}
-use Rattle.std.proofs.lemmas.Slice.Eq.{bytes_eq-Decides}
-use Rattle.toml.specs.Parse.{parse_document}
-use Rattle.slice_table.specs.ReadPlant.{text_plant}
-use Rattle.script_format.specs.Input.{is_bar, before_bar, plant_text, script_text}
 use Rattle.script_format.specs.Lines.{lines_of, parts_of, parts_from}
-use Rattle.snapshot_format.specs.declared.saved.Snapshot.{Snapshot}
-use Rattle.resumed_service.specs.Beginning.{is_snapshot_head, front_text, BeginsAnew, GoesOnFrom}
 use Rattle.resumed_service.specs.PlantFiles.{is_dashes, file_lines, file_text}
-use Rattle.resumed_service.specs.Items.{InService, ItemAnswer, IsItemAnswer, AreItemAnswers}
-use Rattle.resumed_service.specs.Resumed.{resumed_service}
-use Rattle.restart_laws.specs.Restarting.{IsReadWhole, IsFileInForce, BeginsInForce, StaysInForce}
-use Rattle.restart_laws.specs.Processes.{after_answers}
 use Rattle.restart_laws.proofs.BarLemmas.{dashes, bar, IsPassed, HasNoBreak, IsBeforeBar, none_passed, both_passed, passed_before, text_before, front_before}
 
 -- ---- lines of a plant file

@@ -1,22 +1,9 @@
 -- What waits of an operator's slices after a run of its machine: those of its slice changes that are to come.
 use Rattle.std.proofs.Common.{◌≡◌, ℕ, ◌+◌, ◌==◌, ◌<◌, ◌≤◌, Bool, true, false, cond, List, [], ◌∷◌, ◌++◌, Option, Some, None, is_some, IfSome, refl, sym, ap, ◌∙◌, arith, nat_le, nat_lt, append_assoc, append-nil}
-use Rattle.std.specs.List.{cons_option}
-use Rattle.std.proofs.lemmas.Bool.{lt-ltb, le-ltb, leb-false, ltb-false, eqb-true, eqb-false}
-use Rattle.plant.specs.declared.consts.ConstsFields.{ConstsFields}
-use Rattle.plant.specs.declared.operator_row.RowFields.{RowFields}
-use Rattle.operator_model.specs.declared.action.Action.{Action}
-use Rattle.operator_model.specs.declared.action.Action.TheVariants.{Arrive, Work, Tick, Reslice}
+use Rattle.restart_laws.proofs.Common.{cons_option, lt-ltb, le-ltb, leb-false, ltb-false, eqb-true, eqb-false, ConstsFields, RowFields, Action, Arrive, Work, Tick, Reslice, NextShare, committed_minislots, operator, OperatorState, Operator, StepResult, next_at, IsNextShare, IsSound, SliceFrom, slice_from, reslicings_in, waiting_slice, MayRun, StaysAt, worked_none, arrived_none}
 use Rattle.operator_model.specs.declared.action.SliceRow.{SliceRow}
 use Rattle.operator_model.specs.declared.action.Unfit.TheVariants.{NotPast, Unfinished}
-use Rattle.operator_model.specs.declared.share.NextShare.{NextShare}
-use Rattle.flow_table.specs.Table.{committed_minislots}
-use Rattle.operator_model.specs.State.{operator, OperatorState, Operator}
-use Rattle.operator_model.specs.Handle.{StepResult}
-use Rattle.operator_model.specs.Frame.{next_at}
 use Rattle.operator_model.specs.Machine.{arrival_result, work_result, reslice_result, unfit_from, own_step, own_run, IsAllowed}
-use Rattle.operator_model.specs.Sound.{IsNextShare, IsSound}
-use Rattle.operator_model.specs.Slices.{SliceFrom, slice_from, reslicings_in, waiting_slice, MayRun}
-use Rattle.operator_model.proofs.FrameLemmas.{StaysAt, worked_none, arrived_none}
 use Rattle.operator_model.proofs.StepLemmas.{passed, step_sound}
 
 -- ---- slice changes that are to come

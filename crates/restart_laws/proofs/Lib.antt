@@ -1,3 +1,4 @@
+mod Common
 pub mod LaterLemmas
 pub mod RunLemmas
 pub mod ModemLemmas

@@ -1,19 +1,8 @@
 -- Whatever an operator's machine does, all that it keeps is of modems that its row lists.
 use Rattle.std.proofs.Common.{◌≡◌, ℕ, ◌==◌, Bool, true, false, not, cond, List, [], ◌∷◌, length, map, filter, Option, Some, None, option_map, IfSome, IfOk, Result, Ok, Err, refl, sym, subst, nat_le, nat_lt, find}
-use Rattle.std.specs.Prelude.{IsTrue}
-use Rattle.std.specs.List.{AllByRecursion}
-use Rattle.std.specs.declared.cmp.Ordering.{Ordering}
-use Rattle.std.specs.declared.cmp.Ordering.TheVariants.{Less, Equal, Greater}
-use Rattle.std.specs.Ordering.{nat_cmp, match_ordering}
-use Rattle.std.specs.Map.{remove_entry, lookup}
+use Rattle.restart_laws.proofs.Common.{IsTrue, AllByRecursion, Ordering, Less, Equal, Greater, nat_cmp, match_ordering, remove_entry, lookup, cond_both, recursion_from_All, All-from_recursion, recursion-append, Modem, Kind, Dsa, Dsc, Dsd, KeptEntry, same_kind, is_of, waits_for, entry_after_ack, ConstsFields, RowFields, SetsFields, is_listed, same_modem, IsProvision, IsRowOf, Flow, Pending, flow_at, flow_with, is_sid, with_flow, sfids_of, sids_of, committed_elements, committed_minislots, IsListedIn, Action, Arrive, Work, Tick, Reslice, Heard, Arrival, OperatorState, Operator, operator, opened_flow, consts_from, opened_before, StepResult, without_flow, undone, flows_after, carried_out, is_of_cmts, new_unless, transaction_result, acked_if, ack_result, kind_of, tid_of, message_handled, asked_of_flow, bandwidth_request_result, handle, all_undone, flows_left, frame_grants, all_granted, tick_result, MayRun, IsOfItsModems}
 use Rattle.std.specs.BTreeMap.{insert_entry, is_at}
-use Rattle.std.proofs.lemmas.Bool.{cond_both}
-use Rattle.std.proofs.lemmas.List.Elements.{recursion_from_All, All-from_recursion}
-use Rattle.slice_scheduler.proofs.SumLemmas.{recursion-append}
 use Rattle.admission.specs.Free.{least_free_of}
-use Rattle.dsx_messages.specs.declared.modem.Modem.{Modem}
-use Rattle.dsx_messages.specs.declared.kind.Kind.{Kind}
-use Rattle.dsx_messages.specs.declared.kind.Kind.TheVariants.{Dsa, Dsc, Dsd}
 use Rattle.dsx_messages.specs.declared.code.Code.TheVariants as codes
 use Rattle.dsx_messages.specs.declared.reply.ReplyFields.{ReplyFields}
 use Rattle.dsx_messages.specs.declared.message.Request.{Request}
@@ -23,42 +12,22 @@ use Rattle.dsx_messages.specs.declared.message.Message.TheVariants as messages
 use Rattle.dsx_messages.specs.declared.fault.MessageFault.{MessageFault}
 use Rattle.dsx_messages.specs.declared.fault.MessageFault.TheVariants as faults
 use Rattle.dsx_messages.specs.Reading.{message_of}
-use Rattle.transactions.specs.declared.entry.KeptEntry.{KeptEntry}
 use Rattle.transactions.specs.declared.tick.GivenUp.{GivenUp}
 use Rattle.transactions.specs.Waits.{Waits}
-use Rattle.transactions.specs.Entry.{same_kind, is_of, waits_for}
-use Rattle.transactions.specs.Keeping.{entry_after_ack}
 use Rattle.transactions.specs.Timers.{is_resent, is_forgotten, entry_after_tick, given_up_in, kept_after}
-use Rattle.plant.specs.declared.consts.ConstsFields.{ConstsFields}
-use Rattle.plant.specs.declared.operator_row.RowFields.{RowFields}
-use Rattle.param_sets.specs.declared.sets.SetsFields.{SetsFields}
 use Rattle.plant.specs.declared.provision.Provision.{Provision}
 use Rattle.plant.specs.Provisioned.{OpenedFlow, opened_sfids, opened_sid, and_under, and_opened, all_opened, opened_flows, sets_of_encoding}
-use Rattle.plant.specs.Row.{is_listed, same_modem, IsProvision, IsRowOf}
-use Rattle.flow_table.specs.declared.flow.Flow.{Flow}
-use Rattle.flow_table.specs.declared.flow.Pending.{Pending}
 use Rattle.flow_table.specs.Flow.{asks_for_grants, with_pending, flow_after_ack, without_pending, taken_back, flow_after_request, flow_after_grant}
-use Rattle.flow_table.specs.Table.{flow_at, flow_with, is_sid, with_flow, sfids_of, sids_of, committed_elements, committed_minislots}
 use Rattle.flow_table.specs.Moved.{change_if, change_at}
-use Rattle.operator_book.specs.Resuming.{IsListedIn}
-use Rattle.operator_model.specs.declared.action.Action.{Action}
-use Rattle.operator_model.specs.declared.action.Action.TheVariants.{Arrive, Work, Tick, Reslice}
-use Rattle.operator_model.specs.declared.heard.Heard.{Heard}
 use Rattle.operator_model.specs.declared.heard.Heard.TheVariants as heards
-use Rattle.operator_model.specs.declared.heard.Arrival.{Arrival}
 use Rattle.operator_model.specs.declared.verdict.Verdict.{Verdict}
 use Rattle.operator_model.specs.declared.verdict.Verdict.TheVariants.{Refused, Put, Deleted}
 use Rattle.operator_model.specs.declared.verdict.Addition.{Addition}
 use Rattle.operator_model.specs.declared.verdict.Change.{Change}
-use Rattle.operator_model.specs.State.{OperatorState, Operator, operator, opened_flow, consts_from, opened_before}
 use Rattle.operator_model.specs.Asked.{refusal, transaction, addition_of, change_of, free_flow}
 use Rattle.operator_model.specs.Verdict.{limit_of, put_within_limit, new_flow, added_reply, added_under, addition_within_limit, changed_flow, changed_reply, changed_with_new, wants_sid, change_within_limit, addition_verdict, change_verdict, deletion_verdict, verdict, encoding_refusal}
-use Rattle.operator_model.specs.Handle.{StepResult, without_flow, undone, flows_after, carried_out, is_of_cmts, new_unless, transaction_result, acked_if, ack_result, kind_of, tid_of, message_handled, asked_of_flow, bandwidth_request_result, handle}
-use Rattle.operator_model.specs.Frame.{all_undone, flows_left, frame_grants, all_granted, tick_result}
 use Rattle.operator_model.specs.Machine.{arrival_result, work_result, own_step, own_run, IsAllowed}
-use Rattle.operator_model.specs.Slices.{MayRun}
 use Rattle.operator_model.proofs.AskedLemmas.{IsChange, change-IsChange}
-use Rattle.restart_laws.specs.Restarting.{IsOfItsModems}
 
 -- ---- entries under their numbers
 

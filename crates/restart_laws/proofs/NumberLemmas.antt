@@ -1,27 +1,10 @@
 -- An operator after a line `N`: it does the same under other frame numbers, and has no more modems.
 use Rattle.std.proofs.Common.{◌≡◌, ℕ, ◌+◌, List, [], ◌∷◌, map, refl, sym, ap, ◌∙◌, subst, arith}
-use Rattle.std.specs.Prelude.{All, slice_get, Some}
-use Rattle.std.specs.List.{AllByRecursion}
-use Rattle.std.proofs.lemmas.List.Elements.{recursion_from_All, All-from_recursion}
-use Rattle.dsx_messages.specs.declared.modem.Modem.{Modem}
+use Rattle.restart_laws.proofs.Common.{All, slice_get, Some, AllByRecursion, recursion_from_All, All-from_recursion, Modem, Flow, RowFields, PlantFields, KeptEntry, Arrival, OperatorState, operator, IsSound, IsListedIn, own_steps, state_now, may, HasCore, behind, InService, ItemAnswer, IsFrameAnswer, IsOfItsModems, StartsOfItsModems, NumbersKeepModems, NumbersAreNotNoticed}
 use Rattle.param_sets.specs.Units.{UnitSizes}
-use Rattle.flow_table.specs.declared.flow.Flow.{Flow}
-use Rattle.plant.specs.declared.operator_row.RowFields.{RowFields}
-use Rattle.plant.specs.declared.plant.PlantFields.{PlantFields}
-use Rattle.transactions.specs.declared.entry.KeptEntry.{KeptEntry}
-use Rattle.operator_model.specs.declared.heard.Arrival.{Arrival}
-use Rattle.operator_model.specs.State.{OperatorState, operator}
-use Rattle.operator_model.specs.Sound.{IsSound}
-use Rattle.operator_book.specs.Resuming.{IsListedIn}
-use Rattle.run_model.specs.OwnSteps.{own_steps}
-use Rattle.run_model.specs.Changing.{state_now}
-use Rattle.run_model.proofs.Fits.{may}
 use Rattle.frame_numbers.specs.Seen.{entry_seen}
 use Rattle.frame_numbers.specs.Renumbered.{IsRenumbered}
 use Rattle.frame_numbers.proofs.StepLemmas.{run-same}
-use Rattle.live_core.proofs.BehindLemmas.{HasCore, behind}
-use Rattle.resumed_service.specs.Items.{InService, ItemAnswer, IsFrameAnswer}
-use Rattle.restart_laws.specs.Restarting.{IsOfItsModems, StartsOfItsModems, NumbersKeepModems, NumbersAreNotNoticed}
 use Rattle.restart_laws.proofs.ModemLemmas.{run_of_its_modems}
 use Rattle.restart_laws.proofs.RunLemmas as runs
 

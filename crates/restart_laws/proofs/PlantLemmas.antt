@@ -1,16 +1,8 @@
 -- What the plant file in force says of the plant.
 use Rattle.std.proofs.Common.{◌≤◌, ◌≡◌, List, [], ◌∷◌, ◌++◌, Option, Some, None, Result, Ok, Err, subst}
-use Rattle.std.specs.List.{AllByRecursion}
-use Rattle.slice_scheduler.proofs.SumLemmas.{recursion-append}
+use Rattle.restart_laws.proofs.Common.{AllByRecursion, recursion-append, IsOperatorName, IsPlant, ConstsFields, RowFields, PlantFields, PlantFault, text_plant}
 use Rattle.toml.specs.Data.{Data, Members, Items, no_items, item}
-use Rattle.plant.specs.Name.{IsOperatorName}
-use Rattle.plant.specs.Plant.{IsPlant}
-use Rattle.plant.specs.declared.consts.ConstsFields.{ConstsFields}
-use Rattle.plant.specs.declared.operator_row.RowFields.{RowFields}
-use Rattle.plant.specs.declared.plant.PlantFields.{PlantFields}
-use Rattle.slice_table.specs.declared.plant_fault.PlantFault.{PlantFault}
 use Rattle.slice_table.specs.declared.plant_fault.PlantFault.TheVariants.{NotToml}
-use Rattle.slice_table.specs.ReadPlant.{text_plant}
 use Rattle.slice_table.specs.Says.{SayInTurn, SaysRow, SaysPlant}
 use Rattle.slice_table.proofs.SaidPlant.{plant_is}
 

@@ -1,20 +1,11 @@
 -- The periods of processes, of which each goes on from the snapshot of the one before it.
 use Rattle.std.proofs.Common.{◌≡◌, ℕ, zero, suc, ◌+◌, List, [], ◌∷◌, ◌++◌, drop, Bool, true, false, cond, Result, Ok, inl, inr, refl, sym, ap, ◌∙◌, subst}
-use Rattle.toml.specs.Parse.{parse_document}
-use Rattle.plant.specs.Plant.{IsPlant}
-use Rattle.plant.specs.declared.plant.PlantFields.{PlantFields}
-use Rattle.slice_table.specs.declared.plant_fault.PlantFault.{PlantFault}
-use Rattle.run_model.specs.Changing.{RunSoFar, IsPlantChange, AreChanges, KeepsProvisioning, periods}
+use Rattle.restart_laws.proofs.Common.{parse_document, IsPlant, PlantFields, PlantFault, RunSoFar, IsPlantChange, AreChanges, KeepsProvisioning, periods, started_core, started_after, InService, ItemAnswer, IsItemAnswer, AreItemAnswers, first_period, later_periods, IsReadyToSave, after_answers, IsProcess, EndsAtRest, next_service, AreProcesses, first_of_all, later_of_all, all_periods, IsBegun, ProcessesAreChanges, KeptRowsGoThroughAll, RestartsAreNotNoticed}
 use Rattle.run_model.specs.Periods.{ArePeriodsOf}
-use Rattle.run_model.specs.Opened.{started_core}
 use Rattle.run_model.proofs.Changes.{goes_through}
 use Rattle.run_model.proofs.PeriodLemmas.{alike}
-use Rattle.live_core.proofs.GoLemmas.{started_after}
 use Rattle.script_format.specs.Lines.{lines_of}
-use Rattle.resumed_service.specs.Items.{InService, ItemAnswer, IsItemAnswer, AreItemAnswers, first_period, later_periods}
 use Rattle.resumed_service.proofs.PeriodLemmas.{service_changes}
-use Rattle.restart_laws.specs.Restarting.{IsReadyToSave}
-use Rattle.restart_laws.specs.Processes.{after_answers, IsProcess, EndsAtRest, next_service, AreProcesses, first_of_all, later_of_all, all_periods, IsBegun, ProcessesAreChanges, KeptRowsGoThroughAll, RestartsAreNotNoticed}
 use Rattle.restart_laws.proofs.PlantLemmas.{valid_plant}
 use Rattle.restart_laws.proofs.FileLemmas.{at_the_end}
 use Rattle.restart_laws.proofs.ReadyLemmas.{is_change}

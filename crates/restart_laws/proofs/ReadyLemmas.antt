@@ -1,51 +1,17 @@
 -- A core that is ready to be saved: its snapshot begins a service, which goes on where the core was.
 use Rattle.std.proofs.Common.{◌≡◌, ◌≢◌, ℕ, ◌<◌, ◌^◌, Bool, true, false, cond, MatchBool, List, [], ◌∷◌, ◌++◌, length, map, Option, Some, Result, Ok, Err, IfSome, inl, inr, refl, sym, ap, subst, ◌∙◌, arith, append_assoc}
-use Rattle.std.specs.Prelude.{slice_get}
-use Rattle.std.specs.List.{AllByRecursion}
-use Rattle.std.specs.Str.{is_utf8}
-use Rattle.std.proofs.lemmas.List.{length-map}
-use Rattle.std.proofs.lemmas.List.Elements.{recursion_from_All, All-from_recursion, All-contains}
-use Rattle.toml.specs.Parse.{parse_document}
-use Rattle.plant.specs.declared.operator_row.RowFields.{RowFields}
-use Rattle.plant.specs.declared.plant.PlantFields.{PlantFields}
-use Rattle.plant.specs.Plant.{IsPlant}
-use Rattle.plant.specs.Row.{IsRowOf}
-use Rattle.plant.specs.Name.{IsOperatorName}
-use Rattle.slice_table.specs.declared.plant_fault.PlantFault.{PlantFault}
-use Rattle.slice_table.specs.ReadPlant.{text_plant}
-use Rattle.operator_model.specs.State.{OperatorState, operator, opened_before}
-use Rattle.operator_model.specs.Replay.{BookView}
-use Rattle.operator_model.specs.Sound.{IsSound}
-use Rattle.operator_book.specs.Resuming.{IsStateUnder}
-use Rattle.map_assembly.proofs.OrderLemmas.{PairsByRecursion, pairs_from_AllPairs, pairs-map}
-use Rattle.run_model.specs.Changing.{IsPlantChange}
-use Rattle.run_model.specs.IsStateAfter.{CoreView}
-use Rattle.run_model.proofs.Entries.{some_at}
-use Rattle.run_model.proofs.OwnFrames.{at_place}
-use Rattle.live_core.proofs.ResumeLemmas.{over_map}
-use Rattle.live_core.proofs.RestLemmas.{book_at_place}
-use Rattle.script_format.specs.Input.{plant_text, script_text}
+use Rattle.restart_laws.proofs.Common.{slice_get, AllByRecursion, is_utf8, length-map, recursion_from_All, All-from_recursion, All-contains, parse_document, RowFields, PlantFields, IsPlant, IsRowOf, IsOperatorName, PlantFault, text_plant, OperatorState, operator, opened_before, BookView, IsSound, IsStateUnder, PairsByRecursion, pairs_from_AllPairs, pairs-map, IsPlantChange, CoreView, some_at, at_place, over_map, book_at_place, plant_text, script_text, Snapshot, states_of, IsSavedOperator, IsSnapshot, state_under, state_or_opened, start_by_name, state_of_book, states_by_name, saved_book, HasNoRow, HaveRows, names_of, CanRestart, is_snapshot_head, GoesOnFrom, BeginsAnew, IsBeginning, IsSavedFile, IsPlantFile, IsRestoringFault, IsBeginFault, InService, core_snapshot, IsServedFrom, resumed_service, IsReadyToSave, AnsweredIsReady, HaveTypedStates, IsOfItsModems, StartsOfItsModems, ModemsGoOn, BeginsOfItsModems, StaysOfItsModems, snapshot_at, BeginsWith, SnapshotBeginsService, IsRestorable, SavedStatesAreRestored, OnlyMemoryRefuses, RestartIsChange, SnapshotIsServed}
 use Rattle.snapshot_format.specs.declared.fault.SnapshotFault.{SnapshotFault}
 use Rattle.snapshot_format.specs.declared.fault.SnapshotFault.TheVariants.{Line}
-use Rattle.snapshot_format.specs.declared.saved.Snapshot.{Snapshot}
 use Rattle.snapshot_format.specs.Snapshot.{snapshot_of}
-use Rattle.snapshot_format.specs.States.{states_of}
-use Rattle.snapshot_format.specs.Saved.{IsSavedOperator, IsSnapshot}
 use Rattle.snapshot_format.proofs.SnapshotLemmas.{snapshot_back}
 use Rattle.plant_restart.specs.declared.fault.RestoreFault.{RestoreFault}
 use Rattle.plant_restart.specs.declared.fault.RestoreFault.TheVariants as restore
 use Rattle.plant_restart.specs.declared.fault.RestartFault.{RestartFault}
-use Rattle.plant_restart.specs.ByName.{state_under, state_or_opened, start_by_name}
-use Rattle.plant_restart.specs.Saving.{state_of_book, states_by_name, saved_book}
-use Rattle.plant_restart.specs.Restarted.{HasNoRow, HaveRows, names_of, CanRestart}
 use Rattle.plant_restart.proofs.RefusalLemmas.{memory_alone}
 use Rattle.plant_restart.proofs.SaveLemmas.{states_saved}
 use Rattle.resumed_service.specs.declared.begin_fault.BeginFault.{BeginFault}
 use Rattle.resumed_service.specs.declared.begin_fault.BeginFault.TheVariants.{NotText, InvalidSnapshot, InvalidPlant, NotRestored, NoMemory}
-use Rattle.resumed_service.specs.Beginning.{is_snapshot_head, GoesOnFrom, BeginsAnew, IsBeginning, IsSavedFile, IsPlantFile, IsRestoringFault, IsBeginFault}
-use Rattle.resumed_service.specs.Items.{InService, core_snapshot, IsServedFrom}
-use Rattle.resumed_service.specs.Resumed.{resumed_service}
-use Rattle.restart_laws.specs.Restarting.{IsReadyToSave, AnsweredIsReady, HaveTypedStates, IsOfItsModems, StartsOfItsModems, ModemsGoOn, BeginsOfItsModems, StaysOfItsModems, snapshot_at, BeginsWith, SnapshotBeginsService, IsRestorable, SavedStatesAreRestored, OnlyMemoryRefuses, RestartIsChange, SnapshotIsServed}
 use Rattle.restart_laws.proofs.BarLemmas.{bar, text_before, text_after, read_before}
 use Rattle.restart_laws.proofs.TextLemmas.{version_line, state_lines, states_before, front_before, text_parts}
 use Rattle.restart_laws.proofs.ModemLemmas.{opened_of_its_modems}

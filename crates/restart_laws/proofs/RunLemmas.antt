@@ -1,42 +1,15 @@
 -- The operators after a run: their slices, and the slices that wait.
 use Rattle.std.proofs.Common.{◌≡◌, ℕ, zero, suc, ◌<◌, ◌≤◌, Bool, true, false, cond, List, [], ◌∷◌, ◌++◌, length, map, Option, Some, None, option_map, refl, sym, ap, subst, ◌∙◌, arith, nat_lt}
-use Rattle.std.specs.Prelude.{All, slice_get, replicate}
-use Rattle.std.specs.List.{AllByRecursion, count_by}
+use Rattle.restart_laws.proofs.Common.{All, slice_get, replicate, AllByRecursion, count_by, length-map, length-replicate, recursion_from_All, none-some, same_Some, slice_get-map, slice_get_within, Minislots, IsChannel, RowFields, PlantFields, Share, NextShare, Action, OperatorState, operator, SliceFrom, slice_in_frame, waiting_slice, IsSound, run_puts, Reslicing, quota_of, AreQuotas, AreSlices, Gathering, frame_slices, slices_at, is_whole, AreQueued, IsGathering, Step, Out, own_steps, collects_of, reslicings_of, Start, own_of, IsStart, CoreView, frames_of, IsStateAfterFrom, some_at, slice_later, have_one, lengths_of, may, own_all, put_so_far}
 use Rattle.std.proofs.lemmas.List.FromFn.{length-range_with_len}
-use Rattle.std.proofs.lemmas.List.{length-map, length-replicate}
-use Rattle.std.proofs.lemmas.List.Elements.{recursion_from_All}
-use Rattle.std.proofs.lemmas.Option.{none-some, same_Some, slice_get-map, slice_get_within}
-use Rattle.slice_scheduler.specs.Minislots.{Minislots}
 use Rattle.slice_scheduler.specs.declared.elements.ElementsFields.{ElementsFields}
 use Rattle.plant.specs.declared.consts.Channel.{Channel}
-use Rattle.plant.specs.Consts.{IsChannel}
-use Rattle.plant.specs.declared.operator_row.RowFields.{RowFields}
-use Rattle.plant.specs.declared.plant.PlantFields.{PlantFields}
-use Rattle.operator_model.specs.declared.share.Share.{Share}
-use Rattle.operator_model.specs.declared.share.NextShare.{NextShare}
-use Rattle.operator_model.specs.declared.action.Action.{Action}
-use Rattle.operator_model.specs.State.{OperatorState, operator}
 use Rattle.operator_model.specs.Frames.{is_tick}
-use Rattle.operator_model.specs.Slices.{SliceFrom, slice_in_frame, waiting_slice}
-use Rattle.operator_model.specs.Sound.{IsSound}
-use Rattle.operator_model.proofs.FrameLemmas.{run_puts}
 use Rattle.operator_model.proofs.SliceLemmas.{state-in_force}
-use Rattle.map_assembly.specs.declared.slicing.Reslicing.{Reslicing}
-use Rattle.map_assembly.specs.Part.{quota_of}
-use Rattle.map_assembly.specs.Plan.{AreQuotas, AreSlices}
-use Rattle.map_assembly.specs.Gathering.{Gathering, frame_slices, slices_at, is_whole, AreQueued, IsGathering}
 use Rattle.map_assembly.proofs.StateLemmas.{slices_valid}
-use Rattle.run_model.specs.declared.step.Step.{Step}
-use Rattle.run_model.specs.declared.step.Out.{Out}
-use Rattle.run_model.specs.OwnSteps.{own_steps, collects_of, reslicings_of}
-use Rattle.run_model.specs.Starts.{Start, own_of, IsStart}
 use Rattle.run_model.specs.IsTraceOf.{isolated_run_from}
-use Rattle.run_model.specs.IsStateAfter.{CoreView, frames_of, IsStateAfterFrom}
-use Rattle.run_model.proofs.Entries.{some_at}
 use Rattle.run_model.proofs.Numbers.{numbers_are}
 use Rattle.run_model.proofs.OwnSlices.{HaveOne, own_slice}
-use Rattle.live_core.specs.Resumed.{slice_later}
-use Rattle.run_model.proofs.Fits.{have_one, lengths_of, may, own_all, put_so_far}
 use Rattle.restart_laws.proofs.LaterLemmas.{to_come, run_sound, later_waits}
 
 -- ---- slice changes that are to come

@@ -1,46 +1,14 @@
 -- What is saved of a core at rest keeps what a snapshot keeps that is read again.
 use Rattle.std.proofs.Common.{◌≡◌, ◌≢◌, ℕ, ◌+◌, ◌-◌, ◌<◌, ◌≤◌, ◌^◌, ◌==◌, Bool, true, false, not, cond, List, [], ◌∷◌, ◌++◌, length, map, Option, Some, None, IfSome, count_by, refl, sym, ap, subst, ◌∙◌, arith, append_assoc, length-append}
-use Rattle.std.specs.Prelude.{slice_get}
-use Rattle.std.specs.List.{AllByRecursion, list_any}
+use Rattle.restart_laws.proofs.Common.{slice_get, AllByRecursion, list_any, Ordering, Less, nat_cmp, MatchOrdering, keys_of, bytes_eq, and_from, eq-eqb, lt-ltb, length-map, All-from_recursion, bytes_eq-Decides, recursion-append, IsChannel, IsOperatorName, IsRowOf, ConstsFields, KeptEntry, is_of, OneEach, Flow, Share, NextShare, operator, BookView, IsShare, IsNextShare, IsSound, PairsByRecursion, SavedFlow, SavedOperator, Snapshot, saved_flow, IsSavedShare, IsSavedNext, IsSavedOperator, IsSnapshot, saved_book, FitsTypes}
 use Rattle.std.specs.List.Sorted.{IsStrictlySortedBy}
-use Rattle.std.specs.declared.cmp.Ordering.{Ordering}
-use Rattle.std.specs.declared.cmp.Ordering.TheVariants.{Less}
-use Rattle.std.specs.Ordering.{nat_cmp, MatchOrdering}
-use Rattle.std.specs.Map.{keys_of}
-use Rattle.std.specs.Str.{bytes_eq}
-use Rattle.std.proofs.lemmas.Bool.{and_from, eq-eqb, lt-ltb}
 use Rattle.std.proofs.lemmas.Cmp.{ranked}
-use Rattle.std.proofs.lemmas.List.{length-map}
-use Rattle.std.proofs.lemmas.List.Elements.{All-from_recursion}
 use Rattle.std.proofs.lemmas.List.Folds.{list_any_none}
 use Rattle.std.proofs.lemmas.List.Sums.{sum_by-cons, sum_by-append, count_by-le-length}
-use Rattle.std.proofs.lemmas.Slice.Eq.{bytes_eq-Decides}
-use Rattle.slice_scheduler.proofs.SumLemmas.{recursion-append}
-use Rattle.plant.specs.Consts.{IsChannel}
-use Rattle.plant.specs.Name.{IsOperatorName}
-use Rattle.plant.specs.Row.{IsRowOf}
-use Rattle.plant.specs.declared.consts.ConstsFields.{ConstsFields}
-use Rattle.transactions.specs.declared.entry.KeptEntry.{KeptEntry}
-use Rattle.transactions.specs.Entry.{is_of}
-use Rattle.transactions.specs.Keeping.{OneEach}
-use Rattle.flow_table.specs.declared.flow.Flow.{Flow}
-use Rattle.operator_model.specs.declared.share.Share.{Share}
-use Rattle.operator_model.specs.declared.share.NextShare.{NextShare}
-use Rattle.operator_model.specs.State.{operator}
-use Rattle.operator_model.specs.Replay.{BookView}
-use Rattle.operator_model.specs.Sound.{IsShare, IsNextShare, IsSound}
-use Rattle.map_assembly.proofs.OrderLemmas.{PairsByRecursion}
-use Rattle.snapshot_format.specs.declared.saved.SavedFlow.{SavedFlow}
-use Rattle.snapshot_format.specs.declared.saved.SavedOperator.{SavedOperator}
-use Rattle.snapshot_format.specs.declared.saved.Snapshot.{Snapshot}
 use Rattle.snapshot_format.specs.Reading.{AllFollow}
 use Rattle.snapshot_format.specs.Records.{can_follow, flow_follows, entry_follows, operator_follows}
-use Rattle.snapshot_format.specs.States.{saved_flow}
 use Rattle.snapshot_format.specs.Checksum.{line_count}
 use Rattle.snapshot_format.specs.Text.{body_text, closing_line, text_of_snapshot}
-use Rattle.snapshot_format.specs.Saved.{IsSavedShare, IsSavedNext, IsSavedOperator, IsSnapshot}
-use Rattle.plant_restart.specs.Saving.{saved_book}
-use Rattle.restart_laws.specs.Restarting.{FitsTypes}
 use Rattle.restart_laws.proofs.BarLemmas.{bar}
 use Rattle.restart_laws.proofs.TextLemmas.{version_line, state_lines, text_parts}
 

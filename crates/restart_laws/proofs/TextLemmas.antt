@@ -1,35 +1,20 @@
 -- In the text of a snapshot no line of three dashes is but the one after the plant file.
 use Rattle.std.proofs.Common.{◌≡◌, ◌≢◌, ℕ, zero, suc, ◌+◌, ◌%◌, ◌<◌, ◌^◌, ◌&&◌, Bool, true, false, List, [], ◌∷◌, ◌++◌, length, Option, Some, None, refl, sym, ap, subst, ◌∙◌, arith, rules, codes, append_assoc}
-use Rattle.std.specs.Prelude.{IfSome, slice_index}
-use Rattle.std.specs.List.{flat_map, list_all}
+use Rattle.restart_laws.proofs.Common.{IfSome, slice_index, flat_map, list_all, Kind, Dsa, Dsc, Dsd, Modem, SetsFields, KeptEntry, Pending, Heard, Arrival, Share, NextShare, SavedFlow, SavedOperator, Snapshot, IsSet, AreSets, IsPending, IsSavedFlow, IsSavedEntry, IsHeard, IsSavedArrival, IsSavedShare, IsSavedNext, IsSavedOperator, IsSnapshot}
 use Rattle.std.specs.Fmt.{decimal}
 use Rattle.std.specs.Char.{digit_value, is_ascii_alphanumeric}
 use Rattle.std.specs.Str.Parse.{AllDigits}
 use Rattle.std.proofs.lemmas.Fmt.{decimal_is_IsNumeral}
 use Rattle.hex.specs.Hex.{encode_upper, encode_with, upper_digits}
-use Rattle.dsx_messages.specs.declared.kind.Kind.{Kind}
-use Rattle.dsx_messages.specs.declared.kind.Kind.TheVariants.{Dsa, Dsc, Dsd}
-use Rattle.dsx_messages.specs.declared.modem.Modem.{Modem}
 use Rattle.param_sets.specs.declared.scheduling.Scheduling.{Scheduling}
 use Rattle.param_sets.specs.declared.scheduling.Scheduling.TheVariants.{BestEffort, NonRealTimePolling, RealTimePolling, UnsolicitedGrant}
 use Rattle.param_sets.specs.declared.param_set.ParamFields.{ParamFields}
-use Rattle.param_sets.specs.declared.sets.SetsFields.{SetsFields}
 use Rattle.param_sets.specs.Scheduling.{scheduling_number}
-use Rattle.transactions.specs.declared.entry.KeptEntry.{KeptEntry}
 use Rattle.transactions.specs.declared.entry.ResponseState.{ResponseState}
 use Rattle.transactions.specs.declared.entry.ResponseState.TheVariants.{Waiting, Held}
-use Rattle.flow_table.specs.declared.flow.Pending.{Pending}
-use Rattle.operator_model.specs.declared.heard.Heard.{Heard}
 use Rattle.operator_model.specs.declared.heard.Heard.TheVariants.{Message, Request}
-use Rattle.operator_model.specs.declared.heard.Arrival.{Arrival}
-use Rattle.operator_model.specs.declared.share.Share.{Share}
-use Rattle.operator_model.specs.declared.share.NextShare.{NextShare}
-use Rattle.snapshot_format.specs.declared.saved.SavedFlow.{SavedFlow}
-use Rattle.snapshot_format.specs.declared.saved.SavedOperator.{SavedOperator}
-use Rattle.snapshot_format.specs.declared.saved.Snapshot.{Snapshot}
 use Rattle.snapshot_format.specs.Checksum.{adler_after, adler_32, line_count}
 use Rattle.snapshot_format.specs.Text.{address_field, bytes_text, params_text, optional_set_text, sets_text, sid_text, flag_text, pending_record, flow_text, kind_text, state_text, entry_text, heard_text, arrival_text, share_text, next_text, head_text, operator_text, opening_text, body_text, closing_line, text_of_snapshot}
-use Rattle.snapshot_format.specs.Saved.{IsSet, AreSets, IsPending, IsSavedFlow, IsSavedEntry, IsHeard, IsSavedArrival, IsSavedShare, IsSavedNext, IsSavedOperator, IsSnapshot}
 use Rattle.restart_laws.proofs.BarLemmas.{bar, IsPassed, IsRestOfLine, HasNoBreak, IsBeforeBar, line_end, goes_on, line_passed, both_passed, each_passed, none_after, passed_before, before_more}
 
 -- ---- fields

@@ -1,13 +1,9 @@
 -- What a text before the lines says, and why it says nothing.
 use Rattle.std.proofs.Common.{◌≡◌, ℕ, List, Bool, true, false, MatchBool, Option, Some, None, IfSome, IfErr, Result, Ok, Err, refl, sym, subst}
-use Rattle.std.specs.Str.{IsUtf8, is_utf8}
-use Rattle.std.proofs.lemmas.Str.{IsUtf8-from_is_utf8}
-use Rattle.plant.specs.declared.plant.PlantFields.{PlantFields}
-use Rattle.snapshot_format.specs.declared.saved.Snapshot.{Snapshot}
+use Rattle.resumed_service.proofs.Common.{IsUtf8, is_utf8, IsUtf8-from_is_utf8, PlantFields, Snapshot, is_snapshot_head, front_text, GoesOnFrom, BeginsAnew, IsBeginning, IsSavedFile, IsPlantFile, IsFileFault, IsTextFault, IsRestoringFault, IsBeginFault}
 use Rattle.snapshot_format.specs.Snapshot.{snapshot_of}
 use Rattle.resumed_service.specs.declared.begin_fault.BeginFault.{BeginFault}
 use Rattle.resumed_service.specs.declared.begin_fault.BeginFault.TheVariants.{NotText, InvalidSnapshot, InvalidPlant, NotRestored, NoMemory}
-use Rattle.resumed_service.specs.Beginning.{is_snapshot_head, front_text, GoesOnFrom, BeginsAnew, IsBeginning, IsSavedFile, IsPlantFile, IsFileFault, IsTextFault, IsRestoringFault, IsBeginFault}
 
 -- bytes that are no text
 pub no_text : (file : List ℕ) → ¬ IsUtf8 file → is_utf8 file ≡ false

@@ -1,28 +1,10 @@
 -- A line that requests another number for the next frame, and its answer.
 use Rattle.std.proofs.Common.{◌≡◌, ◌≢◌, ℕ, ◌+◌, ◌<◌, ◌^◌, Bool, true, false, List, ◌∷◌, drop, Option, Result, Ok, inl, inr, refl, sym, ap, subst, ◌∙◌, arith}
 use Rattle.std.specs.Fmt.{decimal}
-use Rattle.std.specs.Str.{IsUtf8}
-use Rattle.std.specs.Str.Parse.{ParsesUnsigned}
-use Rattle.std.proofs.lemmas.Str.{IsUtf8-from_ascii}
+use Rattle.resumed_service.proofs.Common.{IsUtf8, ParsesUnsigned, IsUtf8-from_ascii, Appends, PlantFields, IsPlant, CoreView, WhereKnown, lines_left, IsHeld, Snapshot, states_of, NoMemory, IsRestarted, LineBreak, InService, begun_from, asks_frame, NamesFrame, IsCoreRenumbered, IsNewFrameFault, IsStartRefusal, IsNotStarted, frame_text, frame_refusal_text, IsNumberAfter, AreServedSoFar, HoldsLine, AwaitsFrame}
 use Rattle.std.proofs.lemmas.Fmt.{IsAscii-decimal, parse-decimal}
-use Rattle.std.specs.Io.KnownBytes.{Appends}
-use Rattle.plant.specs.declared.plant.PlantFields.{PlantFields}
-use Rattle.plant.specs.Plant.{IsPlant}
-use Rattle.run_model.specs.IsStateAfter.{CoreView}
-use Rattle.line_service.specs.Bytes.{WhereKnown}
-use Rattle.line_service.specs.Lines.{lines_left}
-use Rattle.line_service.specs.SoFar.{IsHeld}
-use Rattle.snapshot_format.specs.declared.saved.Snapshot.{Snapshot}
-use Rattle.snapshot_format.specs.States.{states_of}
-use Rattle.plant_restart.specs.declared.fault.RestartFault.TheVariants.{NoMemory}
-use Rattle.plant_restart.specs.Restarted.{IsRestarted}
-use Rattle.line_service.specs.declared.line_break.LineBreak.{LineBreak}
 use Rattle.resumed_service.specs.declared.new_frame_fault.NewFrameFault.{NewFrameFault}
 use Rattle.resumed_service.specs.declared.new_frame_fault.NewFrameFault.TheVariants as faults
-use Rattle.resumed_service.specs.Items.{InService, begun_from}
-use Rattle.resumed_service.specs.NewFrames.{asks_frame, NamesFrame, IsCoreRenumbered, IsNewFrameFault, IsStartRefusal, IsNotStarted, frame_text, frame_refusal_text}
-use Rattle.resumed_service.specs.PlantFiles.{IsNumberAfter}
-use Rattle.resumed_service.specs.Served.{AreServedSoFar, HoldsLine, AwaitsFrame}
 use Rattle.resumed_service.proofs.RenumberLemmas.{run_renumbered}
 use Rattle.resumed_service.proofs.ServedLemmas.{answered, known_map}
 

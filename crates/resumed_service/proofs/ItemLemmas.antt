@@ -1,24 +1,8 @@
 -- The answer to a line.
 use Rattle.std.proofs.Common.{◌≡◌, ℕ, true, false, List, [], ◌∷◌, ◌++◌, Option, map, refl, sym, ap, ◌∙◌, inl, inr}
-use Rattle.plant.specs.declared.plant.PlantFields.{PlantFields}
-use Rattle.run_model.specs.declared.step.Step.{Step}
-use Rattle.run_model.specs.declared.step.Out.{Out}
-use Rattle.run_model.specs.Starts.{Start}
-use Rattle.run_model.specs.IsStateAfter.{CoreView}
-use Rattle.live_core.specs.After.{IsAfterFrom}
-use Rattle.operator_model.specs.State.{OperatorState}
-use Rattle.operator_model.specs.Replay.{BookView}
+use Rattle.resumed_service.proofs.Common.{PlantFields, Step, Out, Start, CoreView, IsAfterFrom, OperatorState, BookView, Snapshot, text_of_snapshot, sfid_with_flow, saved_flow, state_of, saved_state, answer_text, LineIsAnswered, state_of_book, saved_book, IsCoreSnapshot, asks_snapshot, begins_plant, core_snapshot, asks_frame, IsSavedCore, in_service, ItemIsAnswered, WritesSnapshot}
 use Rattle.snapshot_format.specs.declared.saved.SavedFlow.{SavedFlow}
 use Rattle.snapshot_format.specs.declared.saved.SavedOperator.{SavedOperator}
-use Rattle.snapshot_format.specs.declared.saved.Snapshot.{Snapshot}
-use Rattle.snapshot_format.specs.Text.{text_of_snapshot}
-use Rattle.snapshot_format.specs.States.{sfid_with_flow, saved_flow, state_of, saved_state}
-use Rattle.line_service.specs.Service.{answer_text}
-use Rattle.line_service.specs.SoFar.{LineIsAnswered}
-use Rattle.plant_restart.specs.Saving.{state_of_book, saved_book, IsCoreSnapshot}
-use Rattle.resumed_service.specs.Items.{asks_snapshot, begins_plant, core_snapshot}
-use Rattle.resumed_service.specs.NewFrames.{asks_frame, IsSavedCore}
-use Rattle.resumed_service.specs.Served.{in_service, ItemIsAnswered, WritesSnapshot}
 
 module _ (file : List ℕ) (plant : PlantFields) (start : Start) (before : List Step) (shown : List Out) (number : ℕ) (line : List ℕ) (w0 w1 : Option (List ℕ)) where
   -- the line of a script

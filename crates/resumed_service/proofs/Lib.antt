@@ -1,3 +1,4 @@
+mod Common
 pub mod BeginLemmas
 pub mod ItemLemmas
 pub mod PeriodLemmas

@@ -1,11 +1,8 @@
 -- The periods of a service in which the plant is changed, or its frames get other numbers.
 use Rattle.std.proofs.Common.{◌≡◌, ℕ, ◌+◌, List, [], ◌∷◌, drop, Bool, true, false, ◌⊎◌, inl, inr, refl, sym, ap, ◌∙◌, subst}
-use Rattle.run_model.specs.IsStateAfter.{CoreView}
+use Rattle.resumed_service.proofs.Common.{CoreView, RunSoFar, IsPlantChange, AreChanges, IsRunRenumbered, AreRuns, InService, ItemAnswer, IsRunSoFarOf, IsItemAnswer, AreItemAnswers, first_period, later_periods, KeepNumbers, ServiceIsOfChanges, ServiceIsOfRuns}
 use Rattle.run_model.specs.IsTraceOf.{IsTraceFrom}
-use Rattle.run_model.specs.Changing.{RunSoFar, IsPlantChange, AreChanges}
-use Rattle.resumed_service.specs.Renumbering.{IsRunRenumbered, AreRuns}
 use Rattle.live_core.proofs.LawLemmas.{live_shown}
-use Rattle.resumed_service.specs.Items.{InService, ItemAnswer, IsRunSoFarOf, IsItemAnswer, AreItemAnswers, first_period, later_periods, KeepNumbers, ServiceIsOfChanges, ServiceIsOfRuns}
 
 -- with nothing done yet
 abbrev begun : RunSoFar → RunSoFar

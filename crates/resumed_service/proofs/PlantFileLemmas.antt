@@ -1,19 +1,9 @@
 -- Reading a plant file among the lines.
 use Rattle.std.proofs.Common.{◌≡◌, ℕ, suc, ◌+◌, Bool, true, false, List, [], ◌∷◌, ◌++◌, refl, sym, ap, subst, ◌∙◌, arith, codes, append_assoc, append-nil, Ok, Err}
-use Rattle.std.specs.Prelude.{drop}
-use Rattle.std.specs.Str.{IsUtf8, is_utf8}
-use Rattle.std.proofs.lemmas.Str.{is_utf8-from_IsUtf8}
-use Rattle.std.proofs.lemmas.Slice.Eq.{bytes_eq-Decides}
-use Rattle.toml.specs.Parse.{parse_document}
-use Rattle.plant.specs.declared.plant.PlantFields.{PlantFields}
+use Rattle.resumed_service.proofs.Common.{drop, IsUtf8, is_utf8, is_utf8-from_IsUtf8, bytes_eq-Decides, parse_document, PlantFields, text_plant, IsHeld, Keeping, Another, is_dashes, is_ended, lines_taken, file_text, most_bytes, most_kept, IsKeptUpTo, IsReadingFile, IsFileRead, IsWhole, IsPlantFileText, IsFileOf}
 use Rattle.slice_table.specs.declared.plant_fault.PlantFault.{PlantFault}
-use Rattle.slice_table.specs.ReadPlant.{text_plant}
 use Rattle.script_format.specs.Lines.{lines_of, parts_of, parts_from}
-use Rattle.line_service.specs.SoFar.{IsHeld}
-use Rattle.resumed_service.specs.declared.kept_text.Keeping.{Keeping}
-use Rattle.line_service.specs.declared.line_break.LineBreak.TheVariants.{Another}
 use Rattle.resumed_service.specs.declared.plant_file.PlantFileEnd.TheVariants.{Ended}
-use Rattle.resumed_service.specs.PlantFiles.{is_dashes, is_ended, lines_taken, file_text, most_bytes, most_kept, IsKeptUpTo, IsReadingFile, IsFileRead, IsWhole, IsPlantFileText, IsFileOf}
 
 -- ---- the first of some lines
 

@@ -1,19 +1,10 @@
 -- Why the plant of a core is not changed, and what always holds of a core that is restarted.
 use Rattle.std.proofs.Common.{◌≢◌, ℕ, List, [], refl, sym, ap, subst}
-use Rattle.grant_policy.specs.declared.policy.Policy.{Policy}
-use Rattle.operator_model.specs.State.{OperatorState}
-use Rattle.plant.specs.declared.plant.PlantFields.{PlantFields}
-use Rattle.run_model.specs.IsStateAfter.{CoreView}
-use Rattle.live_core.specs.After.{IsAfterFrom, IsReachableFromStart}
+use Rattle.resumed_service.proofs.Common.{Policy, OperatorState, PlantFields, CoreView, IsAfterFrom, IsReachableFromStart, RankingsMismatch, State, Core, NoMemory, start_by_name, IsChangeFault, IsRestarted, IsChangeRefusal}
 use Rattle.plant_restart.specs.declared.fault.ChangeFault.{ChangeFault}
 use Rattle.plant_restart.specs.declared.fault.ChangeFault.TheVariants.{ConstantsDiffer, Unfinished, Restart}
 use Rattle.plant_restart.specs.declared.fault.RestartFault.{RestartFault}
-use Rattle.plant_restart.specs.declared.fault.RestartFault.TheVariants.{RankingsMismatch, State, Core, NoMemory}
-use Rattle.plant_restart.specs.ByName.{start_by_name}
-use Rattle.plant_restart.specs.Changing.{IsChangeFault}
-use Rattle.plant_restart.specs.Restarted.{IsRestarted}
 use Rattle.resumed_service.specs.declared.new_plant_fault.NewPlantFault.TheVariants as new_faults
-use Rattle.resumed_service.specs.NewPlants.{IsChangeRefusal}
 
 -- a fault that is not about rankings holds with the right ones too
 pub not_changed : (live : CoreView) (plant : PlantFields) (policies : List Policy) (why : ChangeFault) → why ≢ Restart RankingsMismatch → why ≢ Restart NoMemory → IsChangeFault live plant policies why

@@ -1,34 +1,15 @@
 -- A core that goes on from its snapshot under other frame numbers.
 use Rattle.std.proofs.Common.{◌≡◌, ◌≢◌, ℕ, ◌==◌, Bool, true, false, cond, not, List, [], ◌∷◌, length, map, Option, Some, None, refl, sym, ap, subst, ◌∙◌, arith, option_map}
-use Rattle.std.specs.Prelude.{slice_get}
+use Rattle.resumed_service.proofs.Common.{slice_get, bytes_eq, map-id, bytes_eq-Decides, RowFields, PlantFields, IsPlant, OperatorState, Operator, opened_state, BookView, Step, Out, Start, CoreView, RunSoFar, state_now, IsAfterFrom, Snapshot, states_of, state_under, state_or_opened, operator_by_name, operators_by_name, start_by_name, state_of_book, states_by_name, saved_book, IsRestarted, begun_from, saved_core, IsCoreRenumbered, IsRunRenumbered}
 use Rattle.std.specs.List.{AllZip, list_all}
-use Rattle.std.specs.Str.{bytes_eq}
 use Rattle.std.proofs.lemmas.Bool.{eqb-true}
-use Rattle.std.proofs.lemmas.List.{map-id}
 use Rattle.std.proofs.lemmas.Option.{none-some, same_Some, slice_get-map, slice_get_within}
-use Rattle.std.proofs.lemmas.Slice.Eq.{bytes_eq-Decides}
 use Rattle.plant.specs.declared.consts.ConstsFields.{ConstsFields}
-use Rattle.plant.specs.declared.operator_row.RowFields.{RowFields}
-use Rattle.plant.specs.declared.plant.PlantFields.{PlantFields}
-use Rattle.plant.specs.Plant.{IsPlant}
-use Rattle.operator_model.specs.State.{OperatorState, Operator, opened_state}
-use Rattle.operator_model.specs.Replay.{BookView}
 use Rattle.map_assembly.specs.Map.{frame_start}
 use Rattle.map_assembly.proofs.OrderLemmas.{PairsByRecursion, pairs_from_AllPairs, pairs-map}
-use Rattle.run_model.specs.declared.step.Step.{Step}
-use Rattle.run_model.specs.declared.step.Out.{Out}
-use Rattle.run_model.specs.Starts.{Start}
-use Rattle.run_model.specs.IsStateAfter.{CoreView}
-use Rattle.run_model.specs.Changing.{RunSoFar, state_now}
 use Rattle.run_model.proofs.Entries.{some_at}
-use Rattle.live_core.specs.After.{IsAfterFrom}
 use Rattle.live_core.proofs.ResumeLemmas.{HaveOwnNames, own_state, map_is, over_map}
 use Rattle.live_core.proofs.RestLemmas.{book_at_place, stands_now, rests_at}
-use Rattle.snapshot_format.specs.declared.saved.Snapshot.{Snapshot}
-use Rattle.snapshot_format.specs.States.{states_of}
-use Rattle.plant_restart.specs.ByName.{state_under, state_or_opened, operator_by_name, operators_by_name, start_by_name}
-use Rattle.plant_restart.specs.Saving.{state_of_book, states_by_name, saved_book}
-use Rattle.plant_restart.specs.Restarted.{IsRestarted}
 use Rattle.plant_restart.proofs.NameLemmas.{found_first, passed_over, state_there}
 use Rattle.plant_restart.proofs.SaveLemmas.{states_saved}
 use Rattle.frame_numbers.specs.declared.fault.RenumberFault.{RenumberFault}
@@ -36,9 +17,6 @@ use Rattle.frame_numbers.specs.declared.fault.RenumberFault.TheVariants.{TimeSte
 use Rattle.frame_numbers.specs.Renumbered.{IsRenumbered}
 use Rattle.frame_numbers.specs.Numbering.{flows_fit, next_fits, renumber_refusal, IsRenumberedUnder}
 use Rattle.frame_numbers.specs.Time.{KeepsTime}
-use Rattle.resumed_service.specs.Items.{begun_from}
-use Rattle.resumed_service.specs.NewFrames.{saved_core, IsCoreRenumbered}
-use Rattle.resumed_service.specs.Renumbering.{IsRunRenumbered}
 
 -- ---- the Alloc Start Time
 

@@ -1,19 +1,12 @@
 -- A service whose lines are performed for the snapshot after them.
 use Rattle.std.proofs.Common.{◌≡◌, ℕ, List, Option, Some, None, IfSome, sym, subst}
-use Rattle.plant.specs.declared.plant.PlantFields.{PlantFields}
-use Rattle.run_model.specs.IsStateAfter.{CoreView}
+use Rattle.resumed_service.proofs.Common.{PlantFields, CoreView, Snapshot, AtEnd, LastState, IsBeginningRead, IsLastState, IsServedTo, name_at, restless_operator, resumed_service}
 use Rattle.live_core.specs.declared.rest_fault.RestFault.{RestFault}
 use Rattle.live_core.specs.Resting.{Rests, IsRestFault}
-use Rattle.snapshot_format.specs.declared.saved.Snapshot.{Snapshot}
-use Rattle.resumed_service.specs.declared.last_state.AtEnd.{AtEnd}
 use Rattle.resumed_service.specs.declared.last_state.AtEnd.TheVariants as asked
-use Rattle.resumed_service.specs.declared.last_state.LastState.{LastState}
 use Rattle.resumed_service.specs.declared.last_state.LastState.TheVariants as states
 use Rattle.resumed_service.specs.declared.saving.SnapshotEnd.{SnapshotEnd}
 use Rattle.resumed_service.specs.declared.saving.SnapshotEnd.TheVariants.{Saved, Unfinished, NoMemory, NotBegun}
-use Rattle.resumed_service.specs.Beginning.{IsBeginningRead}
-use Rattle.resumed_service.specs.LastStates.{IsLastState, IsServedTo, name_at, restless_operator}
-use Rattle.resumed_service.specs.Resumed.{resumed_service}
 use Rattle.resumed_service.specs.SavedAfter.{IsSnapshotWritten, IsSnapshotAfter, SnapshotServiceEnds, EndsWithSnapshot}
 
 -- the core rests before no frame

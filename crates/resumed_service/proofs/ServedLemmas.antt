@@ -1,42 +1,11 @@
 -- The items of a service, one after the other.
 use Rattle.std.proofs.Common.{◌≡◌, ℕ, suc, ◌+◌, Bool, true, false, List, [], ◌∷◌, ◌++◌, Option, Some, None, IfSome, inl, inr, refl, sym, ap, subst, ◌∙◌, arith, append_assoc, append-nil, codes}
-use Rattle.std.specs.Prelude.{drop}
-use Rattle.std.specs.Io.KnownBytes.{Appends}
-use Rattle.std.proofs.KnownBytes.{Appends-nil, Appends-trans}
-use Rattle.std.proofs.lemmas.Slice.Eq.{bytes_eq-Decides}
-use Rattle.plant.specs.declared.plant.PlantFields.{PlantFields}
-use Rattle.run_model.specs.declared.step.Step.{Step}
-use Rattle.run_model.specs.declared.step.Out.{Out}
-use Rattle.run_model.specs.Starts.{Start}
-use Rattle.run_model.specs.IsStateAfter.{CoreView}
-use Rattle.live_core.specs.After.{IsAfterFrom}
+use Rattle.resumed_service.proofs.Common.{drop, Appends, Appends-nil, Appends-trans, bytes_eq-Decides, PlantFields, Step, Out, Start, CoreView, IsAfterFrom, Snapshot, states_of, WhereKnown, IsHeld, known_same, known_then, start_by_name, IsChangeOf, IsRestarted, states_by_name, LineBreak, Another, End, Keeping, AtEnd, LastState, IsBeginningRead, lines_left, IsLineRead, IsNewFileFault, IsChangeRefusal, IsNewPlantFault, refusal_text, lines_taken, break_after, file_text, IsFileOf, IsFileKept, IsFileRead, IsNumberAfter, InService, ItemAnswer, IsRunSoFarOf, IsItemAnswer, AreItemAnswers, begins_plant, change_text, texts_of, IsLastState, IsServedTo, resumed_service, EndsInput, in_service, ItemIsAnswered, AreServedSoFar, HoldsLine, AwaitsPlant}
 use Rattle.script_format.specs.Lines.{lines_of}
-use Rattle.snapshot_format.specs.declared.saved.Snapshot.{Snapshot}
-use Rattle.snapshot_format.specs.States.{states_of}
-use Rattle.line_service.specs.Bytes.{WhereKnown}
-use Rattle.line_service.specs.SoFar.{IsHeld}
-use Rattle.line_service.proofs.ServiceLemmas.{known_same, known_then}
-use Rattle.plant_restart.specs.ByName.{start_by_name}
-use Rattle.plant_restart.specs.Changing.{IsChangeOf}
-use Rattle.plant_restart.specs.Restarted.{IsRestarted}
-use Rattle.plant_restart.specs.Saving.{states_by_name}
-use Rattle.line_service.specs.declared.line_break.LineBreak.{LineBreak}
-use Rattle.line_service.specs.declared.line_break.LineBreak.TheVariants.{Another, End}
 use Rattle.resumed_service.specs.declared.new_plant_fault.NewPlantFault.{NewPlantFault}
 use Rattle.resumed_service.specs.declared.new_plant_fault.NewPlantFault.TheVariants as new_faults
-use Rattle.resumed_service.specs.declared.kept_text.Keeping.{Keeping}
 use Rattle.resumed_service.specs.declared.plant_file.PlantFileEnd.{PlantFileEnd}
 use Rattle.resumed_service.specs.declared.serving.ServiceEnd.TheVariants as ends
-use Rattle.resumed_service.specs.declared.last_state.AtEnd.{AtEnd}
-use Rattle.resumed_service.specs.declared.last_state.LastState.{LastState}
-use Rattle.resumed_service.specs.Beginning.{IsBeginningRead}
-use Rattle.line_service.specs.Lines.{lines_left, IsLineRead}
-use Rattle.resumed_service.specs.NewPlants.{IsNewFileFault, IsChangeRefusal, IsNewPlantFault, refusal_text}
-use Rattle.resumed_service.specs.PlantFiles.{lines_taken, break_after, file_text, IsFileOf, IsFileKept, IsFileRead, IsNumberAfter}
-use Rattle.resumed_service.specs.Items.{InService, ItemAnswer, IsRunSoFarOf, IsItemAnswer, AreItemAnswers, begins_plant, change_text, texts_of}
-use Rattle.resumed_service.specs.LastStates.{IsLastState, IsServedTo}
-use Rattle.resumed_service.specs.Resumed.{resumed_service, EndsInput}
-use Rattle.resumed_service.specs.Served.{in_service, ItemIsAnswered, AreServedSoFar, HoldsLine, AwaitsPlant}
 
 -- nothing is read yet
 pub begun : (first : InService) (input : List ℕ) (live : CoreView) (file : List ℕ) (known : Option (List ℕ)) → IsRunSoFarOf first.run live → first.file ≡ file

@@ -1,21 +1,6 @@
 -- How far the steps lead operators' histories, step by step.
 use Rattle.std.proofs.Common.{◌≡◌, ℕ, zero, suc, ◌+◌, ◌<◌, ◌≤◌, true, false, is_some, List, [], ◌∷◌, ◌++◌, length, take, get_or, replicate, Option, Some, None, ◌⊎◌, inl, inr, refl, sym, ap, ◌∙◌, subst, arith, append-nil}
-use Rattle.std.specs.Prelude.{slice_get, slice_set}
-use Rattle.std.proofs.lemmas.Bool.{cases_eq}
-use Rattle.std.proofs.lemmas.List.{length-map, length-set, length-replicate, take-replicate, take_all}
-use Rattle.std.proofs.lemmas.Option.{none-some, same_Some, slice_get_within, get_or_from_slice_get}
-use Rattle.plant.specs.declared.operator_row.RowFields.{RowFields}
-use Rattle.plant.specs.declared.plant.PlantFields.{PlantFields}
-use Rattle.plant.specs.Plant.{IsPlant}
-use Rattle.operator_model.specs.declared.action.Action.{Action}
-use Rattle.operator_model.specs.declared.action.Entry.{Entry}
-use Rattle.operator_model.specs.Replay.{BookView, actions_of}
-use Rattle.run_model.specs.declared.step.Step.{Step}
-use Rattle.run_model.specs.OwnSteps.{action_of}
-use Rattle.run_model.proofs.Entries.{get_same, get_other, same_at, some_at}
-use Rattle.run_audit.specs.Taken.{taken_by, waiting_operator}
-use Rattle.run_audit.specs.Straying.{AreOwnRuns}
-use Rattle.run_audit.specs.Advancing.{Advances, HasAdvanced, HaveAdvanced, AllEndAt}
+use Rattle.run_audit.proofs.Common.{slice_get, slice_set, cases_eq, length-map, length-set, length-replicate, take-replicate, take_all, none-some, same_Some, slice_get_within, get_or_from_slice_get, RowFields, PlantFields, IsPlant, Action, Entry, BookView, actions_of, Step, action_of, get_same, get_other, same_at, some_at, taken_by, waiting_operator, AreOwnRuns, Advances, HasAdvanced, HaveAdvanced, AllEndAt}
 use Rattle.run_audit.proofs.Differing.{take_next, more_none, more_some}
 use Rattle.run_audit.proofs.Judging.{book_told}
 use Rattle.run_audit.proofs.Whose.{others_none, none_is, some_is, waits_as_taken}

@@ -1,26 +1,9 @@
 -- What each operator has put that is in no MAP, with what it puts later: the MAPs take its parts from there, one each.
 use Rattle.std.proofs.Common.{◌≡◌, ℕ, zero, suc, ◌+◌, ◌<◌, ◌≤◌, true, false, ltb, List, [], ◌∷◌, ◌++◌, length, map, drop, append_assoc, append-nil, Option, Some, None, ◌⊎◌, inl, inr, refl, sym, ap, ◌∙◌, subst, arith}
-use Rattle.std.specs.Prelude.{slice_get, slice_set}
-use Rattle.std.specs.List.{range_with_len}
-use Rattle.std.proofs.lemmas.Bool.{cases_eq, eq-eqb, ne_eqb, cond-true, and_parts}
-use Rattle.std.proofs.lemmas.List.{length-set, length-map}
-use Rattle.std.proofs.lemmas.Option.{none-some, same_Some, slice_get_within}
-use Rattle.slice_scheduler.specs.Minislots.{Minislots}
-use Rattle.slice_scheduler.specs.declared.elements.ElementsFields.{ElementsFields}
+use Rattle.run_audit.proofs.Common.{slice_get, slice_set, range_with_len, cases_eq, eq-eqb, ne_eqb, cond-true, and_parts, length-set, length-map, none-some, same_Some, slice_get_within, Minislots, ElementsFields, MapBytes, Gathering, queue_of, is_last, with_part, is_whole, fronts, frame_slices, frame_parts, put_fault, after_put, gathering_after_reslice, IsGathering, IsMapOf, IsPutResult, is_put, after_other, slice_of, get_same, Numbered, parts_slices, Placing, Put, Reslice, puts_of, map_if_made, HaveMade}
 use Rattle.plant.specs.declared.consts.Channel.{Channel}
 use Rattle.map_assembly.specs.declared.quota.Quota.{Quota}
-use Rattle.map_assembly.specs.declared.map_bytes.MapBytes.{MapBytes}
-use Rattle.map_assembly.specs.Gathering.{Gathering, queue_of, is_last, with_part, is_whole, fronts, frame_slices, frame_parts, put_fault, after_put, gathering_after_reslice, IsGathering}
-use Rattle.map_assembly.specs.Assembled.{IsMapOf, IsPutResult}
 use Rattle.map_assembly.proofs.LastLemmas.{length-fronts}
-use Rattle.map_assembly.proofs.StateLemmas.{is_put, after_other}
-use Rattle.run_model.specs.OwnSteps.{slice_of}
-use Rattle.run_model.proofs.Entries.{get_same}
-use Rattle.run_model.proofs.Numbers.{Numbered}
-use Rattle.run_model.proofs.Slices.{parts_slices}
-use Rattle.run_audit.specs.declared.placing.Placing.{Placing}
-use Rattle.run_audit.specs.declared.placing.Placing.TheVariants.{Put, Reslice}
-use Rattle.run_audit.specs.Placings.{puts_of, map_if_made, HaveMade}
 
 -- the parts that an operator put, in order
 abbrev pub parts_of : ℕ → List Placing → List ElementsFields

@@ -1,10 +1,6 @@
 -- Where two lists differ first.
 use Rattle.std.proofs.Common.{◌≡◌, ℕ, zero, suc, ◌+◌, ◌<◌, ◌≤◌, List, [], ◌∷◌, ◌++◌, length, take, drop, get_or, append-nil, Option, Some, None, refl, sym, ap, ◌∙◌, arith}
-use Rattle.std.specs.Prelude.{slice_get, filter_map}
-use Rattle.std.proofs.lemmas.List.{length-take-le, drop_more, take_more}
-use Rattle.std.proofs.lemmas.List.Elements.{filter_map-append}
-use Rattle.std.proofs.lemmas.Option.{none-some, same_Some, slice_get_within, get_or_from_slice_get}
-use Rattle.run_audit.specs.Straying.{DifferFirst}
+use Rattle.run_audit.proofs.Common.{slice_get, filter_map, length-take-le, drop_more, take_more, filter_map-append, none-some, same_Some, slice_get_within, get_or_from_slice_get, DifferFirst}
 
 nothing_left : {X : Type 0} (xs : List X) (i : ℕ) → length xs ≤ i → drop i xs ≡ []
 nothing_left [] zero le = refl

@@ -1,19 +1,7 @@
 -- What is found decides what is told.
 use Rattle.std.proofs.Common.{◌≡◌, ◌↔◌, ℕ, zero, suc, ◌<◌, List, [], ◌∷◌, map, take, Result, Err, inl, inr, refl, sym, ap, ◌∙◌, subst, arith}
-use Rattle.std.specs.Prelude.{slice_get}
-use Rattle.plant.specs.declared.operator_row.RowFields.{RowFields}
-use Rattle.plant.specs.declared.plant.PlantFields.{PlantFields}
-use Rattle.operator_model.specs.Replay.{BookView, actions_of}
-use Rattle.run_model.specs.declared.step.Step.{Step}
-use Rattle.run_model.specs.OwnSteps.{own_steps}
-use Rattle.run_model.specs.IsStateAfter.{IsBookAfter}
-use Rattle.run_model.proofs.Entries.{same_at}
-use Rattle.run_receipts.specs.declared.run_fault.RunFault.{RunFault}
+use Rattle.run_audit.proofs.Common.{slice_get, RowFields, PlantFields, BookView, actions_of, Step, own_steps, IsBookAfter, same_at, RunFault, Placing, AssemblyView, puts_of, due_of, DifferFirst, AreOwnRuns, IsOfAnother, HistoryStraysAt, IsStrayHistory, ArePut, IsPutStray, IsMapStray, IsFound}
 use Rattle.run_receipts.specs.declared.run_fault.RunFault.TheVariants.{Strayed, Short, Core, NoMemory, MapStrayed, ResliceRefused}
-use Rattle.run_audit.specs.declared.placing.Placing.{Placing}
-use Rattle.run_audit.specs.Placings.{AssemblyView, puts_of}
-use Rattle.run_audit.specs.Outs.{due_of}
-use Rattle.run_audit.specs.Straying.{DifferFirst, AreOwnRuns, IsOfAnother, HistoryStraysAt, IsStrayHistory, ArePut, IsPutStray, IsMapStray, IsFound}
 
 get_take : {A : Type 0} (xs : List A) (k n : ℕ) → k < n → slice_get (take n xs) k ≡ slice_get xs k
 get_take xs k zero lt = absurd (omega (arith, lt))

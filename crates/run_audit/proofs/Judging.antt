@@ -1,47 +1,14 @@
 -- What is told of a book, of an assembly, and of a whole run.
 use Rattle.std.proofs.Common.{◌≡◌, ℕ, ◌+◌, ◌<◌, true, false, cond, Bool, List, [], ◌∷◌, length, map, take, drop, count_by, if◌then◌else◌, Option, Some, None, ◌⊎◌, inl, inr, refl, sym, ap, ◌∙◌, subst, arith}
-use Rattle.std.specs.Prelude.{◌==◌, slice_get, MatchOption, All}
-use Rattle.std.proofs.lemmas.Bool.{cases_eq, eq-eqb, ne_eqb, cond-true}
-use Rattle.std.proofs.lemmas.List.{length-map, length-replicate, length-append}
+use Rattle.run_audit.proofs.Common.{◌==◌, slice_get, MatchOption, All, cases_eq, eq-eqb, ne_eqb, cond-true, length-map, length-replicate, length-append, slice_get_within, ElementsFields, ConstsFields, RowFields, PlantFields, is_listed, Action, SliceRow, opened_state, operator, own_run, BookView, actions_of, IsReplay, MapBytes, Gathering, gathering_of, queue_of, is_last, with_part, next_of, put_fault, after_put, gathering_after_reslice, IsGathering, IsPutResult, is_put, after_other, Step, action_of, resliced_by, own_steps, collects_of, slice_of, isolated_run, AreMaps, IsUnder, IsTraceOf, frames_of, IsBookAfter, AreNumbered, some_at, Numbered, are_numbered, numbers_are, RunFault, history_outputs, Placing, Put, Reslice, AssemblyView, puts_of, HaveMade, due_of, outs_of, AreDue, AllAreNumbered, DifferFirst, AreOwnRuns, HistoryStraysAt, ArePut, IsPutStray, IsMapStray, IsFound, AreMerged, is_tick_of, ticks_of, AreTicked, IsOutcome}
 use Rattle.std.proofs.lemmas.List.Sums.{sum_by-cons}
 use Rattle.std.proofs.lemmas.List.FromFn.{length-range_with_len}
-use Rattle.std.proofs.lemmas.Option.{slice_get_within}
-use Rattle.slice_scheduler.specs.declared.elements.ElementsFields.{ElementsFields}
-use Rattle.plant.specs.declared.consts.ConstsFields.{ConstsFields}
-use Rattle.plant.specs.declared.operator_row.RowFields.{RowFields}
-use Rattle.plant.specs.declared.plant.PlantFields.{PlantFields}
-use Rattle.plant.specs.Row.{is_listed}
-use Rattle.operator_model.specs.declared.action.Action.{Action}
 use Rattle.operator_model.specs.declared.action.Action.TheVariants as actions
-use Rattle.operator_model.specs.declared.action.SliceRow.{SliceRow}
-use Rattle.operator_model.specs.State.{opened_state, operator}
-use Rattle.operator_model.specs.Machine.{own_run}
 use Rattle.operator_model.specs.Frames.{is_tick}
-use Rattle.operator_model.specs.Replay.{BookView, actions_of, IsReplay}
 use Rattle.operator_model.proofs.FrameLemmas.{run_puts}
-use Rattle.map_assembly.specs.declared.map_bytes.MapBytes.{MapBytes}
-use Rattle.map_assembly.specs.Gathering.{Gathering, gathering_of, queue_of, is_last, with_part, next_of, put_fault, after_put, gathering_after_reslice, IsGathering}
-use Rattle.map_assembly.specs.Assembled.{IsPutResult}
-use Rattle.map_assembly.proofs.StateLemmas.{is_put, after_other}
-use Rattle.run_model.specs.declared.step.Step.{Step}
 use Rattle.run_model.specs.declared.step.Step.TheVariants as steps
-use Rattle.run_model.specs.OwnSteps.{action_of, resliced_by, own_steps, collects_of, slice_of}
-use Rattle.run_model.specs.IsTraceOf.{isolated_run, AreMaps, IsUnder, IsTraceOf}
-use Rattle.run_model.specs.IsStateAfter.{frames_of, IsBookAfter, AreNumbered}
-use Rattle.run_model.proofs.Entries.{some_at}
-use Rattle.run_model.proofs.Numbers.{Numbered, are_numbered, numbers_are}
-use Rattle.run_receipts.specs.declared.run_fault.RunFault.{RunFault}
 use Rattle.run_receipts.specs.declared.receipt.Receipt.{Receipt}
 use Rattle.run_receipts.specs.Callers.{AreByCallers}
-use Rattle.run_receipts.specs.OwnParts.{history_outputs}
-use Rattle.run_audit.specs.declared.placing.Placing.{Placing}
-use Rattle.run_audit.specs.declared.placing.Placing.TheVariants.{Put, Reslice}
-use Rattle.run_audit.specs.Placings.{AssemblyView, puts_of, HaveMade}
-use Rattle.run_audit.specs.Outs.{due_of, outs_of}
-use Rattle.run_audit.specs.Due.{AreDue}
-use Rattle.run_audit.specs.Numbering.{AllAreNumbered}
-use Rattle.run_audit.specs.Straying.{DifferFirst, AreOwnRuns, HistoryStraysAt, ArePut, IsPutStray, IsMapStray, IsFound}
-use Rattle.run_audit.specs.Outcome.{AreMerged, is_tick_of, ticks_of, AreTicked, IsOutcome}
 use Rattle.run_audit.proofs.Ahead.{split_at, queue_here, queue_elsewhere, with_length}
 use Rattle.run_audit.proofs.Making.{are_maps, nothing_queued}
 use Rattle.run_audit.proofs.Differing.{gives_none, gives_some}

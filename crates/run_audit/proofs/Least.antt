@@ -1,18 +1,6 @@
 -- The first frame that was not put as it was due, over several operators.
 use Rattle.std.proofs.Common.{◌≡◌, ℕ, zero, suc, ◌+◌, ◌<◌, ◌≤◌, List, [], ◌∷◌, length, map, take, get_or, Option, Some, None, ◌⊎◌, inl, inr, refl, sym, ap, ◌∙◌, subst, arith}
-use Rattle.std.specs.Prelude.{slice_get, MatchOption}
-use Rattle.std.proofs.lemmas.Bool.{cases_eq}
-use Rattle.std.proofs.lemmas.Option.{slice_get_within}
-use Rattle.operator_model.specs.Replay.{BookView}
-use Rattle.run_model.specs.declared.step.Step.{Step}
-use Rattle.run_model.specs.IsStateAfter.{AreNumbered}
-use Rattle.run_model.proofs.Numbers.{Numbered}
-use Rattle.run_model.proofs.Entries.{same_at}
-use Rattle.run_audit.specs.declared.placing.Placing.{Placing}
-use Rattle.run_audit.specs.Placings.{puts_of}
-use Rattle.run_audit.specs.Outs.{due_of}
-use Rattle.run_audit.specs.Straying.{ArePut, IsPutStray}
-use Rattle.run_audit.specs.Numbering.{AllAreNumbered, IsMissed}
+use Rattle.run_audit.proofs.Common.{slice_get, MatchOption, cases_eq, slice_get_within, BookView, Step, AreNumbered, Numbered, same_at, Placing, puts_of, due_of, ArePut, IsPutStray, AllAreNumbered, IsMissed}
 use Rattle.run_receipts.specs.Straying.{lesser}
 
 -- each of the first operators put what was due

@@ -1,3 +1,4 @@
+mod Common
 pub mod Placed
 pub mod Ahead
 pub mod Making

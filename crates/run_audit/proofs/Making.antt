@@ -1,25 +1,6 @@
 -- The MAPs that placings give are those of the run, where each operator put what was due.
 use Rattle.std.proofs.Common.{◌≡◌, ℕ, zero, suc, ◌<◌, ◌≤◌, List, [], ◌∷◌, ◌++◌, length, map, take, drop, Option, Some, None, refl, sym, ap, ◌∙◌, arith}
-use Rattle.std.specs.Prelude.{slice_get, replicate}
-use Rattle.std.specs.List.{AllByRecursion}
-use Rattle.std.proofs.lemmas.List.{length-map, length-replicate, length-drop, length-take-le}
-use Rattle.std.proofs.lemmas.List.Elements.{All-from_recursion}
-use Rattle.std.proofs.lemmas.Option.{none-some, same_Some, slice_get_within}
-use Rattle.slice_scheduler.specs.declared.elements.ElementsFields.{ElementsFields}
-use Rattle.plant.specs.declared.operator_row.RowFields.{RowFields}
-use Rattle.plant.specs.declared.plant.PlantFields.{PlantFields}
-use Rattle.map_assembly.specs.declared.map_bytes.MapBytes.{MapBytes}
-use Rattle.map_assembly.specs.Gathering.{Gathering, gathering_of, queue_of, IsGathering}
-use Rattle.run_model.specs.declared.step.Step.{Step}
-use Rattle.run_model.specs.OwnSteps.{collects_of}
-use Rattle.run_model.specs.IsTraceOf.{isolated_run, ArePartsAt, IsMapIn, IsLeast, AreMaps}
-use Rattle.run_model.specs.IsStateAfter.{frames_of}
-use Rattle.run_model.proofs.Entries.{some_at}
-use Rattle.run_model.proofs.Numbers.{Numbered, are_numbered, elements_are, of_number, found_at}
-use Rattle.run_model.proofs.Slices.{none_put}
-use Rattle.run_audit.specs.declared.placing.Placing.{Placing}
-use Rattle.run_audit.specs.Placings.{HaveMade}
-use Rattle.run_audit.specs.Due.{AreDue}
+use Rattle.run_audit.proofs.Common.{slice_get, replicate, AllByRecursion, length-map, length-replicate, length-drop, length-take-le, All-from_recursion, none-some, same_Some, slice_get_within, ElementsFields, RowFields, PlantFields, MapBytes, Gathering, gathering_of, queue_of, IsGathering, Step, collects_of, isolated_run, ArePartsAt, IsMapIn, IsLeast, AreMaps, frames_of, some_at, Numbered, are_numbered, elements_are, of_number, found_at, none_put, Placing, HaveMade, AreDue}
 use Rattle.run_audit.proofs.Ahead.{parts_of, ahead, IsMapAt, IsGiven, queue_at, given_by}
 
 all_at : {X : Type 0} (P : X → Type 0) (xs : List X) → ((k : ℕ) (x : X) → slice_get xs k ≡ Some x → P x) → AllByRecursion P xs

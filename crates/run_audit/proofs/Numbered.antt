@@ -1,12 +1,7 @@
 -- Frames that are numbered one after the other.
 use Rattle.std.proofs.Common.{◌≡◌, ℕ, zero, suc, ◌+◌, ◌≤◌, List, [], ◌∷◌, ◌++◌, length, take, Some, ap, ◌∙◌}
-use Rattle.std.specs.Prelude.{slice_get}
-use Rattle.std.proofs.lemmas.List.{length-take-le}
-use Rattle.std.proofs.lemmas.Option.{slice_get_within}
-use Rattle.run_model.specs.IsStateAfter.{AreNumbered}
-use Rattle.run_model.proofs.Numbers.{Numbered}
+use Rattle.run_audit.proofs.Common.{slice_get, length-take-le, slice_get_within, AreNumbered, Numbered, IsMissed}
 use Rattle.run_model.proofs.Fits.{number_at}
-use Rattle.run_audit.specs.Numbering.{IsMissed}
 use Rattle.run_audit.proofs.Differing.{get_append, differ_here, differ_end, flipped}
 
 pub take_numbered : (n count : ℕ) (frames : List Numbered) → AreNumbered n frames → AreNumbered n (take count frames)

@@ -1,23 +1,7 @@
 -- One placing more.
 use Rattle.std.proofs.Common.{◌≡◌, ℕ, List, [], ◌∷◌, ◌++◌, map, append_assoc, append-nil, length, ◌≤◌, Option, None, Result, Ok, Err, refl, sym, ap, ◌∙◌, subst, arith}
-use Rattle.std.specs.Prelude.{All, OnOk, OnErr}
-use Rattle.std.specs.List.{AllByRecursion}
-use Rattle.std.proofs.lemmas.List.Elements.{All-from_recursion, recursion_from_All}
-use Rattle.std.proofs.lemmas.List.{length-map}
-use Rattle.slice_scheduler.specs.Minislots.{IsSlice}
+use Rattle.run_audit.proofs.Common.{All, OnOk, OnErr, AllByRecursion, All-from_recursion, recursion_from_All, length-map, IsSlice, ElementsFields, PlantFields, SliceRow, MapBytes, GatherFault, Refused, Gathering, gathering_of, put_fault, after_put, MayReslice, gathering_after_reslice, IsGathering, IsPutResult, slice_of, Placing, Put, Reslice, map_if_made, HaveMade, HasPut}
 use Rattle.map_assembly.specs.Plan.{IsInFrame}
-use Rattle.slice_scheduler.specs.declared.elements.ElementsFields.{ElementsFields}
-use Rattle.plant.specs.declared.plant.PlantFields.{PlantFields}
-use Rattle.operator_model.specs.declared.action.SliceRow.{SliceRow}
-use Rattle.map_assembly.specs.declared.map_bytes.MapBytes.{MapBytes}
-use Rattle.map_assembly.specs.declared.refused.GatherFault.{GatherFault}
-use Rattle.map_assembly.specs.declared.refused.Refused.{Refused}
-use Rattle.map_assembly.specs.Gathering.{Gathering, gathering_of, put_fault, after_put, MayReslice, gathering_after_reslice, IsGathering}
-use Rattle.map_assembly.specs.Assembled.{IsPutResult}
-use Rattle.run_model.specs.OwnSteps.{slice_of}
-use Rattle.run_audit.specs.declared.placing.Placing.{Placing}
-use Rattle.run_audit.specs.declared.placing.Placing.TheVariants.{Put, Reslice}
-use Rattle.run_audit.specs.Placings.{map_if_made, HaveMade, HasPut}
 
 -- a part more is put
 pub put_more : (g after : Gathering) (placings : List Placing) (maps : List MapBytes) (op frame : ℕ) (part : ElementsFields) (made : Option MapBytes)

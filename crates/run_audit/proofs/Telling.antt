@@ -1,29 +1,10 @@
 -- What books and MAPs put out is what a run shows.
 use Rattle.std.proofs.Common.{◌≡◌, ℕ, zero, suc, ◌+◌, ◌<◌, List, [], ◌∷◌, ◌++◌, length, map, append-nil, Option, Some, None, refl, ap, ◌∙◌, arith}
-use Rattle.std.specs.Prelude.{slice_get, All}
-use Rattle.std.specs.List.{AllByRecursion}
-use Rattle.std.proofs.lemmas.List.Elements.{filter_map-append, All-from_recursion}
-use Rattle.std.proofs.lemmas.Option.{none-some, same_Some}
+use Rattle.run_audit.proofs.Common.{slice_get, All, AllByRecursion, filter_map-append, All-from_recursion, none-some, same_Some, ConstsFields, RowFields, Action, Entry, Output, OperatorState, opened_state, operator, own_step, own_run, BookView, actions_of, AreTold, PlantFields, MapBytes, Step, outputs_under, output_under, answers_of, map_in, maps_in, isolated_run, IsUnder, IsBookAfter, history_outputs, outs_from, outs_of}
 use Rattle.slice_scheduler.proofs.SumLemmas.{recursion-append}
-use Rattle.plant.specs.declared.consts.ConstsFields.{ConstsFields}
-use Rattle.plant.specs.declared.operator_row.RowFields.{RowFields}
-use Rattle.operator_model.specs.declared.action.Action.{Action}
-use Rattle.operator_model.specs.declared.action.Entry.{Entry}
-use Rattle.operator_model.specs.declared.output.Output.{Output}
-use Rattle.operator_model.specs.State.{OperatorState, opened_state, operator}
-use Rattle.operator_model.specs.Machine.{own_step, own_run}
-use Rattle.operator_model.specs.Replay.{BookView, actions_of, AreTold}
-use Rattle.plant.specs.declared.plant.PlantFields.{PlantFields}
-use Rattle.map_assembly.specs.declared.map_bytes.MapBytes.{MapBytes}
-use Rattle.run_model.specs.declared.step.Step.{Step}
 use Rattle.run_model.specs.declared.step.Out.{Out}
 use Rattle.run_model.specs.declared.step.Out.TheVariants as outs
-use Rattle.run_model.specs.OwnSteps.{outputs_under, output_under, answers_of, map_in, maps_in}
-use Rattle.run_model.specs.IsTraceOf.{isolated_run, IsUnder}
-use Rattle.run_model.specs.IsStateAfter.{IsBookAfter}
 use Rattle.run_model.proofs.Answers.{answers_here, answers_else, no_maps}
-use Rattle.run_receipts.specs.OwnParts.{history_outputs}
-use Rattle.run_audit.specs.Outs.{outs_from, outs_of}
 
 -- ---- a history's outputs are those of its own machine run alone
 

@@ -1,24 +1,13 @@
 -- Whose modem a modem is, and whose step a step.
 use Rattle.std.proofs.Common.{◌≡◌, ℕ, true, false, Bool, Option, Some, None, is_some, if◌then◌else◌, ◌⊎◌, inl, inr, refl, sym, ap, ◌∙◌, subst, arith}
-use Rattle.std.specs.Prelude.{◌==◌, slice_get}
-use Rattle.std.proofs.lemmas.Bool.{cases_eq, cond-false, eq-eqb, ne_eqb, false_from_ne_true, false≢true}
-use Rattle.std.proofs.lemmas.Option.{none-some, same_Some}
+use Rattle.run_audit.proofs.Common.{◌==◌, slice_get, cases_eq, cond-false, eq-eqb, ne_eqb, false_from_ne_true, false≢true, none-some, same_Some, RowFields, PlantFields, is_listed, IsPlant, Action, Step, action_of, is_collect, same_at, taken_by, waiting_operator}
 use Rattle.dsx_messages.specs.declared.modem.Modem.{Modem}
-use Rattle.plant.specs.declared.operator_row.RowFields.{RowFields}
-use Rattle.plant.specs.declared.plant.PlantFields.{PlantFields}
-use Rattle.plant.specs.Row.{is_listed}
-use Rattle.plant.specs.Plant.{IsPlant}
 use Rattle.plant.specs.Roster.{holder, ListsFirst}
 use Rattle.plant.proofs.Holders.{holder_holds, holder_is, one_lists}
 use Rattle.operator_model.specs.declared.heard.Heard.{Heard}
-use Rattle.operator_model.specs.declared.action.Action.{Action}
 use Rattle.operator_model.specs.declared.action.Action.TheVariants as actions
-use Rattle.run_model.specs.declared.step.Step.{Step}
 use Rattle.run_model.specs.declared.step.Step.TheVariants as steps
-use Rattle.run_model.specs.OwnSteps.{action_of, is_collect}
-use Rattle.run_model.proofs.Entries.{same_at}
 use Rattle.run_model.proofs.OwnActions.{arrive_at, work_at, tick_at}
-use Rattle.run_audit.specs.Taken.{taken_by, waiting_operator}
 
 module _ (plant : PlantFields) (modem : Modem) (op : ℕ) (row : RowFields) (is : IsPlant plant) (here : slice_get plant.rows op ≡ Some row) where
   pub held_by : (k : ℕ) → holder plant.rows modem ≡ Some k → (k == op) ≡ is_listed modem row.modems

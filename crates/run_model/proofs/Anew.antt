@@ -1,47 +1,14 @@
 -- Slices that each operator's book takes, and of which no two meet, are taken by the assembly.
 use Rattle.std.proofs.Common.{◌≡◌, ℕ, zero, suc, ◌+◌, ◌<◌, ◌≤◌, ◌==◌, ◌||◌, Bool, true, false, cond, List, [], ◌∷◌, ◌++◌, length, map, All, AllPairs, get_or, is_some, Option, Some, None, option_map, refl, sym, ap, ◌∙◌, subst, arith, nat_le, nat_lt}
-use Rattle.std.specs.Prelude.{slice_get, count_by, if◌then◌else◌}
-use Rattle.std.specs.List.{AllByRecursion, range_with_len}
-use Rattle.std.proofs.lemmas.Bool.{or_parts, leb-false, ltb-false, eqb-false, eqb-true}
-use Rattle.std.proofs.lemmas.List.{length-map}
-use Rattle.std.proofs.lemmas.List.Elements.{All-from_recursion}
-use Rattle.std.proofs.lemmas.Option.{slice_get-get_or, slice_get_within, slice_get-map, get_or_from_slice_get}
-use Rattle.slice_scheduler.specs.Minislots.{Minislots, slices_overlap}
-use Rattle.slice_scheduler.specs.declared.elements.ElementsFields.{ElementsFields}
-use Rattle.slice_scheduler.proofs.SumLemmas.{recursion-append}
-use Rattle.plant.specs.declared.consts.ConstsFields.{ConstsFields}
-use Rattle.plant.specs.declared.operator_row.RowFields.{RowFields}
-use Rattle.plant.specs.declared.plant.PlantFields.{PlantFields}
-use Rattle.plant.specs.Plant.{IsPlant}
+use Rattle.run_model.proofs.Common.{slice_get, count_by, if◌then◌else◌, AllByRecursion, range_with_len, or_parts, leb-false, ltb-false, eqb-false, eqb-true, length-map, All-from_recursion, slice_get-get_or, slice_get_within, slice_get-map, get_or_from_slice_get, Minislots, slices_overlap, ElementsFields, recursion-append, ConstsFields, RowFields, PlantFields, IsPlant, SliceRow, Action, Arrive, Work, Tick, Reslice, OperatorState, Operator, operator, next_at, is_tick, BookView, operator_of_book, SliceFrom, reslicings_in, MayRun, waiting_slice, arrived_none, worked_none, run_puts, Channel, Reslicing, quota_of, IsInFrame, AreSlices, Gathering, next_of, IsGathering, HasPutNoneFrom, MayReslice, Step, Out, own_steps, slice_of, reslicings_of, isolated_run_from, CoreView, IsStateAfterFrom, frames_of, Start, first_start, own_of, IsStart, IsStateAfter}
 use Rattle.flow_table.specs.Table.{committed_minislots}
-use Rattle.operator_model.specs.declared.action.SliceRow.{SliceRow}
-use Rattle.operator_model.specs.declared.action.Action.{Action}
-use Rattle.operator_model.specs.declared.action.Action.TheVariants.{Arrive, Work, Tick, Reslice}
 use Rattle.operator_model.specs.declared.action.Unfit.TheVariants.{NotPast, Unfinished, OffFrame, BudgetOverSlice, OverBudget}
 use Rattle.operator_model.specs.declared.share.NextShare.{NextShare}
-use Rattle.operator_model.specs.State.{OperatorState, Operator, operator}
-use Rattle.operator_model.specs.Frame.{next_at}
-use Rattle.operator_model.specs.Frames.{is_tick}
 use Rattle.operator_model.specs.Machine.{arrival_result, work_result, own_step, own_run, is_off_frame, unfit_from, IsAllowed}
-use Rattle.operator_model.specs.Replay.{BookView, operator_of_book}
-use Rattle.operator_model.specs.Slices.{SliceFrom, reslicings_in, MayRun, waiting_slice}
-use Rattle.operator_model.proofs.FrameLemmas.{arrived_none, worked_none, run_puts}
 use Rattle.operator_model.proofs.KeptLemmas.{pairs-map}
-use Rattle.plant.specs.declared.consts.Channel.{Channel}
-use Rattle.map_assembly.specs.declared.slicing.Reslicing.{Reslicing}
-use Rattle.map_assembly.specs.Part.{quota_of}
-use Rattle.map_assembly.specs.Plan.{IsInFrame, AreSlices}
-use Rattle.map_assembly.specs.Gathering.{Gathering, next_of, IsGathering, HasPutNoneFrom, MayReslice}
-use Rattle.run_model.specs.declared.step.Step.{Step}
-use Rattle.run_model.specs.declared.step.Out.{Out}
-use Rattle.run_model.specs.OwnSteps.{own_steps, slice_of, reslicings_of}
-use Rattle.run_model.specs.IsTraceOf.{isolated_run_from}
-use Rattle.run_model.specs.IsStateAfter.{CoreView, IsStateAfterFrom, frames_of}
 use Rattle.run_model.proofs.Entries.{some_at}
 use Rattle.run_model.proofs.Numbers.{Numbered, numbers_are}
 use Rattle.run_model.proofs.Fits.{may, own_all, put_so_far, queue_there, opened_starts}
-use Rattle.run_model.specs.Starts.{Start, first_start, own_of, IsStart}
-use Rattle.run_model.specs.IsStateAfter.{IsStateAfter}
 
 -- ---- what a book that takes a row tells
 

@@ -1,10 +1,6 @@
 -- What stands under an operator, and the MAPs, of outputs of one step.
 use Rattle.std.proofs.Common.{◌≡◌, ℕ, List, [], ◌∷◌, Option, Some, None, refl, sym, ap}
-use Rattle.std.proofs.lemmas.Bool.{eq-eqb, ne_eqb}
-use Rattle.operator_model.specs.declared.output.Output.{Output}
-use Rattle.map_assembly.specs.declared.map_bytes.MapBytes.{MapBytes}
-use Rattle.run_model.specs.OwnSteps.{answers_of, outputs_under, maps_in}
-use Rattle.run_model.specs.Steps.{told_map}
+use Rattle.run_model.proofs.Common.{eq-eqb, ne_eqb, Output, MapBytes, answers_of, outputs_under, maps_in, told_map}
 
 pub answers_here : (i k : ℕ) (outputs : List Output) → i ≡ k → answers_of i (outputs_under k outputs) ≡ outputs
 answers_here i k [] e = refl

@@ -1,21 +1,7 @@
 -- What a step makes of an operator's book and of what it has put out.
 use Rattle.std.proofs.Common.{◌≡◌, ℕ, List, [], ◌∷◌, ◌++◌, Option, Some, None, append-nil, refl, sym, ap, ◌∙◌, subst}
-use Rattle.std.proofs.lemmas.List.{map-append}
-use Rattle.plant.specs.declared.consts.ConstsFields.{ConstsFields}
-use Rattle.plant.specs.declared.operator_row.RowFields.{RowFields}
-use Rattle.plant.specs.declared.plant.PlantFields.{PlantFields}
-use Rattle.operator_model.specs.declared.action.Action.{Action}
-use Rattle.operator_model.specs.declared.action.Entry.{Entry}
-use Rattle.operator_model.specs.declared.output.Output.{Output}
-use Rattle.operator_model.specs.State.{operator}
-use Rattle.operator_model.specs.Machine.{own_step, IsAllowed}
-use Rattle.operator_model.specs.Replay.{BookView, IsReplayFrom, actions_of, book_after_action}
-use Rattle.run_model.specs.declared.step.Step.{Step}
-use Rattle.run_model.specs.OwnSteps.{action_of}
-use Rattle.run_model.specs.IsTraceOf.{isolated_run_from}
-use Rattle.run_model.specs.IsStateAfter.{IsBookFrom}
+use Rattle.run_model.proofs.Common.{map-append, ConstsFields, RowFields, PlantFields, Action, Entry, Output, operator, own_step, IsAllowed, BookView, IsReplayFrom, actions_of, book_after_action, Step, action_of, isolated_run_from, IsBookFrom, Start}
 use Rattle.run_model.proofs.OwnRuns.{own_more, own_same, alone_same, alone_state, alone_outputs, replay_push}
-use Rattle.run_model.specs.Starts.{Start}
 
 -- what an action, or none, makes of a book, and what is answered
 abbrev pub Moves : Option Action → BookView → BookView → List Output → Type 0

@@ -1,11 +1,6 @@
 -- An operator that keeps its row goes through changes of its plant.
 use Rattle.std.proofs.Common.{◌≡◌, ℕ, List, [], ◌∷◌, refl, ◌∙◌}
-use Rattle.plant.specs.declared.consts.ConstsFields.{ConstsFields}
-use Rattle.plant.specs.declared.operator_row.RowFields.{RowFields}
-use Rattle.operator_model.specs.State.{OperatorState, operator}
-use Rattle.operator_model.specs.Machine.{own_run}
-use Rattle.run_model.specs.OwnSteps.{own_steps}
-use Rattle.run_model.specs.Periods.{ArePeriodsOf}
+use Rattle.run_model.proofs.Common.{ConstsFields, RowFields, OperatorState, operator, own_run, own_steps, ArePeriodsOf}
 use Rattle.run_model.specs.Changing.{RunSoFar, AreChanges, KeepsProvisioning, periods, ServiceGoesThrough}
 
 through : (consts : ConstsFields) (row : RowFields) (state : OperatorState) (first : RunSoFar) (more : List RunSoFar) (places : List ℕ) → first.start.state row ≡ state

@@ -1,26 +1,12 @@
 -- The frames that are collected, once one more is.
 use Rattle.std.proofs.Common.{◌≡◌, ℕ, zero, suc, ◌+◌, ◌-◌, ◌<◌, ◌≤◌, cond, List, [], ◌∷◌, ◌++◌, length, map, take, drop, get_or, Option, Some, None, ◌⊎◌, inl, inr, refl, sym, ap, ◌∙◌, subst, arith}
-use Rattle.std.specs.Prelude.{◌==◌, slice_get, slice_set}
-use Rattle.std.proofs.lemmas.Bool.{cases_eq, eq-eqb, ne_eqb}
-use Rattle.std.proofs.lemmas.List.{length-map, length-drop, length-take-le, map-append, drop-append-le, drop-drop, drop-map, drop_more, take_more}
-use Rattle.std.proofs.lemmas.Option.{none-some, same_Some, slice_get_within, slice_get-get_or}
-use Rattle.slice_scheduler.specs.declared.elements.ElementsFields.{ElementsFields}
-use Rattle.plant.specs.declared.operator_row.RowFields.{RowFields}
-use Rattle.plant.specs.declared.plant.PlantFields.{PlantFields}
+use Rattle.run_model.proofs.Common.{◌==◌, slice_get, slice_set, cases_eq, eq-eqb, ne_eqb, length-map, length-drop, length-take-le, map-append, drop-append-le, drop-drop, drop-map, drop_more, take_more, none-some, same_Some, slice_get_within, slice_get-get_or, ElementsFields, RowFields, PlantFields, queue_of, with_part, Step, Out, maps_in, collects_of, isolated_run_from, CoreView, frames_of, AreFramesFrom, IsStateAfterFrom, Collects, Start}
 use Rattle.operator_model.specs.Handle.{StepResult}
-use Rattle.map_assembly.specs.Gathering.{queue_of, with_part}
-use Rattle.run_model.specs.declared.step.Step.{Step}
 use Rattle.run_model.specs.declared.step.Step.TheVariants as steps
-use Rattle.run_model.specs.declared.step.Out.{Out}
-use Rattle.run_model.specs.OwnSteps.{maps_in, collects_of}
-use Rattle.run_model.specs.IsTraceOf.{isolated_run_from}
-use Rattle.run_model.specs.IsStateAfter.{CoreView, frames_of, AreFramesFrom, IsStateAfterFrom}
-use Rattle.run_model.specs.Steps.{Collects}
 use Rattle.run_model.proofs.Entries.{get_same, get_other, same_at}
 use Rattle.run_model.proofs.OwnRuns.{alone_same}
 use Rattle.run_model.proofs.Numbers.{Numbered}
 use Rattle.run_model.proofs.Kept.{collects_more}
-use Rattle.run_model.specs.Starts.{Start}
 
 abbrev pub parts_in : List Numbered → List ElementsFields
 parts_in frames = map (λ frame. frame.1) frames

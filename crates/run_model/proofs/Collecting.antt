@@ -1,27 +1,8 @@
 -- A run is one of one step more, where that step collects a frame.
 use Rattle.std.proofs.Common.{◌≡◌, ℕ, ◌+◌, false, List, [], ◌∷◌, ◌++◌, length, map, drop, All, Option, Some, None, append-nil, option_map, refl, sym, ap, ◌∙◌, subst, arith}
-use Rattle.std.specs.Prelude.{slice_get}
-use Rattle.std.proofs.lemmas.Bool.{cond-true}
-use Rattle.std.proofs.lemmas.List.{length-set, length-map, length_push}
-use Rattle.std.proofs.lemmas.List.Elements.{filter_map-append, All-weaker, All-push, All-append}
-use Rattle.std.proofs.lemmas.Option.{slice_get-map, same_Some, slice_get_within}
-use Rattle.slice_scheduler.specs.declared.elements.ElementsFields.{ElementsFields}
-use Rattle.plant.specs.declared.operator_row.RowFields.{RowFields}
-use Rattle.plant.specs.declared.plant.PlantFields.{PlantFields}
-use Rattle.map_assembly.specs.declared.map_bytes.MapBytes.{MapBytes}
-use Rattle.map_assembly.specs.declared.slicing.Reslicing.{Reslicing}
-use Rattle.map_assembly.specs.Gathering.{Gathering, queue_of, is_last, IsGathering}
-use Rattle.map_assembly.specs.Assembled.{IsPutResult}
-use Rattle.map_assembly.proofs.StateLemmas.{after_other}
-use Rattle.run_model.specs.declared.step.Step.{Step}
+use Rattle.run_model.proofs.Common.{slice_get, cond-true, length-set, length-map, length_push, filter_map-append, All-weaker, All-push, All-append, slice_get-map, same_Some, slice_get_within, ElementsFields, RowFields, PlantFields, MapBytes, Reslicing, Gathering, queue_of, is_last, IsGathering, IsPutResult, after_other, Step, Out, maps_in, map_in, reslicing_in, reslicings_of, IsMapFrom, IsLeast, AreMapsFrom, IsUnder, IsCollected, CoreView, AreFramesFrom, IsStateAfterFrom, Collects, told_map, Start}
 use Rattle.run_model.specs.declared.step.Step.TheVariants as steps
-use Rattle.run_model.specs.declared.step.Out.{Out}
 use Rattle.run_model.specs.declared.step.Out.TheVariants as out
-use Rattle.run_model.specs.OwnSteps.{maps_in, map_in, reslicing_in, reslicings_of}
-use Rattle.run_model.specs.IsTraceOf.{IsMapFrom, IsLeast, AreMapsFrom, IsUnder}
-use Rattle.run_model.specs.Ordered.{IsCollected}
-use Rattle.run_model.specs.IsStateAfter.{CoreView, AreFramesFrom, IsStateAfterFrom}
-use Rattle.run_model.specs.Steps.{Collects, told_map}
 use Rattle.run_model.proofs.Entries.{some_at}
 use Rattle.run_model.proofs.Numbers.{Numbered}
 use Rattle.run_model.proofs.Moving.{EachMoves, collects_moves}
@@ -31,7 +12,6 @@ use Rattle.run_model.proofs.InOrder.{ordered_push}
 use Rattle.run_model.proofs.Under.{told_under}
 use Rattle.run_model.proofs.Collected.{then_collected, with_it, frames_put, frames_made, still_within}
 use Rattle.run_model.proofs.Making.{least_waits, least_made, made_in, frames_pushed}
-use Rattle.run_model.specs.Starts.{Start}
 
 -- a list of which each has lost its first
 first_dropped : (queues : List (List ElementsFields)) (i : ℕ) (put : List ElementsFields) → slice_get (map (λ queue. drop 1 queue) queues) i ≡ Some put → (queue : List ElementsFields) × (slice_get queues i ≡ Some queue) × (drop 1 queue ≡ put)

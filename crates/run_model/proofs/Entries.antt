@@ -1,7 +1,6 @@
 -- What stands at a place of a list.
 use Rattle.std.proofs.Common.{◌≡◌, ℕ, zero, suc, ◌<◌, List, [], ◌∷◌, length, Some, refl, sym, ap, ◌∙◌, arith}
-use Rattle.std.specs.Prelude.{slice_get, slice_set}
-use Rattle.std.proofs.lemmas.Option.{same_Some}
+use Rattle.run_model.proofs.Common.{slice_get, slice_set, same_Some}
 
 module _ {X : Type 0} where
   pub get_same : (xs : List X) (i : ℕ) (x : X) → i < length xs → slice_get (slice_set xs i x) i ≡ Some x

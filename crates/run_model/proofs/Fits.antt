@@ -1,40 +1,13 @@
 -- The frame that an operator's next collection takes is fit to be put.
 use Rattle.std.proofs.Common.{◌≡◌, ℕ, zero, suc, ◌+◌, ◌-◌, ◌<◌, ◌≤◌, true, false, List, [], ◌∷◌, ◌++◌, length, map, drop, Option, Some, None, option_map, refl, sym, ap, ◌∙◌, subst, arith, nat_lt}
-use Rattle.std.specs.Prelude.{slice_get}
-use Rattle.std.specs.List.{AllByRecursion}
-use Rattle.std.proofs.lemmas.Bool.{and_from, lt-leb, le-leb, eq-eqb, false_from_ne_true, ltb-true}
-use Rattle.std.proofs.lemmas.List.{length-map, map-append}
-use Rattle.std.proofs.lemmas.List.Elements.{recursion_from_All}
-use Rattle.std.proofs.lemmas.Option.{none-some, same_Some, slice_get-map, slice_get_within}
-use Rattle.slice_scheduler.specs.Minislots.{Minislots}
-use Rattle.slice_scheduler.specs.declared.elements.ElementsFields.{ElementsFields}
-use Rattle.plant.specs.declared.operator_row.RowFields.{RowFields}
-use Rattle.plant.specs.declared.plant.PlantFields.{PlantFields}
-use Rattle.plant.specs.Row.{IsRowOf}
-use Rattle.plant.specs.Plant.{IsPlant}
-use Rattle.operator_model.specs.declared.action.Action.{Action}
-use Rattle.operator_model.specs.State.{OperatorState, operator}
-use Rattle.operator_model.specs.Slices.{SliceFrom, reslicings_in, slice_in_frame, waiting_slice, slice_of_run, MayRun}
-use Rattle.operator_model.specs.Sound.{IsSound}
+use Rattle.run_model.proofs.Common.{slice_get, AllByRecursion, and_from, lt-leb, le-leb, eq-eqb, false_from_ne_true, ltb-true, length-map, map-append, recursion_from_All, none-some, same_Some, slice_get-map, slice_get_within, Minislots, ElementsFields, RowFields, PlantFields, IsRowOf, IsPlant, Action, OperatorState, operator, SliceFrom, reslicings_in, slice_in_frame, waiting_slice, slice_of_run, MayRun, IsSound, Quota, Reslicing, quota_of, is_fitting, is_slice, IsInFrame, AreSlices, Gathering, frame_slices, slices_at, queue_of, next_of, is_part, put_fault, IsGathering, Step, Out, own_steps, maps_in, collects_of, reslicings_of, isolated_run_from, CoreView, frames_of, IsStateAfterFrom, AreNumbered, Start, first_start, own_of, IsStart, IsStateAfter}
 use Rattle.operator_model.proofs.OpenedLemmas.{opened_sound}
 use Rattle.operator_model.proofs.SliceLemmas.{state-frames}
-use Rattle.map_assembly.specs.declared.quota.Quota.{Quota}
-use Rattle.map_assembly.specs.declared.slicing.Reslicing.{Reslicing}
-use Rattle.map_assembly.specs.Part.{quota_of, is_fitting, is_slice}
-use Rattle.map_assembly.specs.Plan.{IsInFrame, AreSlices}
-use Rattle.map_assembly.specs.Gathering.{Gathering, frame_slices, slices_at, queue_of, next_of, is_part, put_fault, IsGathering}
-use Rattle.run_model.specs.declared.step.Step.{Step}
-use Rattle.run_model.specs.declared.step.Out.{Out}
-use Rattle.run_model.specs.OwnSteps.{own_steps, maps_in, collects_of, reslicings_of}
-use Rattle.run_model.specs.IsTraceOf.{isolated_run_from}
-use Rattle.run_model.specs.IsStateAfter.{CoreView, frames_of, IsStateAfterFrom, AreNumbered}
 use Rattle.run_model.proofs.Entries.{some_at}
 use Rattle.run_model.proofs.Numbers.{Numbered, numbered_from}
 use Rattle.run_model.proofs.Collected.{put_length}
 use Rattle.run_model.proofs.OwnFrames.{at_place, IsOwn, run_own, told_may, of_slices}
 use Rattle.run_model.proofs.OwnSlices.{HaveOne, own_reslicings, own_slice}
-use Rattle.run_model.specs.Starts.{Start, first_start, own_of, IsStart}
-use Rattle.run_model.specs.IsStateAfter.{IsStateAfter}
 
 -- ---- what stands where
 

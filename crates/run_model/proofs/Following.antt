@@ -1,21 +1,9 @@
 -- Books, answers and outputs follow a step.
 use Rattle.std.proofs.Common.{◌≡◌, ℕ, List, [], ◌∷◌, ◌++◌, length, Some, sym, ap, ◌∙◌, arith}
-use Rattle.std.specs.Prelude.{slice_get}
-use Rattle.std.proofs.lemmas.List.Elements.{filter_map-append}
-use Rattle.std.proofs.lemmas.Option.{slice_get_within}
-use Rattle.plant.specs.declared.operator_row.RowFields.{RowFields}
-use Rattle.plant.specs.declared.plant.PlantFields.{PlantFields}
-use Rattle.operator_model.specs.declared.output.Output.{Output}
-use Rattle.operator_model.specs.Replay.{BookView}
-use Rattle.run_model.specs.declared.step.Step.{Step}
-use Rattle.run_model.specs.declared.step.Out.{Out}
-use Rattle.run_model.specs.OwnSteps.{answers_of, output_under}
-use Rattle.run_model.specs.IsTraceOf.{isolated_run_from}
-use Rattle.run_model.specs.IsStateAfter.{CoreView, IsBookFrom, IsStateAfterFrom}
+use Rattle.run_model.proofs.Common.{slice_get, filter_map-append, slice_get_within, RowFields, PlantFields, Output, BookView, Step, Out, answers_of, output_under, isolated_run_from, CoreView, IsBookFrom, IsStateAfterFrom, Start}
 use Rattle.run_model.proofs.Entries.{some_at}
 use Rattle.run_model.proofs.Books.{book_after, outputs_after}
 use Rattle.run_model.proofs.Moving.{EachMoves}
-use Rattle.run_model.specs.Starts.{Start}
 
 -- each operator's own machine, run alone, puts out what is answered more
 abbrev pub EachTells : PlantFields → Start → List Step → Step → List Out → Type 0

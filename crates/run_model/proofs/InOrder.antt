@@ -1,10 +1,6 @@
 -- The outputs of one step more stand behind the others.
 use Rattle.std.proofs.Common.{List, [], ◌∷◌, ◌++◌, append_assoc, append-nil, refl, sym, ap, ◌∙◌, subst}
-use Rattle.plant.specs.declared.plant.PlantFields.{PlantFields}
-use Rattle.run_model.specs.declared.step.Step.{Step}
-use Rattle.run_model.specs.declared.step.Out.{Out}
-use Rattle.run_model.specs.Ordered.{target, IsToldFrom, AreInOrderFrom, OrderedFrom}
-use Rattle.run_model.specs.Starts.{Start}
+use Rattle.run_model.proofs.Common.{PlantFields, Step, Out, target, IsToldFrom, AreInOrderFrom, OrderedFrom, Start}
 
 in_order_push : (plant : PlantFields) (start : Start) (before later : List Step) (all : List Out) (step : Step) (now : List Out) → AreInOrderFrom plant start before later all
     → IsToldFrom plant start (before ++ later) step (target plant step) now → AreInOrderFrom plant start before (later ++ step ∷ []) (all ++ now)

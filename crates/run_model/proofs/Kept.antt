@@ -1,20 +1,9 @@
 -- The MAPs of a run stay MAPs of it after one step more.
 use Rattle.std.proofs.Common.{◌≡◌, ℕ, ◌+◌, false, cond, List, [], ◌∷◌, ◌++◌, length, Some, append-nil, refl, sym, ap, ◌∙◌, subst, arith}
-use Rattle.std.specs.Prelude.{slice_get}
+use Rattle.run_model.proofs.Common.{slice_get, filter_map-append, All-weaker, ElementsFields, RowFields, PlantFields, MapBytes, Step, Out, answers_of, maps_in, map_in, is_collect, collects_of, isolated_run_from, elements_at_frame, IsMapFrom, IsLeast, AreMapsFrom, frames_of, frame_with_number, AreNumbered, Start, StandAtOneFrame}
 use Rattle.std.proofs.lemmas.List.Sums.{sum_by_push}
-use Rattle.std.proofs.lemmas.List.Elements.{filter_map-append, All-weaker}
-use Rattle.slice_scheduler.specs.declared.elements.ElementsFields.{ElementsFields}
-use Rattle.plant.specs.declared.operator_row.RowFields.{RowFields}
-use Rattle.plant.specs.declared.plant.PlantFields.{PlantFields}
-use Rattle.map_assembly.specs.declared.map_bytes.MapBytes.{MapBytes}
-use Rattle.run_model.specs.declared.step.Step.{Step}
-use Rattle.run_model.specs.declared.step.Out.{Out}
-use Rattle.run_model.specs.OwnSteps.{answers_of, maps_in, map_in, is_collect, collects_of}
-use Rattle.run_model.specs.IsTraceOf.{isolated_run_from, elements_at_frame, IsMapFrom, IsLeast, AreMapsFrom}
-use Rattle.run_model.specs.IsStateAfter.{frames_of, frame_with_number, AreNumbered}
 use Rattle.run_model.proofs.Following.{EachTells}
 use Rattle.run_model.proofs.Numbers.{numbered_from, of_number, elements_are, number_kept}
-use Rattle.run_model.specs.Starts.{Start, StandAtOneFrame}
 
 -- ---- frames
 

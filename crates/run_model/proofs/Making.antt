@@ -1,31 +1,10 @@
 -- The MAPs after a collection, which may make one.
 use Rattle.std.proofs.Common.{◌≡◌, ℕ, zero, suc, ◌+◌, ◌-◌, true, false, List, [], ◌∷◌, ◌++◌, length, map, take, drop, Some, refl, sym, ap, ◌∙◌, subst, arith}
-use Rattle.std.specs.Prelude.{slice_get}
-use Rattle.std.specs.List.{range_with_len}
-use Rattle.std.proofs.lemmas.List.{length-set, length_push, map_push}
-use Rattle.std.proofs.lemmas.Option.{slice_get_within}
-use Rattle.slice_scheduler.specs.Minislots.{Minislots}
-use Rattle.slice_scheduler.specs.declared.elements.ElementsFields.{ElementsFields}
-use Rattle.plant.specs.declared.plant.PlantFields.{PlantFields}
-use Rattle.plant.specs.declared.consts.Channel.{Channel}
-use Rattle.map_assembly.specs.declared.map_bytes.MapBytes.{MapBytes}
-use Rattle.map_assembly.specs.declared.quota.Quota.{Quota}
-use Rattle.map_assembly.specs.Part.{quota_of}
-use Rattle.map_assembly.specs.Gathering.{queue_of, is_last, frame_slices, frame_parts, IsGathering}
-use Rattle.map_assembly.specs.Assembled.{IsMapOf}
-use Rattle.map_assembly.proofs.LastLemmas.{length-fronts}
-use Rattle.map_assembly.proofs.StateLemmas.{is_put, last_is_first}
-use Rattle.run_model.specs.declared.step.Step.{Step}
-use Rattle.run_model.specs.declared.step.Out.{Out}
-use Rattle.run_model.specs.OwnSteps.{maps_in, collects_of}
-use Rattle.run_model.specs.IsTraceOf.{isolated_run_from, ArePartsFrom, IsMapFrom, IsLeast}
-use Rattle.run_model.specs.IsStateAfter.{CoreView, frames_of, IsStateAfterFrom}
-use Rattle.run_model.specs.Steps.{Collects}
+use Rattle.run_model.proofs.Common.{slice_get, range_with_len, length-set, length_push, map_push, slice_get_within, Minislots, ElementsFields, PlantFields, Channel, MapBytes, Quota, quota_of, queue_of, is_last, frame_slices, frame_parts, IsGathering, IsMapOf, length-fronts, is_put, last_is_first, Step, Out, maps_in, collects_of, isolated_run_from, ArePartsFrom, IsMapFrom, IsLeast, CoreView, frames_of, IsStateAfterFrom, Collects, Start}
 use Rattle.run_model.proofs.Entries.{some_at}
 use Rattle.run_model.proofs.Numbers.{numbered_from, elements_are, of_number, found_at}
 use Rattle.run_model.proofs.Slices.{is_front, some_put, none_put, parts_slices}
 use Rattle.run_model.proofs.Collected.{parts_in, then_collected, count_here, count_grows, put_length, first_put, with_it, k_within, here_before, frames_put, still_within}
-use Rattle.run_model.specs.Starts.{Start}
 
 range_push : (from count : ℕ) → range_with_len from count ++ (from + count) ∷ [] ≡ range_with_len from (count + 1)
 range_push from zero = let e : from + 0 ≡ from = omega arith in ap (λ (n : ℕ). n ∷ []) e

@@ -1,24 +1,9 @@
 -- What each kind of step makes of the operators' books.
 use Rattle.std.proofs.Common.{◌≡◌, ℕ, List, [], length, Option, Some, None, ◌⊎◌, inl, inr, refl, sym, ap, ◌∙◌, subst, arith}
-use Rattle.std.specs.Prelude.{slice_get, slice_set}
-use Rattle.std.proofs.lemmas.Bool.{cases_eq}
-use Rattle.std.proofs.lemmas.List.{length-set}
-use Rattle.std.proofs.lemmas.Option.{slice_get_within}
-use Rattle.plant.specs.declared.consts.ConstsFields.{ConstsFields}
-use Rattle.plant.specs.declared.operator_row.RowFields.{RowFields}
-use Rattle.plant.specs.declared.plant.PlantFields.{PlantFields}
-use Rattle.operator_model.specs.declared.action.SliceRow.{SliceRow}
-use Rattle.operator_model.specs.declared.action.Action.{Action}
+use Rattle.run_model.proofs.Common.{slice_get, slice_set, cases_eq, length-set, slice_get_within, ConstsFields, RowFields, PlantFields, SliceRow, Action, OperatorState, operator, BookView, book_after_action, Step, Out, action_of, resliced_by, answers_of, CoreView, Acts, Collects, Reslices}
 use Rattle.operator_model.specs.declared.action.Action.TheVariants as actions
-use Rattle.operator_model.specs.State.{OperatorState, operator}
 use Rattle.operator_model.specs.Machine.{own_step}
-use Rattle.operator_model.specs.Replay.{BookView, book_after_action}
-use Rattle.run_model.specs.declared.step.Step.{Step}
 use Rattle.run_model.specs.declared.step.Step.TheVariants as steps
-use Rattle.run_model.specs.declared.step.Out.{Out}
-use Rattle.run_model.specs.OwnSteps.{action_of, resliced_by, answers_of}
-use Rattle.run_model.specs.IsStateAfter.{CoreView}
-use Rattle.run_model.specs.Steps.{Acts, Collects, Reslices}
 use Rattle.run_model.proofs.Entries.{get_same, get_other, some_at, same_at}
 use Rattle.run_model.proofs.OwnActions.{IsActionAt}
 use Rattle.run_model.proofs.Books.{Moves}

@@ -1,25 +1,7 @@
 -- The frames of a run are numbered in order: a number tells its frame.
 use Rattle.std.proofs.Common.{◌≡◌, ℕ, zero, suc, ◌+◌, ◌<◌, List, [], ◌∷◌, ◌++◌, map, count_by, Option, Some, None, if◌then◌else◌, ◌⊎◌, inl, inr, refl, sym, ap, ◌∙◌, subst, arith}
-use Rattle.std.specs.Prelude.{◌==◌, slice_get, filter_map}
-use Rattle.std.specs.List.{range_with_len}
-use Rattle.std.proofs.lemmas.Bool.{cases_eq, eq-eqb, ne_eqb}
-use Rattle.std.proofs.lemmas.Option.{none-some, same_Some}
-use Rattle.slice_scheduler.specs.declared.elements.ElementsFields.{ElementsFields}
-use Rattle.plant.specs.declared.consts.ConstsFields.{ConstsFields}
-use Rattle.plant.specs.declared.operator_row.RowFields.{RowFields}
-use Rattle.operator_model.specs.declared.output.Output.{Output}
+use Rattle.run_model.proofs.Common.{◌==◌, slice_get, filter_map, range_with_len, cases_eq, eq-eqb, ne_eqb, none-some, same_Some, ElementsFields, ConstsFields, RowFields, Output, OperatorState, opened_state, operator, Action, own_run, frame_numbers, is_tick, run_puts, front_or, Step, own_steps, Start, isolated_run, isolated_run_from, elements_at_frame, frames_of, AreNumbered}
 use Rattle.operator_model.specs.declared.output.Output.TheVariants.{Reply, Silent, Frame}
-use Rattle.operator_model.specs.State.{OperatorState, opened_state, operator}
-use Rattle.operator_model.specs.declared.action.Action.{Action}
-use Rattle.operator_model.specs.Machine.{own_run}
-use Rattle.operator_model.specs.Frames.{frame_numbers, is_tick}
-use Rattle.operator_model.proofs.FrameLemmas.{run_puts}
-use Rattle.map_assembly.specs.Gathering.{front_or}
-use Rattle.run_model.specs.declared.step.Step.{Step}
-use Rattle.run_model.specs.OwnSteps.{own_steps}
-use Rattle.run_model.specs.Starts.{Start}
-use Rattle.run_model.specs.IsTraceOf.{isolated_run, isolated_run_from, elements_at_frame}
-use Rattle.run_model.specs.IsStateAfter.{frames_of, AreNumbered}
 
 abbrev pub Numbered : Type 0
 Numbered = ℕ × ElementsFields

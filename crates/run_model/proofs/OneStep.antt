@@ -1,21 +1,11 @@
 -- A run is one of one step more, of whatever kind it is.
 use Rattle.std.proofs.Common.{◌≡◌, List, [], ◌∷◌, ◌++◌, Some, refl, sym, ap, ◌∙◌}
-use Rattle.plant.specs.declared.plant.PlantFields.{PlantFields}
-use Rattle.plant.specs.Plant.{IsPlant}
-use Rattle.plant.specs.Roster.{holder}
+use Rattle.run_model.proofs.Common.{PlantFields, IsPlant, holder, IsGathering, Step, Out, action_at, CoreView, IsStateAfterFrom, Steps, Start, first_start, IsStateAfter}
 use Rattle.operator_model.specs.declared.action.Action.TheVariants as actions
-use Rattle.map_assembly.specs.Gathering.{IsGathering}
-use Rattle.run_model.specs.declared.step.Step.{Step}
 use Rattle.run_model.specs.declared.step.Step.TheVariants as steps
-use Rattle.run_model.specs.declared.step.Out.{Out}
-use Rattle.run_model.specs.Ordered.{action_at}
-use Rattle.run_model.specs.IsStateAfter.{CoreView, IsStateAfterFrom}
-use Rattle.run_model.specs.Steps.{Steps}
 use Rattle.run_model.proofs.OwnActions.{arrive_at, work_at, tick_at}
 use Rattle.run_model.proofs.Plain.{acts_reached, reslices_reached}
 use Rattle.run_model.proofs.Collecting.{collects_reached}
-use Rattle.run_model.specs.Starts.{Start, first_start}
-use Rattle.run_model.specs.IsStateAfter.{IsStateAfter}
 
 pub step_from : (plant : PlantFields) (start : Start) (before : List Step) (outs : List Out) (step : Step) (old new : CoreView) (now : List Out) → IsPlant plant → IsStateAfterFrom plant start before outs old → IsGathering old.gathering → Steps step old new now
     → IsStateAfterFrom plant start (before ++ step ∷ []) (outs ++ now) new

@@ -1,16 +1,6 @@
 -- A core as it is opened is what it is after no step.
 use Rattle.std.proofs.Common.{◌≡◌, ℕ, zero, suc, List, [], length, replicate, Option, Some, None, append-nil, option_map, refl, sym, ap, ◌∙◌, subst, arith}
-use Rattle.std.specs.Prelude.{slice_get}
-use Rattle.std.proofs.lemmas.List.{length-map, length-replicate}
-use Rattle.std.proofs.lemmas.List.Elements.{All-nil}
-use Rattle.std.proofs.lemmas.Option.{slice_get-map, same_Some, none-some}
-use Rattle.plant.specs.declared.operator_row.RowFields.{RowFields}
-use Rattle.plant.specs.declared.plant.PlantFields.{PlantFields}
-use Rattle.plant.specs.Plant.{IsPlant}
-use Rattle.run_model.specs.Starts.{Start, first_start, StandAtOneFrame}
-use Rattle.run_model.specs.IsTraceOf.{IsMapFrom, IsUnder}
-use Rattle.run_model.specs.IsStateAfter.{IsBookFrom, IsStateAfter, IsStateAfterFrom}
-use Rattle.run_model.specs.Opened.{opened_core, started_book, started_core}
+use Rattle.run_model.proofs.Common.{slice_get, length-map, length-replicate, All-nil, slice_get-map, same_Some, none-some, RowFields, PlantFields, IsPlant, Start, first_start, StandAtOneFrame, IsMapFrom, IsUnder, IsBookFrom, IsStateAfter, IsStateAfterFrom, opened_core, started_book, started_core}
 
 none_there : {X : Type 0} (n i : ℕ) (xs : List X) → slice_get (replicate n []) i ≡ Some xs → xs ≡ []
 none_there zero i xs e = let f : ◌≡◌ {A = Option _} None (Some xs) = e in absurd (none-some xs f)

@@ -1,20 +1,11 @@
 -- Whose action a step is: one operator's, and none of every other.
 use Rattle.std.proofs.Common.{◌≡◌, ℕ, true, Some, None, sym, ap, ◌∙◌, subst}
-use Rattle.std.specs.Prelude.{◌==◌, slice_get}
-use Rattle.std.proofs.lemmas.Bool.{eq-eqb, ne_eqb, cond-true, cond-false, false_from_ne_true}
+use Rattle.run_model.proofs.Common.{◌==◌, slice_get, eq-eqb, ne_eqb, cond-true, cond-false, false_from_ne_true, RowFields, PlantFields, is_listed, IsPlant, holder, ListsFirst, Action, Step, action_of}
 use Rattle.dsx_messages.specs.declared.modem.Modem.{Modem}
-use Rattle.plant.specs.declared.operator_row.RowFields.{RowFields}
-use Rattle.plant.specs.declared.plant.PlantFields.{PlantFields}
-use Rattle.plant.specs.Row.{is_listed}
-use Rattle.plant.specs.Plant.{IsPlant}
-use Rattle.plant.specs.Roster.{holder, ListsFirst}
 use Rattle.plant.proofs.Holders.{holder_holds, one_lists}
 use Rattle.operator_model.specs.declared.heard.Heard.{Heard}
-use Rattle.operator_model.specs.declared.action.Action.{Action}
 use Rattle.operator_model.specs.declared.action.Action.TheVariants as actions
-use Rattle.run_model.specs.declared.step.Step.{Step}
 use Rattle.run_model.specs.declared.step.Step.TheVariants as steps
-use Rattle.run_model.specs.OwnSteps.{action_of}
 use Rattle.run_model.proofs.Entries.{same_at}
 
 -- the step is this action of the operator at place k, and none of any other

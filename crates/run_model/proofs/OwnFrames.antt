@@ -1,33 +1,13 @@
 -- Each frame that a machine's own run puts out is a part that its operator may put.
 use Rattle.std.proofs.Common.{◌≡◌, ℕ, zero, suc, ◌+◌, ◌≤◌, true, List, [], ◌∷◌, ◌++◌, length, map, refl, sym, ap, ◌∙◌, subst}
-use Rattle.std.specs.Prelude.{slice_get, Option, Some, None, All}
-use Rattle.std.specs.List.{AllByRecursion, list_all}
-use Rattle.std.proofs.lemmas.Option.{none-some, same_Some}
-use Rattle.std.proofs.lemmas.List.Elements.{filter_map-append, recursion_from_All}
+use Rattle.run_model.proofs.Common.{slice_get, Option, Some, None, All, AllByRecursion, list_all, none-some, same_Some, filter_map-append, recursion_from_All, Minislots, ElementsFields, recursion-append, ConstsFields, RowFields, Action, Arrive, Work, Tick, Reslice, Entry, Output, OperatorState, operator, resent, tick_result, frame_elements, frame_numbers, actions_of, AreTold, IsOfItsSlice, MayRun, IsSound, arrived_none, worked_none, frames_of, frame_with_number}
 use Rattle.transactions.specs.declared.tick.Resend.{Resend}
 use Rattle.transactions.specs.Timers.{resent_in}
-use Rattle.slice_scheduler.specs.Minislots.{Minislots}
-use Rattle.slice_scheduler.specs.declared.elements.ElementsFields.{ElementsFields}
-use Rattle.slice_scheduler.proofs.SumLemmas.{recursion-append}
-use Rattle.plant.specs.declared.consts.ConstsFields.{ConstsFields}
-use Rattle.plant.specs.declared.operator_row.RowFields.{RowFields}
-use Rattle.operator_model.specs.declared.action.Action.{Action}
-use Rattle.operator_model.specs.declared.action.Action.TheVariants.{Arrive, Work, Tick, Reslice}
-use Rattle.operator_model.specs.declared.action.Entry.{Entry}
-use Rattle.operator_model.specs.declared.output.Output.{Output}
 use Rattle.operator_model.specs.declared.output.Output.TheVariants as outputs
-use Rattle.operator_model.specs.State.{OperatorState, operator}
-use Rattle.operator_model.specs.Frame.{resent, tick_result, frame_elements}
-use Rattle.operator_model.specs.Frames.{frame_numbers}
 use Rattle.operator_model.specs.Machine.{arrival_result, work_result, own_step, own_run}
-use Rattle.operator_model.specs.Replay.{actions_of, AreTold}
-use Rattle.operator_model.specs.Slices.{IsOfItsSlice, MayRun}
 use Rattle.operator_model.specs.Part.{is_own_sid}
-use Rattle.operator_model.specs.Sound.{IsSound}
-use Rattle.operator_model.proofs.FrameLemmas.{arrived_none, worked_none}
 use Rattle.operator_model.proofs.PartLemmas.{part_spans, part_pending, part_few}
 use Rattle.operator_model.proofs.StepLemmas.{step_sound}
-use Rattle.run_model.specs.IsStateAfter.{frames_of, frame_with_number}
 use Rattle.run_model.proofs.Numbers.{Numbered, numbers_are}
 
 -- what stands at a place of a list

@@ -1,20 +1,6 @@
 -- An operator's own run grows by one action, or not at all.
 use Rattle.std.proofs.Common.{◌≡◌, ℕ, List, [], ◌∷◌, ◌++◌, Option, Some, None, append_assoc, append-nil, refl, sym, ap, ◌∙◌, subst}
-use Rattle.std.specs.Prelude.{filter_map}
-use Rattle.std.proofs.lemmas.List.{map-append}
-use Rattle.std.proofs.lemmas.List.Elements.{filter_map-append}
-use Rattle.plant.specs.declared.consts.ConstsFields.{ConstsFields}
-use Rattle.plant.specs.declared.operator_row.RowFields.{RowFields}
-use Rattle.operator_model.specs.declared.action.Action.{Action}
-use Rattle.operator_model.specs.declared.action.Entry.{Entry}
-use Rattle.operator_model.specs.declared.output.Output.{Output}
-use Rattle.operator_model.specs.State.{OperatorState, operator}
-use Rattle.operator_model.specs.Machine.{own_step, own_run, IsAllowed}
-use Rattle.operator_model.specs.Replay.{actions_of, AreTold, IsReplayFrom}
-use Rattle.run_model.specs.declared.step.Step.{Step}
-use Rattle.run_model.specs.OwnSteps.{action_of, own_steps}
-use Rattle.run_model.specs.Starts.{Start}
-use Rattle.run_model.specs.IsTraceOf.{isolated_run_from}
+use Rattle.run_model.proofs.Common.{filter_map, map-append, filter_map-append, ConstsFields, RowFields, Action, Entry, Output, OperatorState, operator, own_step, own_run, IsAllowed, actions_of, AreTold, IsReplayFrom, Step, action_of, own_steps, Start, isolated_run_from}
 
 -- ---- one action more
 

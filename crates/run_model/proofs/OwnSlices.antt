@@ -1,20 +1,7 @@
 -- The re-slicings of a run's steps are, slice by slice, those of each operator's own steps.
 use Rattle.std.proofs.Common.{◌≡◌, ℕ, ◌<◌, ◌==◌, Bool, true, false, List, [], ◌∷◌, ◌++◌, length, map, find, reverse, Option, Some, option_map, refl, sym, ap, ◌∙◌, subst, arith, nat_le}
-use Rattle.std.specs.Prelude.{slice_get}
-use Rattle.std.specs.List.{AllByRecursion}
-use Rattle.std.proofs.lemmas.List.{length-map, map-append, reverse-append}
-use Rattle.std.proofs.lemmas.Option.{slice_get-map}
-use Rattle.slice_scheduler.specs.Minislots.{Minislots}
-use Rattle.slice_scheduler.proofs.SumLemmas.{recursion-append}
-use Rattle.plant.specs.declared.operator_row.RowFields.{RowFields}
-use Rattle.plant.specs.Row.{is_listed}
-use Rattle.operator_model.specs.Slices.{SliceFrom, reslicings_in, slice_or, slice_in_frame}
-use Rattle.map_assembly.specs.declared.slicing.Reslicing.{Reslicing}
-use Rattle.map_assembly.specs.Gathering.{slices_or, slices_at}
-use Rattle.run_model.specs.declared.step.Step.{Step}
+use Rattle.run_model.proofs.Common.{slice_get, AllByRecursion, length-map, map-append, reverse-append, slice_get-map, Minislots, recursion-append, RowFields, is_listed, SliceFrom, reslicings_in, slice_or, slice_in_frame, Reslicing, slices_or, slices_at, Step, own_steps, slice_of, reslicings_of, own_of}
 use Rattle.run_model.specs.declared.step.Step.TheVariants as steps
-use Rattle.run_model.specs.OwnSteps.{own_steps, slice_of, reslicings_of}
-use Rattle.run_model.specs.Starts.{own_of}
 use Rattle.run_model.proofs.Entries.{some_at}
 
 own_there : (i : ℕ) (r : Reslicing) → i < length r.slicing → slice_get r.slicing i ≡ Some (own_of i r).slice

@@ -1,22 +1,6 @@
 -- An operator that goes through plants notices what its own machine puts out.
 use Rattle.std.proofs.Common.{◌≡◌, ℕ, List, [], ◌∷◌, ◌++◌, append_assoc, ◌⊎◌, inl, inr, refl, sym, ap, ◌∙◌, subst, arith}
-use Rattle.std.specs.List.{Contains}
-use Rattle.std.proofs.lemmas.List.Elements.{filter_map-append, Contains-append_cases}
-use Rattle.slice_scheduler.specs.declared.elements.ElementsFields.{ElementsFields}
-use Rattle.plant.specs.declared.consts.ConstsFields.{ConstsFields}
-use Rattle.plant.specs.declared.operator_row.RowFields.{RowFields}
-use Rattle.operator_model.specs.declared.action.Action.{Action}
-use Rattle.operator_model.specs.declared.output.Output.{Output}
-use Rattle.operator_model.specs.State.{OperatorState, operator}
-use Rattle.operator_model.specs.Machine.{own_step, own_run}
-use Rattle.map_assembly.specs.declared.map_bytes.MapBytes.{MapBytes}
-use Rattle.map_assembly.specs.declared.view.MapView.{MapView}
-use Rattle.map_assembly.specs.Reading.{MapReads}
-use Rattle.map_assembly.specs.Tiled.{part_of, own_part}
-use Rattle.run_model.specs.OwnSteps.{own_steps, answers_of, maps_in}
-use Rattle.run_model.specs.IsTraceOf.{isolated_run_from, elements_at_frame}
-use Rattle.run_model.specs.IsStateAfter.{AreNumbered, frames_of, frame_with_number}
-use Rattle.run_model.specs.Periods.{Period, IsPeriodOf, ArePeriodsOf, steps_over, answers_over, maps_over, NoticesAlike}
+use Rattle.run_model.proofs.Common.{Contains, filter_map-append, Contains-append_cases, ElementsFields, ConstsFields, RowFields, Action, Output, OperatorState, operator, own_step, own_run, MapBytes, MapView, MapReads, part_of, own_part, own_steps, answers_of, maps_in, isolated_run_from, elements_at_frame, AreNumbered, frames_of, frame_with_number, Period, IsPeriodOf, ArePeriodsOf, steps_over, answers_over, maps_over, NoticesAlike}
 use Rattle.run_model.proofs.Numbers.{run_numbered, elements_are, of_number, number_kept, number_late}
 use Rattle.run_model.proofs.SharingOut.{shared_from}
 use Rattle.run_model.proofs.TwoRuns.{one_part}

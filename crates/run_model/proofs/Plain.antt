@@ -1,24 +1,7 @@
 -- A run is one of one step more, where that step collects nothing.
 use Rattle.std.proofs.Common.{◌≡◌, ℕ, false, List, [], ◌∷◌, ◌++◌, length, Option, Some, None, append-nil, refl, sym, ap, ◌∙◌, subst, arith}
-use Rattle.std.specs.Prelude.{All, slice_get}
-use Rattle.std.proofs.lemmas.List.Elements.{All-append}
-use Rattle.std.proofs.lemmas.Option.{slice_get_within}
-use Rattle.slice_scheduler.specs.declared.elements.ElementsFields.{ElementsFields}
-use Rattle.plant.specs.declared.plant.PlantFields.{PlantFields}
-use Rattle.operator_model.specs.declared.action.SliceRow.{SliceRow}
-use Rattle.operator_model.specs.declared.action.Action.{Action}
-use Rattle.operator_model.specs.State.{operator}
-use Rattle.operator_model.specs.Machine.{own_step}
-use Rattle.map_assembly.specs.declared.slicing.Reslicing.{Reslicing}
-use Rattle.map_assembly.specs.Gathering.{Gathering}
-use Rattle.run_model.specs.declared.step.Step.{Step}
+use Rattle.run_model.proofs.Common.{All, slice_get, All-append, slice_get_within, ElementsFields, PlantFields, SliceRow, Action, operator, own_step, Reslicing, Gathering, Step, Out, maps_in, is_collect, outputs_under, reslicings_of, target, IsToldFrom, AreOwnFrom, IsUnder, CoreView, AreFramesFrom, IsStateAfterFrom, Acts, Reslices, Start}
 use Rattle.run_model.specs.declared.step.Step.TheVariants as steps
-use Rattle.run_model.specs.declared.step.Out.{Out}
-use Rattle.run_model.specs.OwnSteps.{maps_in, is_collect, outputs_under, reslicings_of}
-use Rattle.run_model.specs.Ordered.{target, IsToldFrom, AreOwnFrom}
-use Rattle.run_model.specs.IsTraceOf.{IsUnder}
-use Rattle.run_model.specs.IsStateAfter.{CoreView, AreFramesFrom, IsStateAfterFrom}
-use Rattle.run_model.specs.Steps.{Acts, Reslices}
 use Rattle.run_model.proofs.Entries.{some_at}
 use Rattle.run_model.proofs.Answers.{no_maps}
 use Rattle.run_model.proofs.OwnActions.{IsActionAt}
@@ -29,7 +12,6 @@ use Rattle.run_model.proofs.Kept.{maps_same, maps_kept}
 use Rattle.run_model.proofs.Waiting.{EachWaits, acts_waits, acts_queues, reslices_waits, frames_follow, gathered_follows}
 use Rattle.run_model.proofs.InOrder.{ordered_push}
 use Rattle.run_model.proofs.Under.{own_under, told_under}
-use Rattle.run_model.specs.Starts.{Start}
 
 -- a core beside another: one plant, as many books and queues, and what is gathered, but for the slices that the step gives
 record IsBeside (step : Step) (old new : CoreView) : Type 0 where

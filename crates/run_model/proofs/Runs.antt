@@ -1,17 +1,9 @@
 -- A run is carried step by step.
 use Rattle.std.proofs.Common.{◌≡◌, ℕ, ◌+◌, ◌<◌, List, [], ◌∷◌, ◌++◌, length, take, get_or, append_assoc, append-nil, sym, ap, ◌∙◌, subst}
-use Rattle.std.proofs.lemmas.List.{take_more}
-use Rattle.plant.specs.declared.plant.PlantFields.{PlantFields}
-use Rattle.plant.specs.Plant.{IsPlant}
-use Rattle.run_model.specs.declared.step.Step.{Step}
-use Rattle.run_model.specs.declared.step.Out.{Out}
-use Rattle.run_model.specs.IsStateAfter.{CoreView, IsStateAfterFrom}
-use Rattle.run_model.specs.Opened.{opened_core}
+use Rattle.run_model.proofs.Common.{take_more, PlantFields, IsPlant, Step, Out, CoreView, IsStateAfterFrom, opened_core, Start, first_start, IsStateAfter}
 use Rattle.run_model.specs.Run.{IsRun}
 use Rattle.run_model.proofs.Opening.{opened_reached}
 use Rattle.run_model.proofs.OneStep.{step_from}
-use Rattle.run_model.specs.Starts.{Start, first_start}
-use Rattle.run_model.specs.IsStateAfter.{IsStateAfter}
 
 -- ---- over a list that is gone through: before it, by one more, behind it
 

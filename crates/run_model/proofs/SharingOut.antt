@@ -1,26 +1,10 @@
 -- The MAPs of a run: each minislot once, and to each operator its own.
 use Rattle.std.proofs.Common.{◌≡◌, ℕ, count_by, List, Some, option_map, ap, ◌∙◌, arith}
 use Rattle.std.specs.Prelude.{slice_get, Contains}
-use Rattle.std.proofs.lemmas.Option.{slice_get-map, slice_get_within}
-use Rattle.std.proofs.lemmas.List.Elements.{All-contains}
-use Rattle.plant.specs.declared.operator_row.RowFields.{RowFields}
-use Rattle.plant.specs.declared.plant.PlantFields.{PlantFields}
-use Rattle.map_assembly.specs.declared.map_bytes.MapBytes.{MapBytes}
-use Rattle.map_assembly.specs.declared.view.MapView.{MapView}
+use Rattle.run_model.proofs.Common.{slice_get-map, slice_get_within, All-contains, RowFields, PlantFields, MapBytes, MapView, quota_of, MapReads, holds, part_of, Step, Out, maps_in, IsMapFrom, IsTraceFrom, IsOwnPartFrom, IsSharedOutFrom, Start, first_start, IsTraceOf, IsSharedOut}
 use Rattle.map_assembly.specs.Map.{map_of}
-use Rattle.map_assembly.specs.Part.{quota_of}
-use Rattle.map_assembly.specs.Reading.{MapReads}
-use Rattle.map_assembly.specs.Tiled.{holds, part_of}
 use Rattle.map_assembly.proofs.ReadLemmas.{reads_once}
-use Rattle.run_model.specs.declared.step.Step.{Step}
-use Rattle.run_model.specs.declared.step.Out.{Out}
-use Rattle.run_model.specs.OwnSteps.{maps_in}
-use Rattle.run_model.specs.IsTraceOf.{IsMapFrom, IsTraceFrom}
-use Rattle.run_model.specs.SharedOut.{IsOwnPartFrom, IsSharedOutFrom}
 use Rattle.run_model.proofs.Entries.{some_at}
-use Rattle.run_model.specs.Starts.{Start, first_start}
-use Rattle.run_model.specs.IsTraceOf.{IsTraceOf}
-use Rattle.run_model.specs.SharedOut.{IsSharedOut}
 
 own_part_is : (plant : PlantFields) (start : Start) (steps : List Step) (i : ℕ) (row : RowFields) (made : MapBytes) (view : MapView) → slice_get plant.rows i ≡ Some row → IsMapFrom plant start steps made → MapReads made.bytes view
     → IsOwnPartFrom plant start steps i row made view

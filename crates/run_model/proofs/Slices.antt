@@ -1,16 +1,7 @@
 -- The parts of a frame have the slices of that frame.
 use Rattle.std.proofs.Common.{◌≡◌, ℕ, zero, suc, ◌<◌, Bool, true, false, ◌&&◌, ltb, List, [], ◌∷◌, ◌++◌, length, map, Option, Some, None, ◌⊎◌, inl, inr, refl, sym, ap, ◌∙◌, subst, arith}
-use Rattle.std.specs.Prelude.{slice_get}
-use Rattle.std.proofs.lemmas.Bool.{cases_eq, and_parts, ltb-true, lt-ltb}
-use Rattle.std.proofs.lemmas.List.{length-set}
-use Rattle.std.proofs.lemmas.Option.{none-some, same_Some, slice_get_within}
-use Rattle.slice_scheduler.specs.Minislots.{Minislots}
-use Rattle.slice_scheduler.specs.declared.elements.ElementsFields.{ElementsFields}
-use Rattle.map_assembly.specs.declared.quota.Quota.{Quota}
-use Rattle.map_assembly.specs.Gathering.{Gathering, slices_at, frame_slices, queue_of, fits_at, put_fault, with_part, is_whole, fronts, is_last, frame_parts, IsPartAt, AreQueued, IsGathering}
+use Rattle.run_model.proofs.Common.{slice_get, cases_eq, and_parts, ltb-true, lt-ltb, length-set, none-some, same_Some, slice_get_within, Minislots, ElementsFields, Quota, Gathering, slices_at, frame_slices, queue_of, fits_at, put_fault, with_part, is_whole, fronts, is_last, frame_parts, IsPartAt, AreQueued, IsGathering, length-fronts, is_put, last_is_first, last_frame, slices_valid}
 use Rattle.map_assembly.proofs.PartLemmas.{fits_in}
-use Rattle.map_assembly.proofs.LastLemmas.{length-fronts}
-use Rattle.map_assembly.proofs.StateLemmas.{is_put, last_is_first, last_frame, slices_valid}
 use Rattle.run_model.proofs.Entries.{get_same, get_other, some_at, same_at}
 
 -- ---- the fronts of queues

@@ -1,16 +1,6 @@
 -- Two cores in which an operator's own steps are the same, and two books that agree.
 use Rattle.std.proofs.Common.{◌≡◌, ℕ, List, refl, sym, ap, ◌∙◌}
-use Rattle.plant.specs.Plant.{AgreeOn}
-use Rattle.operator_model.specs.declared.action.Action.{Action}
-use Rattle.operator_model.specs.State.{operator}
-use Rattle.operator_model.specs.Machine.{own_step}
-use Rattle.run_model.specs.declared.step.Step.{Step}
-use Rattle.run_model.specs.declared.step.Out.{Out}
-use Rattle.run_model.specs.OwnSteps.{own_steps, answers_of}
-use Rattle.run_model.specs.IsTraceOf.{isolated_run}
-use Rattle.run_model.specs.IsStateAfter.{CoreView, IsStateAfter}
-use Rattle.run_model.specs.Steps.{Acts}
-use Rattle.run_model.specs.NonInterference.{NoticeTheSame}
+use Rattle.run_model.proofs.Common.{AgreeOn, Action, operator, own_step, Step, Out, own_steps, answers_of, isolated_run, CoreView, IsStateAfter, Acts, NoticeTheSame}
 use Rattle.run_model.proofs.Answers.{answers_here}
 use Rattle.run_model.proofs.TwoRuns.{notice_same}
 

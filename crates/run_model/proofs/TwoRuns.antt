@@ -1,20 +1,6 @@
 -- Two runs in which an operator's own steps are the same: it notices the same.
 use Rattle.std.proofs.Common.{◌≡◌, ℕ, List, [], ◌∷◌, sym, ap, ◌∙◌}
-use Rattle.slice_scheduler.specs.declared.elements.ElementsFields.{ElementsFields}
-use Rattle.plant.specs.declared.consts.ConstsFields.{ConstsFields}
-use Rattle.plant.specs.declared.operator_row.RowFields.{RowFields}
-use Rattle.plant.specs.declared.plant.PlantFields.{PlantFields}
-use Rattle.plant.specs.Plant.{AgreeOn}
-use Rattle.operator_model.specs.State.{opened_state, operator}
-use Rattle.operator_model.specs.Machine.{own_run}
-use Rattle.map_assembly.specs.Gathering.{front_or}
-use Rattle.map_assembly.specs.Tiled.{own_part}
-use Rattle.run_model.specs.declared.step.Step.{Step}
-use Rattle.run_model.specs.declared.step.Out.{Out}
-use Rattle.run_model.specs.OwnSteps.{own_steps}
-use Rattle.run_model.specs.Starts.{Start, first_start}
-use Rattle.run_model.specs.IsTraceOf.{isolated_run_from, elements_at_frame, IsTraceOf, IsTraceFrom}
-use Rattle.run_model.specs.NonInterference.{NoticeTheSame}
+use Rattle.run_model.proofs.Common.{ElementsFields, ConstsFields, RowFields, PlantFields, AgreeOn, opened_state, operator, own_run, front_or, own_part, Step, Out, own_steps, Start, first_start, isolated_run_from, elements_at_frame, IsTraceOf, IsTraceFrom, NoticeTheSame}
 use Rattle.run_model.proofs.SharingOut.{shared_from}
 
 same_alone : (p q : ConstsFields) (a b : Start) (row : RowFields) (i j : ℕ) (s t : List Step) → p ≡ q → a.state row ≡ b.state row → own_steps row i s ≡ own_steps row j t → (isolated_run_from p a row i s).outputs ≡ (isolated_run_from q b row j t).outputs

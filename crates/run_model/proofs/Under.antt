@@ -1,14 +1,6 @@
 -- What one step puts out stands under an operator of the plant, or is a MAP.
 use Rattle.std.proofs.Common.{◌≡◌, ℕ, ◌<◌, List, [], ◌∷◌, Option, Some, None, sym, subst}
-use Rattle.std.specs.Prelude.{All}
-use Rattle.std.specs.List.{AllByRecursion}
-use Rattle.std.proofs.lemmas.List.Elements.{All-from_recursion, All-nil}
-use Rattle.operator_model.specs.declared.output.Output.{Output}
-use Rattle.map_assembly.specs.declared.map_bytes.MapBytes.{MapBytes}
-use Rattle.run_model.specs.declared.step.Out.{Out}
-use Rattle.run_model.specs.OwnSteps.{outputs_under}
-use Rattle.run_model.specs.IsTraceOf.{IsUnder}
-use Rattle.run_model.specs.Steps.{told_map}
+use Rattle.run_model.proofs.Common.{All, AllByRecursion, All-from_recursion, All-nil, Output, MapBytes, Out, outputs_under, IsUnder, told_map}
 
 all_under : (count k : ℕ) (outputs : List Output) → k < count → AllByRecursion (IsUnder count) (outputs_under k outputs)
 all_under count k [] within = tt

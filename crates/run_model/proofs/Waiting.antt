@@ -1,32 +1,11 @@
 -- Frames that wait to be collected, after a step that collects nothing.
 use Rattle.std.proofs.Common.{◌≡◌, ℕ, ◌+◌, ◌≤◌, false, List, [], ◌∷◌, ◌++◌, length, map, take, drop, Some, append-nil, append_assoc, length-append, ◌⊎◌, inl, inr, sym, ap, ◌∙◌, arith}
-use Rattle.std.specs.Prelude.{slice_get, slice_set}
-use Rattle.std.proofs.lemmas.Bool.{cases_eq}
-use Rattle.std.proofs.lemmas.List.{length-set, take-append-le, drop-append-le}
-use Rattle.std.proofs.lemmas.List.Elements.{filter_map-append}
-use Rattle.std.proofs.lemmas.Option.{slice_get_within}
-use Rattle.slice_scheduler.specs.declared.elements.ElementsFields.{ElementsFields}
-use Rattle.plant.specs.declared.operator_row.RowFields.{RowFields}
-use Rattle.plant.specs.declared.plant.PlantFields.{PlantFields}
-use Rattle.operator_model.specs.declared.action.SliceRow.{SliceRow}
-use Rattle.operator_model.specs.declared.action.Action.{Action}
-use Rattle.operator_model.specs.declared.output.Output.{Output}
-use Rattle.operator_model.specs.State.{operator}
-use Rattle.operator_model.specs.Machine.{own_step}
-use Rattle.map_assembly.specs.declared.slicing.Reslicing.{Reslicing}
-use Rattle.map_assembly.specs.Gathering.{Gathering}
-use Rattle.run_model.specs.declared.step.Step.{Step}
-use Rattle.run_model.specs.declared.step.Out.{Out}
-use Rattle.run_model.specs.OwnSteps.{answers_of, maps_in, is_collect, collects_of, reslicing_in, reslicings_of}
-use Rattle.run_model.specs.IsTraceOf.{isolated_run_from}
-use Rattle.run_model.specs.IsStateAfter.{CoreView, frames_of, AreFramesFrom, IsGatheredFrom}
-use Rattle.run_model.specs.Steps.{Acts, Reslices}
+use Rattle.run_model.proofs.Common.{slice_get, slice_set, cases_eq, length-set, take-append-le, drop-append-le, filter_map-append, slice_get_within, ElementsFields, RowFields, PlantFields, SliceRow, Action, Output, operator, own_step, Reslicing, Gathering, Step, Out, answers_of, maps_in, is_collect, collects_of, reslicing_in, reslicings_of, isolated_run_from, CoreView, frames_of, AreFramesFrom, IsGatheredFrom, Acts, Reslices, Start}
 use Rattle.run_model.proofs.Entries.{get_same, get_other, same_at}
 use Rattle.run_model.proofs.Answers.{answers_here, answers_else}
 use Rattle.run_model.proofs.Following.{EachTells}
 use Rattle.run_model.proofs.Numbers.{Numbered}
 use Rattle.run_model.proofs.Kept.{frames_more, collects_same, maps_same}
-use Rattle.run_model.specs.Starts.{Start}
 
 -- each operator's frames wait behind those that waited
 abbrev pub EachWaits : CoreView → CoreView → List Out → Type 0

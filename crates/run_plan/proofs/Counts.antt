@@ -1,9 +1,6 @@
 -- What stands at a place of a list; and one more element, counted or not.
 use Rattle.std.proofs.Common.{◌≡◌, ℕ, ◌+◌, ◌<◌, length, get_or, refl, subst, Bool, true, false, List, take, count_by, Some, ap, ◌∙◌}
-use Rattle.std.specs.Prelude.{slice_get}
-use Rattle.std.proofs.lemmas.List.Sums.{count_by_more_yes, count_by_more_no}
-use Rattle.std.proofs.lemmas.Option.{slice_get_within, slice_get_read, get_or_from_slice_get}
-use Rattle.run_model.proofs.Entries.{same_at}
+use Rattle.run_plan.proofs.Common.{slice_get, count_by_more_yes, count_by_more_no, slice_get_within, slice_get_read, get_or_from_slice_get, same_at}
 
 module _ {X : Type 0} (p : X → Bool) (xs : List X) (at : ℕ) (x : X) (here : slice_get xs at ≡ Some x) where
   pub one_more : p x ≡ true → count_by p (take (at + 1) xs) ≡ count_by p (take at xs) + 1

@@ -1,20 +1,9 @@
 -- How far an operator has come, step by step.
 use Rattle.std.proofs.Common.{◌≡◌, ℕ, zero, suc, ◌+◌, ◌<◌, ◌≤◌, Bool, true, false, cond, List, [], ◌∷◌, ◌++◌, length, take, count_by, Option, Some, None, ◌⊎◌, inl, inr, refl, sym, ap, ◌∙◌, subst, arith, zero-add}
-use Rattle.std.specs.Prelude.{slice_get, filter_map}
-use Rattle.std.proofs.lemmas.Bool.{cases_eq, false≢true}
-use Rattle.std.proofs.lemmas.List.{length-append, length-take-le, take-append-le}
-use Rattle.std.proofs.lemmas.List.Sums.{sum_by-append, count_by-le-length}
-use Rattle.std.proofs.lemmas.Option.{same_Some, slice_get_within}
-use Rattle.plant.specs.declared.operator_row.RowFields.{RowFields}
+use Rattle.run_plan.proofs.Common.{slice_get, filter_map, cases_eq, false≢true, length-append, length-take-le, take-append-le, sum_by-append, count_by-le-length, same_Some, slice_get_within, RowFields, Tick, Step, action_of, own_steps, is_collect, Course, IsTickAt, IsCourse}
 use Rattle.operator_model.specs.declared.action.Action.{Action}
-use Rattle.operator_model.specs.declared.action.Action.TheVariants.{Tick}
 use Rattle.operator_model.specs.Frames.{is_tick}
-use Rattle.run_model.specs.declared.step.Step.{Step}
-use Rattle.run_model.specs.OwnSteps.{action_of, own_steps, is_collect}
 use Rattle.run_audit.proofs.Differing.{gives_none, gives_some, more_none, more_some}
-use Rattle.run_plan.specs.declared.turns.Course.{Course}
-use Rattle.run_plan.specs.Turns.{IsTickAt}
-use Rattle.run_plan.specs.Courses.{IsCourse}
 use Rattle.run_plan.proofs.Counts.{one_more, no_more}
 
 -- ---- lists

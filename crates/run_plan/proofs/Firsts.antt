@@ -1,13 +1,6 @@
 -- What the steps are decides what is told.
 use Rattle.std.proofs.Common.{◌≡◌, ◌↔◌, ℕ, ◌+◌, ◌<◌, List, take, Option, Some, None, ◌⊎◌, inl, inr, refl, sym, ap, ◌∙◌, subst, arith}
-use Rattle.std.specs.Prelude.{slice_get, IfSome, IfNone}
-use Rattle.std.proofs.lemmas.Bool.{cases_eq}
-use Rattle.std.proofs.lemmas.Option.{none-some, same_Some, slice_get_within}
-use Rattle.plant.specs.declared.plant.PlantFields.{PlantFields}
-use Rattle.run_model.specs.declared.step.Step.{Step}
-use Rattle.run_model.proofs.Entries.{same_at}
-use Rattle.live_core.specs.declared.core_fault.CoreFault.{CoreFault}
-use Rattle.run_plan.specs.Serving.{unserved_by, AreServed, IsServable, IsFirstUnserved}
+use Rattle.run_plan.proofs.Common.{slice_get, IfSome, IfNone, cases_eq, none-some, same_Some, slice_get_within, PlantFields, Step, same_at, CoreFault, unserved_by, AreServed, IsServable, IsFirstUnserved}
 
 module _ (plant : PlantFields) (all : List Step) where
   -- one more step is served

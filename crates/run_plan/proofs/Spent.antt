@@ -1,16 +1,8 @@
 -- Where frame numbers are spent, operator by operator.
 use Rattle.std.proofs.Common.{◌≡◌, ℕ, ◌+◌, ◌<◌, ◌≤◌, true, false, List, length, take, Option, Some, None, ◌⊎◌, inl, inr, refl, sym, ap, ◌∙◌, subst, arith, below_more}
-use Rattle.std.specs.Prelude.{slice_get, min, MatchOption}
-use Rattle.std.proofs.lemmas.Bool.{eq-eqb, eqb-true, false≢true}
-use Rattle.std.proofs.lemmas.List.{length-take-le}
-use Rattle.std.proofs.lemmas.List.Sums.{count_by-le-length}
-use Rattle.std.proofs.lemmas.Option.{same_Some, slice_get_within}
-use Rattle.plant.specs.declared.plant.PlantFields.{PlantFields}
-use Rattle.run_model.specs.declared.step.Step.{Step}
+use Rattle.run_plan.proofs.Common.{slice_get, min, MatchOption, eq-eqb, eqb-true, false≢true, length-take-le, count_by-le-length, same_Some, slice_get_within, PlantFields, Step, is_tick_of, ticks_of, IsSpentAt, IsOwnSpent, NoneSpentBefore, IsFirstSpent}
 use Rattle.run_model.specs.declared.step.Step.TheVariants as steps
-use Rattle.run_audit.specs.Outcome.{is_tick_of, ticks_of}
 use Rattle.run_receipts.specs.Straying.{lesser}
-use Rattle.run_plan.specs.Spending.{IsSpentAt, IsOwnSpent, NoneSpentBefore, IsFirstSpent}
 
 pub tick_is : (op : ℕ) (step : Step) → is_tick_of op step ≡ true → step ≡ steps.Tick op
 tick_is op (steps.Arrive modem heard) e = absurd (false≢true e)

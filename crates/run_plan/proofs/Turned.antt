@@ -1,21 +1,8 @@
 -- Turns and courses, step by step.
 use Rattle.std.proofs.Common.{◌≡◌, ℕ, ◌+◌, ◌<◌, ◌≤◌, List, [], ◌∷◌, ◌++◌, length, take, Some, ◌⊎◌, inl, inr, refl, sym, ap, ◌∙◌, subst, arith}
-use Rattle.std.specs.Prelude.{slice_get, slice_set}
-use Rattle.std.proofs.lemmas.Bool.{cases_eq}
-use Rattle.std.proofs.lemmas.List.{length-set}
-use Rattle.std.proofs.lemmas.Option.{none-some, same_Some, slice_get_within}
-use Rattle.plant.specs.declared.operator_row.RowFields.{RowFields}
-use Rattle.plant.specs.declared.plant.PlantFields.{PlantFields}
+use Rattle.run_plan.proofs.Common.{slice_get, slice_set, cases_eq, length-set, none-some, same_Some, slice_get_within, RowFields, PlantFields, Tick, Step, own_steps, collects_of, get_same, get_other, same_at, others_none, Course, IsDueAt, IsTurn, IsCourse, IsOwnTurn, IsNewCourse, AreNewCourses, AreCourses}
 use Rattle.plant.specs.Plant.{IsPlant}
-use Rattle.operator_model.specs.declared.action.Action.TheVariants.{Tick}
-use Rattle.run_model.specs.declared.step.Step.{Step}
-use Rattle.run_model.specs.OwnSteps.{own_steps, collects_of}
-use Rattle.run_model.proofs.Entries.{get_same, get_other, same_at}
-use Rattle.run_audit.proofs.Whose.{others_none}
-use Rattle.run_plan.specs.declared.turns.Course.{Course}
 use Rattle.run_audit.specs.Taken.{waiting_operator}
-use Rattle.run_plan.specs.Turns.{IsDueAt, IsTurn}
-use Rattle.run_plan.specs.Courses.{IsCourse, IsOwnTurn, IsNewCourse, AreNewCourses, AreCourses}
 use Rattle.run_plan.proofs.Courses.{get_front, get_last, length_end, course_none}
 
 -- ---- one step more, operator by operator

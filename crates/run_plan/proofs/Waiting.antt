@@ -1,18 +1,9 @@
 -- How many frames wait, step by step.
 use Rattle.std.proofs.Common.{◌≡◌, ℕ, ◌+◌, ◌-◌, ◌<◌, ◌≤◌, Bool, false, List, [], length, take, replicate, Some, None, Option, ◌⊎◌, inl, inr, refl, sym, ap, ◌∙◌, arith}
-use Rattle.std.specs.Prelude.{slice_get, slice_set, slice_index, if◌then◌else◌}
-use Rattle.std.proofs.lemmas.Bool.{cases_eq, eq-eqb, ne_eqb, lt-ltb, le-ltb}
+use Rattle.run_plan.proofs.Common.{slice_get, slice_set, slice_index, if◌then◌else◌, cases_eq, eq-eqb, ne_eqb, lt-ltb, le-ltb, length-set, length-take-le, get_or-set_other, take-replicate, length-replicate, get_or-replicate, count_by-le-length, PlantFields, Step, is_collect, collects_of, is_tick_of, ticks_of, CoreFault, AreWaiting, past, all_collected}
 use Rattle.std.proofs.lemmas.Grind.{get_or-set_at}
-use Rattle.std.proofs.lemmas.List.{length-set, length-take-le, get_or-set_other, take-replicate, length-replicate, get_or-replicate}
-use Rattle.std.proofs.lemmas.List.Sums.{count_by-le-length}
-use Rattle.plant.specs.declared.plant.PlantFields.{PlantFields}
-use Rattle.run_model.specs.declared.step.Step.{Step}
 use Rattle.run_model.specs.declared.step.Step.TheVariants as steps
-use Rattle.run_model.specs.OwnSteps.{is_collect, collects_of}
-use Rattle.run_audit.specs.Outcome.{is_tick_of, ticks_of}
-use Rattle.live_core.specs.declared.core_fault.CoreFault.{CoreFault}
 use Rattle.live_core.specs.declared.core_fault.CoreFault.TheVariants.{UnknownOperator, NothingToCollect}
-use Rattle.run_plan.specs.Serving.{AreWaiting, past, all_collected}
 use Rattle.run_plan.proofs.Counts.{one_more, no_more}
 
 module _ (operators : ℕ) (all : List Step) (at : ℕ) (waiting : List ℕ) (are : AreWaiting operators (take at all) waiting) where

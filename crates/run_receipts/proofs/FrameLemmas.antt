@@ -1,24 +1,11 @@
 -- The frame of a number among frames that are numbered one after the other.
 use Rattle.std.proofs.Common.{◌≡◌, ℕ, zero, suc, ◌+◌, ◌<◌, ◌≤◌, List, [], ◌∷◌, ◌++◌, length, get_or, drop, append_assoc, map, ◌⊎◌, inl, inr, Option, Some, None, refl, sym, ap, ◌∙◌, arith}
-use Rattle.std.specs.Prelude.{slice_get}
-use Rattle.std.specs.List.{range_with_len}
-use Rattle.std.proofs.lemmas.Bool.{cases_eq, cases_lt, ne_eqb}
-use Rattle.std.proofs.lemmas.Option.{same_Some, slice_get-map}
-use Rattle.std.proofs.lemmas.List.{drop_more}
-use Rattle.std.proofs.lemmas.List.Elements.{filter_map-append}
+use Rattle.run_receipts.proofs.Common.{slice_get, range_with_len, cases_eq, cases_lt, ne_eqb, same_Some, slice_get-map, drop_more, filter_map-append, Entry, Operator, frame_numbers, actions_of, AreTold, elements_at_frame, history_outputs, Frame, frames_with_numbers}
 use Rattle.std.specs.Option.{option_map}
-use Rattle.operator_model.specs.declared.action.Entry.{Entry}
 use Rattle.operator_model.specs.declared.output.Output.{Output}
-use Rattle.operator_model.specs.State.{Operator}
 use Rattle.operator_model.specs.Machine.{own_step, after_step, own_run}
-use Rattle.operator_model.specs.Frames.{frame_numbers}
-use Rattle.operator_model.specs.Replay.{actions_of, AreTold}
-use Rattle.run_model.specs.IsTraceOf.{elements_at_frame}
 use Rattle.run_model.specs.IsStateAfter.{frames_of, AreNumbered, frame_with_number as numbered_output}
 use Rattle.run_model.proofs.Numbers.{Numbered, of_number, elements_are, numbers_are, found_at}
-use Rattle.run_receipts.specs.OwnParts.{history_outputs}
-use Rattle.run_receipts.specs.declared.own_frames.Frame.{Frame}
-use Rattle.run_receipts.specs.Framing.{frames_with_numbers}
 
 none_within : (first k : ℕ) (frames : List Numbered) → AreNumbered first frames → (k < first) ⊎ (first + length frames ≤ k) → of_number k frames ≡ []
 none_within first k [] h out = refl

@@ -1,9 +1,7 @@
 -- The least of two.
 use Rattle.std.proofs.Common.{◌≡◌, ℕ, ◌<◌, ◌≤◌, ◌⊎◌, inl, inr, ⊎_elim, Option, Some, None, refl, sym, ap, subst, arith}
-use Rattle.std.specs.Prelude.{min, MatchOption}
-use Rattle.std.proofs.lemmas.Bool.{cases_lt}
+use Rattle.run_receipts.proofs.Common.{min, MatchOption, cases_lt, lesser, IsLeastOr}
 use Rattle.std.proofs.Math.Nat.{min-eq_left, min-eq_right}
-use Rattle.run_receipts.specs.Straying.{lesser, IsLeastOr}
 
 pub lesser-none : (a : Option ℕ) → lesser a None ≡ a
 lesser-none None = refl

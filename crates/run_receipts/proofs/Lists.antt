@@ -1,11 +1,6 @@
 -- Lists, place by place.
 use Rattle.std.proofs.Common.{◌≡◌, ℕ, zero, suc, ◌+◌, ◌<◌, ◌≤◌, List, [], ◌∷◌, ◌++◌, length, get_or, map, take, drop, All, ◌⊎◌, inl, inr, Some, refl, sym, ap, ◌∙◌, subst, arith}
-use Rattle.std.specs.Prelude.{slice_get}
-use Rattle.std.specs.List.{AllZip}
-use Rattle.std.proofs.lemmas.Bool.{cases_eq}
-use Rattle.std.proofs.lemmas.List.{take_more, take_all, take-append-drop, drop_more, map-append}
-use Rattle.std.proofs.lemmas.List.Elements.{All-more}
-use Rattle.std.proofs.lemmas.Option.{same_Some}
+use Rattle.run_receipts.proofs.Common.{slice_get, AllZip, cases_eq, take_more, take_all, take-append-drop, drop_more, map-append, All-more, same_Some}
 
 module _ {A B : Type 0} (R : A → B → Type 0) where
   pub zip_push : (xs : List A) (ys : List B) (x : A) (y : B) → AllZip R xs ys → R x y → AllZip R (xs ++ x ∷ []) (ys ++ y ∷ [])

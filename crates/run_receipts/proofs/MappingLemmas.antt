@@ -1,21 +1,13 @@
 -- That what a MAP says to an operator is its own frame.
 use Rattle.std.proofs.Common.{◌≡◌, ℕ, ◌+◌, ◌≤◌, Bool, true, false, IsTrue, List, [], ◌∷◌, length, drop, count_by, All, Option, None, Result, Ok, Err, IfOk, sym, ap, ◌∙◌, subst, arith}
-use Rattle.std.specs.Prelude.{◌↔◌, min, MatchOption}
-use Rattle.std.proofs.lemmas.Bool.{false≢true}
-use Rattle.std.proofs.Math.ListN.{drop_of_length-le}
+use Rattle.run_receipts.proofs.Common.{◌↔◌, min, MatchOption, false≢true, drop_of_length-le, BookView, MapBytes, MapSpan, elements_at_frame, history_outputs, IsFramePart, HasOwnParts, AreFramesOf}
 use Rattle.slice_scheduler.specs.declared.elements.ElementsFields.{ElementsFields}
-use Rattle.operator_model.specs.Replay.{BookView}
-use Rattle.map_assembly.specs.declared.map_bytes.MapBytes.{MapBytes}
-use Rattle.map_assembly.specs.declared.view.MapSpan.{MapSpan}
 use Rattle.map_assembly.specs.declared.view.MapView.{MapView}
 use Rattle.map_assembly.specs.declared.view.MapFault.{MapFault}
 use Rattle.map_assembly.specs.declared.view.MapFault.TheVariants.{NoMemory}
 use Rattle.map_assembly.specs.Reading.{MapReads}
 use Rattle.map_assembly.specs.Tiled.{MapPart, part_of, own_part}
-use Rattle.run_model.specs.IsTraceOf.{elements_at_frame}
 use Rattle.run_receipts.specs.declared.own_frames.OwnFrames.{OwnFrames}
-use Rattle.run_receipts.specs.OwnParts.{history_outputs, IsFramePart, HasOwnParts}
-use Rattle.run_receipts.specs.Framing.{AreFramesOf}
 
 -- the two parts say the same
 abbrev pub SayTheSame : MapPart → MapPart → Type 0

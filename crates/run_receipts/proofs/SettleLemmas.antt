@@ -1,18 +1,8 @@
 -- Operator by operator, and what settles all.
 use Rattle.std.proofs.Common.{◌≡◌, ℕ, ◌+◌, ◌<◌, ◌≤◌, List, ◌∷◌, ◌++◌, length, All, ◌⊎◌, inl, inr, Option, Some, None, sym, ap, ◌∙◌, subst, arith}
-use Rattle.std.specs.Prelude.{slice_get, MatchOption, Result, Err, IsErrAnd, ◌↔◌}
-use Rattle.std.proofs.lemmas.Bool.{cases_eq, cases_lt}
-use Rattle.std.proofs.lemmas.Option.{same_Some, slice_get_within}
-use Rattle.operator_model.specs.declared.action.Entry.{Entry}
-use Rattle.operator_model.specs.Replay.{BookView}
-use Rattle.map_assembly.specs.declared.map_bytes.MapBytes.{MapBytes}
-use Rattle.run_receipts.specs.declared.receipt.Receipt.{Receipt}
+use Rattle.run_receipts.proofs.Common.{slice_get, MatchOption, Result, Err, IsErrAnd, ◌↔◌, cases_eq, cases_lt, same_Some, slice_get_within, Entry, BookView, MapBytes, Receipt, times, IsMergeOf, IsLeastOr, Strays, AllStand, HasOwnParts, IsSettled, StraysAt, IsShort, EachStands, NoneStrays, NoneIsShort, IsFirstStrayed, IsFirstShort, IsFirstMapStrayed, IsFirstFault}
 use Rattle.run_receipts.specs.declared.run_fault.RunFault.{RunFault}
 use Rattle.run_receipts.specs.declared.run_fault.RunFault.TheVariants.{Strayed, Short, Core, NoMemory, MapStrayed, ResliceRefused}
-use Rattle.run_receipts.specs.Merge.{times, IsMergeOf}
-use Rattle.run_receipts.specs.Straying.{IsLeastOr, Strays, AllStand}
-use Rattle.run_receipts.specs.OwnParts.{HasOwnParts}
-use Rattle.run_receipts.specs.Settling.{IsSettled, StraysAt, IsShort, EachStands, NoneStrays, NoneIsShort, IsFirstStrayed, IsFirstShort, IsFirstMapStrayed, IsFirstFault}
 use Rattle.run_receipts.proofs.Lists.{each_or_some, middle, before_end}
 use Rattle.run_receipts.proofs.StrayLemmas.{none_strays, callers_stand, callers_ascend, stand_callers}
 

@@ -1,14 +1,7 @@
 -- Receipts that stray, and those that stand.
 use Rattle.std.proofs.Common.{◌≡◌, ℕ, zero, suc, ◌+◌, ◌<◌, ◌≤◌, List, [], ◌∷◌, length, get_or, map, drop, All, ◌⊎◌, inl, inr, ⊎_elim, Option, Some, None, sym, ap, ◌∙◌, subst, arith}
-use Rattle.std.specs.Prelude.{slice_index, MatchOption}
+use Rattle.run_receipts.proofs.Common.{slice_index, MatchOption, drop_more, drop_of_length-le, All-nil, All-cons, All-head, All-tail, Entry, Receipt, Stands, IndicesAscend, lesser, IsLeastOr, IsGreater, IsStray, StraysBehind, StandBehind, Strays, AllStand}
 use Rattle.std.specs.List.Sorted.{IsStrictlyIncreasing}
-use Rattle.std.proofs.lemmas.List.{drop_more}
-use Rattle.std.proofs.Math.ListN.{drop_of_length-le}
-use Rattle.std.proofs.lemmas.List.Elements.{All-nil, All-cons, All-head, All-tail}
-use Rattle.operator_model.specs.declared.action.Entry.{Entry}
-use Rattle.run_receipts.specs.declared.receipt.Receipt.{Receipt}
-use Rattle.run_receipts.specs.Merge.{Stands, IndicesAscend}
-use Rattle.run_receipts.specs.Straying.{lesser, IsLeastOr, IsGreater, IsStray, StraysBehind, StandBehind, Strays, AllStand}
 use Rattle.run_receipts.proofs.LeastLemmas.{lesser_assoc, least_both, least_alone}
 
 increasing-tail : (n m : ℕ) (ns : List ℕ) → IsStrictlyIncreasing (n ∷ m ∷ ns) → IsStrictlyIncreasing (m ∷ ns)

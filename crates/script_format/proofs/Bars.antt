@@ -1,12 +1,8 @@
 -- What stands before a line of three dashes is text.
 use Rattle.std.proofs.Common.{◌≡◌, ℕ, zero, suc, ◌+◌, ◌-◌, ◌<◌, ◌≤◌, ◌==◌, ◌&&◌, Bool, true, false, List, [], ◌∷◌, length, take, drop, length-drop, nat_lt, get_or, refl, sym, ap, subst, add-one, ◌∙◌, arith}
 use Rattle.std.proofs.lemmas.Bool.Decides.{nat_tests}
-use Rattle.std.specs.Str.{IsUtf8, is_utf8, IsCharBoundary}
+use Rattle.script_format.proofs.Common.{IsUtf8, is_utf8, IsCharBoundary, slice_range, take_all, drop-drop, false_from_ne_true, Nowhere, NoneBefore, Passes, is_byte}
 use Rattle.std.proofs.lemmas.Str.{IsUtf8-from_is_utf8, IsUtf8-take, IsCharBoundary-before_ascii, IsCharBoundary-end}
-use Rattle.std.specs.Prelude.{slice_range}
-use Rattle.std.proofs.lemmas.List.{take_all, drop-drop}
-use Rattle.std.proofs.lemmas.Bool.{false_from_ne_true}
-use Rattle.memchr.specs.Find.{Nowhere, NoneBefore, Passes, is_byte}
 use Rattle.script_format.specs.Input.{is_bar, before_bar}
 
 -- a bar begins with a dash

@@ -1,10 +1,6 @@
 -- Lists written part by part: what they are written as is written of their parts, one behind the other.
 use Rattle.std.proofs.Common.{◌≡◌, ℕ, ◌+◌, ◌*◌, ◌-◌, ◌/◌, ◌%◌, ◌<◌, List, [], ◌∷◌, ◌++◌, length, take, drop, ap, refl, sym, subst, ◌∙◌, append_assoc, append-nil, take-append-drop, length-drop, arith, Option}
-use Rattle.std.specs.Prelude.{slice_index, slice_range}
-use Rattle.std.specs.Io.KnownBytes.{Appends}
-use Rattle.std.specs.List.{flat_map}
-use Rattle.std.proofs.KnownBytes.{Appends-trans}
-use Rattle.std.proofs.lemmas.List.{take-take, drop-take, drop_all, take_all}
+use Rattle.script_format.proofs.Common.{slice_index, slice_range, Appends, flat_map, Appends-trans, take-take, drop-take, drop_all, take_all}
 use Rattle.dsx_messages.specs.Modem.{hex_digit}
 use Rattle.hex.specs.Hex.{encode_upper, encode_with, upper_digits}
 

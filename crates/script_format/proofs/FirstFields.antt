@@ -1,23 +1,12 @@
 -- The sender in a line's first field, and what stands behind it.
 use Rattle.std.proofs.Common.{◌≡◌, ℕ, suc, ◌<◌, ◌≤◌, ◌==◌, inl, inr, true, false, List, [], ◌∷◌, length, take, drop, slice_index, Option, Some, None, Result, Ok, Err, refl, sym, ap, ◌∙◌, arith}
-use Rattle.std.proofs.lemmas.Bool.{cases_lt}
-use Rattle.std.proofs.lemmas.List.{get_or-take, length-take, take_all}
+use Rattle.script_format.proofs.Common.{cases_lt, get_or-take, length-take, take_all, decode_sized, FromHexError, decode_sized-ok, ◌>>=◌, PlantFields, FieldError, FieldCount, Address, Hexadecimal, FieldResult, required_field, short_in, message_bytes, bytes_in, parts_of, sender_first, address_error, one_error, two_error, three_error}
 use Rattle.std.proofs.Common.{eq-eqb}
-use Rattle.hex.specs.Hex.{decode_sized}
-use Rattle.hex.specs.declared.error.FromHexError.{FromHexError}
-use Rattle.hex.proofs.HexLemmas.{decode_sized-ok}
-use Rattle.lists.specs.Results.{◌>>=◌}
-use Rattle.plant.specs.declared.plant.PlantFields.{PlantFields}
 use Rattle.operator_model.specs.declared.heard.Heard.{Heard}
 use Rattle.operator_model.specs.declared.heard.Heard.TheVariants.{Message, Request}
 use Rattle.script_format.specs.declared.fields.NumberName.TheVariants.{Sid, Minislots}
-use Rattle.script_format.specs.declared.fields.FieldError.{FieldError}
-use Rattle.script_format.specs.declared.fields.FieldError.TheVariants.{FieldCount, Address, Hexadecimal}
 use Rattle.script_format.specs.declared.script.Sender.{Sender}
-use Rattle.script_format.specs.Fields.{FieldResult, required_field, short_in, message_bytes, bytes_in}
-use Rattle.script_format.specs.Lines.{parts_of}
 use Rattle.script_format.specs.Script.{sender_at, sender_in, heard_steps, message_steps, request_in, request_steps}
-use Rattle.script_format.specs.Senders.{sender_first, address_error, one_error, two_error, three_error}
 use Rattle.script_format.proofs.Splits.{field_first, whole_of}
 use Rattle.script_format.proofs.Spaces.{NoSpace, IsFirstSpace, bytes_spaceless, short_spaceless, sized_spaceless, first_space, fields_at}
 

@@ -1,3 +1,4 @@
+mod Common
 pub mod Bars
 pub mod Encoded
 pub mod Marked

@@ -2,10 +2,8 @@
 use Rattle.std.proofs.Common.{◌≡◌, ℕ, ◌+◌, ◌-◌, ◌^◌, ◌<◌, ◌≤◌, List, [], ◌∷◌, ◌++◌, length, drop, set, arith, ap, ◌∙◌, refl, sym, subst, length-set, append_assoc}
 use Rattle.std.specs.Fmt.{decimal}
 use Rattle.std.proofs.lemmas.Fmt.{length-decimal-le}
-use Rattle.std.proofs.lemmas.List.{drop-set}
-use Rattle.slice_scheduler.specs.declared.span.Span.{Span}
+use Rattle.script_format.proofs.Common.{drop-set, Span, after_space, span_text, pending_text}
 use Rattle.slice_scheduler.specs.Iuc.{iuc_number}
-use Rattle.script_format.specs.Text.{after_space, span_text, pending_text}
 
 -- a number of 16 bits has at most 5 digits
 pub few_digits : (n : ℕ) → n < 2 ^ 16 → length (decimal n) ≤ 5

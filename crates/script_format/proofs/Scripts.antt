@@ -1,20 +1,8 @@
 -- Lines of a script, one after the other.
 use Rattle.std.proofs.Common.{◌≡◌, ℕ, zero, suc, ◌+◌, ◌<◌, List, [], ◌∷◌, ◌++◌, length, drop, Bool, true, false, ◌||◌, if◌then◌else◌, codes, Ok, Err, refl, sym, ap, ◌∙◌, add-one, arith}
-use Rattle.std.specs.Str.{bytes_eq}
-use Rattle.std.proofs.lemmas.Slice.Eq.{bytes_eq-Decides}
-use Rattle.lists.specs.Results.{◌>>=◌, Fails}
-use Rattle.script_format.specs.Lines.{parts_of}
+use Rattle.script_format.proofs.Common.{bytes_eq, bytes_eq-Decides, ◌>>=◌, Fails, parts_of, PlantFields, SliceRow, FieldError, UnknownCommand, FieldCount, FieldFault, Invalid, NoMemory, alone_error, LineStep, FieldResult, field_cause, behind}
 use Rattle.script_format.proofs.Splits.{field_first}
 use Rattle.plant.specs.declared.operator_row.RowFields.{RowFields}
-use Rattle.plant.specs.declared.plant.PlantFields.{PlantFields}
-use Rattle.operator_model.specs.declared.action.SliceRow.{SliceRow}
-use Rattle.script_format.specs.declared.fields.FieldError.{FieldError}
-use Rattle.script_format.specs.declared.fields.FieldError.TheVariants.{UnknownCommand, FieldCount}
-use Rattle.script_format.specs.declared.fields.FieldFault.{FieldFault}
-use Rattle.script_format.specs.declared.fields.FieldFault.TheVariants.{Invalid, NoMemory}
-use Rattle.script_format.specs.Senders.{alone_error}
-use Rattle.script_format.specs.declared.script.LineStep.{LineStep}
-use Rattle.script_format.specs.Fields.{FieldResult, field_cause, behind}
 use Rattle.script_format.specs.Script.{tick_steps, all_ticks, message_steps, request_steps, ticked_steps, resliced_steps, steps_in, share_in, shares_after, line_steps, steps_after}
 
 -- an element stands at each place

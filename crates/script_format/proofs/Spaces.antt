@@ -1,21 +1,9 @@
 -- Fields that have no space in them, and a line's first space.
 use Rattle.std.proofs.Common.{◌≡◌, ℕ, zero, suc, ◌+◌, ◌-◌, ◌*◌, ◌<◌, ◌==◌, ◌⊎◌, inl, inr, Bool, true, false, ◌&&◌, nat_le, List, [], ◌∷◌, length, take, drop, slice_index, Option, Some, None, Result, Ok, Err, if◌then◌else◌, codes, refl, sym, ap, ◌∙◌, arith}
-use Rattle.std.specs.Char.{is_ascii_digit}
-use Rattle.std.specs.List.{AllPass}
-use Rattle.std.specs.Str.{bytes_eq}
-use Rattle.std.proofs.lemmas.Bool.{and_parts, eqb-true, false_from_ne_true}
-use Rattle.std.proofs.lemmas.Slice.Eq.{bytes_eq-Decides}
+use Rattle.script_format.proofs.Common.{is_ascii_digit, AllPass, bytes_eq, and_parts, eqb-true, false_from_ne_true, bytes_eq-Decides, Nowhere, NoneBefore, Passes, is_byte, decode_of, decode_sized, is_hex_digit, FromHexError, decode_of-ok, decode_sized-ok, decode_sized-twice, message_in, ◌>>=◌, Number, required_field, number_after, decimal_in, of_digits, short_in, message_bytes}
 use Rattle.std.specs.Result.{result_ok}
-use Rattle.memchr.specs.Find.{Nowhere, NoneBefore, Passes, is_byte}
-use Rattle.hex.specs.Hex.{decode_of, decode_sized, is_hex_digit}
-use Rattle.hex.specs.declared.error.FromHexError.{FromHexError}
-use Rattle.hex.proofs.HexLemmas.{decode_of-ok, decode_sized-ok, decode_sized-twice}
 use Rattle.script_format.specs.Lines.{parts_of}
-use Rattle.script_format.specs.Messages.{message_in}
-use Rattle.lists.specs.Results.{◌>>=◌}
 use Rattle.script_format.specs.declared.fields.NumberName.{NumberName}
-use Rattle.script_format.specs.declared.fields.FieldError.TheVariants.{Number}
-use Rattle.script_format.specs.Fields.{required_field, number_after, decimal_in, of_digits, short_in, message_bytes}
 use Rattle.script_format.proofs.Splits.{split_first}
 
 -- ---- no space

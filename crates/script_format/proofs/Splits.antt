@@ -1,12 +1,7 @@
 -- Lines and the messages in them, one after the other.
 use Rattle.std.proofs.Common.{◌≡◌, ℕ, zero, suc, ◌+◌, ◌<◌, ◌==◌, Bool, true, false, List, [], ◌∷◌, ◌++◌, length, map, take, drop, get_or, Option, Some, None, Err, refl, sym, ap, ◌∙◌, append_assoc, append-nil, add-one, drop-cons, eq-eqb, arith, slice_index}
-use Rattle.std.proofs.lemmas.Bool.{eqb-true, false_from_ne_true}
-use Rattle.std.proofs.lemmas.List.{take_all}
-use Rattle.std.specs.List.{drop-map}
-use Rattle.std.specs.Borrow.{Bor}
+use Rattle.script_format.proofs.Common.{eqb-true, false_from_ne_true, take_all, drop-map, Bor, message_in, messages_after, Nowhere, NoneBefore, Passes, is_byte}
 use Rattle.script_format.specs.Lines.{parts_from, parts_of}
-use Rattle.script_format.specs.Messages.{message_in, messages_after}
-use Rattle.memchr.specs.Find.{Nowhere, NoneBefore, Passes, is_byte}
 use Rattle.script_format.proofs.SaidSoFar.{IsSaidSoFar}
 
 -- ---- lines

@@ -1,8 +1,6 @@
 -- Which steps were read so far.
 use Rattle.std.proofs.Common.{◌≡◌, ℕ, ◌+◌, List, [], drop}
-use Rattle.plant.specs.declared.plant.PlantFields.{PlantFields}
-use Rattle.script_format.specs.declared.script.LineStep.{LineStep}
-use Rattle.script_format.specs.Script.{steps_after}
+use Rattle.script_format.proofs.Common.{PlantFields, LineStep, steps_after}
 
 -- the steps of the lines before the place; the others go on after them
 pub record AreStepsSoFar (plant : PlantFields) (lines : List (List ℕ)) (steps : List LineStep) (number place : ℕ) : Type 0 where

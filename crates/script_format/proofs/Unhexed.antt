@@ -1,11 +1,8 @@
 -- The table of the values of digits, and pairs of them one after the other.
 use Rattle.std.proofs.Common.{◌≡◌, ℕ, zero, suc, ◌+◌, ◌*◌, ◌%◌, ◌<◌, ◌≤◌, List, [], ◌∷◌, length, take, drop, slice_index, slice_index_or, slice_set, bit_or, Option, Some, None, unwrap_or, Ok, Err, inl, inr, refl, sym, ap, ◌∙◌, arith, rules, true, false, nat_lt, MatchResult}
-use Rattle.std.proofs.lemmas.Bool.{cases_lt}
+use Rattle.script_format.proofs.Common.{cases_lt, decode_pairs, decode_sized, digit_or_error, hex_digit_value, pair_value, value_at, FromHexError, prepend, decode_done, decode_err, decode_sized-pairs, decode_step}
 use Rattle.std.proofs.lemmas.Nat.{le_or_l, le_or_r, or_lt, or_shifted}
-use Rattle.hex.specs.Hex.{decode_pairs, decode_sized, digit_or_error, hex_digit_value, pair_value, value_at}
-use Rattle.hex.specs.declared.error.FromHexError.{FromHexError}
 use Rattle.hex.specs.declared.error.FromHexError.TheVariants.{InvalidHexCharacter}
-use Rattle.hex.proofs.Pairs.{prepend, decode_done, decode_err, decode_sized-pairs, decode_step}
 
 -- ---- the table
 

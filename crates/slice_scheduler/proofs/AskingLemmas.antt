@@ -1,20 +1,7 @@
 -- What a schedule gives, it gives to the flows that ask: those that do not ask may be left out before anything is shared.
 use Rattle.std.proofs.Common.{◌≡◌, ℕ, zero, suc, ◌-◌, ◌+◌, ◌<◌, ◌≤◌, inl, inr, Bool, true, false, cond, List, [], ◌∷◌, ◌++◌, refl, sym, ap, ◌∙◌, arith, filter, map, min, sum_by, eq-zero-or-pos, take, get_or, length, All, subst}
-use Rattle.std.specs.Prelude.{nat_lt, ◌==◌}
-use Rattle.std.specs.List.{flat_map}
-use Rattle.std.proofs.lemmas.Bool.{lt-ltb, le-ltb}
-use Rattle.std.proofs.lemmas.List.{take_more, map-append, append-nil}
-use Rattle.std.proofs.lemmas.List.Elements.{filter-append, All-push}
-use Rattle.std.proofs.lemmas.List.Sums.{sum_by-cons}
-use Rattle.grant_policy.specs.declared.policy.Policy.{Policy}
-use Rattle.slice_scheduler.specs.declared.claim.Claim.{Claim}
-use Rattle.slice_scheduler.specs.declared.award.Award.{Award}
-use Rattle.slice_scheduler.specs.declared.flowing.AtFields.{AtFields}
-use Rattle.slice_scheduler.specs.declared.flowing.Flowing.{Flowing}
-use Rattle.slice_scheduler.specs.Claims.{claim_of, claims_of, room_of}
-use Rattle.slice_scheduler.specs.Awards.{goes_before, award_of, awards_of}
+use Rattle.slice_scheduler.proofs.Common.{nat_lt, ◌==◌, flat_map, lt-ltb, le-ltb, take_more, map-append, append-nil, filter-append, All-push, sum_by-cons, Policy, Claim, Award, AtFields, Flowing, claim_of, claims_of, room_of, goes_before, award_of, awards_of, IsClaim, asking}
 use Rattle.slice_scheduler.specs.Schedule.{ranked_below, by_rank, award_pieces}
-use Rattle.slice_scheduler.specs.Wanted.{IsClaim, asking}
 
 -- ---- lists with some left out
 

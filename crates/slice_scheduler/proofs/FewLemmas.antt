@@ -1,26 +1,7 @@
 -- How many elements a schedule has.
 use Rattle.std.proofs.Common.{◌≡◌, ◌≢◌, ℕ, count_by, ◌+◌, ◌-◌, ◌==◌, ◌≤◌, Bool, true, false, cond, List, [], ◌∷◌, ◌++◌, length, filter, sum_by, refl, ap, arith}
-use Rattle.std.specs.Prelude.{nat_lt}
-use Rattle.std.specs.List.{AllByRecursion, flat_map}
-use Rattle.std.proofs.lemmas.Bool.{eq-eqb, ne_eqb, le-ltb}
-use Rattle.std.proofs.lemmas.List.{length-append, length-map, length-replicate}
+use Rattle.slice_scheduler.proofs.Common.{nat_lt, AllByRecursion, flat_map, eq-eqb, ne_eqb, le-ltb, length-append, length-map, length-replicate, length-filter, sum_by-cons, sum_by-append, count_by-le-length, minislots_of, need_of_kind, need_of, Scheduling, BestEffort, NonRealTimePolling, RealTimePolling, UnsolicitedGrant, Policy, Piece, Span, Award, AtFields, Flowing, is_due, due_pieces, pieces_when_due, iuc_of, claim_of, claims_of, room_of, award_of, awards_of, by_rank, award_pieces, pieces_of, idle, spans_from, minislots_in, spans_of, pending_of, AsksWhereItMay, elements_needed}
 use Rattle.std.proofs.lemmas.List.Concat.{length-flat_map}
-use Rattle.std.proofs.lemmas.List.Sums.{length-filter, sum_by-cons, sum_by-append, count_by-le-length}
-use Rattle.param_sets.specs.Units.{minislots_of}
-use Rattle.param_sets.specs.Need.{need_of_kind, need_of}
-use Rattle.param_sets.specs.declared.scheduling.Scheduling.{Scheduling}
-use Rattle.param_sets.specs.declared.scheduling.Scheduling.TheVariants.{BestEffort, NonRealTimePolling, RealTimePolling, UnsolicitedGrant}
-use Rattle.grant_policy.specs.declared.policy.Policy.{Policy}
-use Rattle.slice_scheduler.specs.declared.piece.Piece.{Piece}
-use Rattle.slice_scheduler.specs.declared.span.Span.{Span}
-use Rattle.slice_scheduler.specs.declared.award.Award.{Award}
-use Rattle.slice_scheduler.specs.declared.flowing.AtFields.{AtFields}
-use Rattle.slice_scheduler.specs.declared.flowing.Flowing.{Flowing}
-use Rattle.slice_scheduler.specs.Due.{is_due, due_pieces, pieces_when_due, iuc_of}
-use Rattle.slice_scheduler.specs.Claims.{claim_of, claims_of, room_of}
-use Rattle.slice_scheduler.specs.Awards.{award_of, awards_of}
-use Rattle.slice_scheduler.specs.Schedule.{by_rank, award_pieces, pieces_of, idle, spans_from, minislots_in, spans_of, pending_of}
-use Rattle.slice_scheduler.specs.Servable.{AsksWhereItMay, elements_needed}
 use Rattle.slice_scheduler.proofs.SumLemmas.{sum_by-add, sum_by-le, filtered-le, recursion-weaker}
 use Rattle.slice_scheduler.proofs.RankLemmas.{sum_by-ranked_below}
 use Rattle.slice_scheduler.proofs.PackedLemmas.{placed, spare}

@@ -1,13 +1,6 @@
 -- What is told of the grants, flow by flow.
 use Rattle.std.proofs.Common.{◌≡◌, Bool, true, false, cond, List, [], ◌∷◌, refl, ap, ◌∙◌, map, filter}
-use Rattle.std.specs.Prelude.{nat_lt}
-use Rattle.grant_policy.specs.declared.policy.Policy.{Policy}
-use Rattle.slice_scheduler.specs.declared.award.Award.{Award}
-use Rattle.slice_scheduler.specs.declared.flowing.AtFields.{AtFields}
-use Rattle.slice_scheduler.specs.declared.flowing.Flowing.{Flowing}
-use Rattle.slice_scheduler.specs.Claims.{claim_of, claims_of, room_of}
-use Rattle.slice_scheduler.specs.Awards.{award_of, grant_of}
-use Rattle.slice_scheduler.specs.Schedule.{granted_of}
+use Rattle.slice_scheduler.proofs.Common.{nat_lt, Policy, Award, AtFields, Flowing, claim_of, claims_of, room_of, award_of, grant_of, granted_of}
 
 kept_one : {X Y : Type 0} (b : Bool) (y : Y) (told : X → Y) (x : X) (xs : List X) (ys : List Y) → map told xs ≡ ys → told x ≡ y → map told (cond b (x ∷ xs) xs) ≡ cond b (y ∷ ys) ys
 kept_one true y told x xs ys rest here = ap (λ z. z ∷ map told xs) here ∙ ap (λ zs. y ∷ zs) rest

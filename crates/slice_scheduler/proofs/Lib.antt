@@ -1,3 +1,4 @@
+mod Common
 pub mod SumLemmas
 pub mod RankLemmas
 pub mod ShareLemmas

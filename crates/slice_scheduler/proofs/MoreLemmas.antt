@@ -1,10 +1,6 @@
 -- One more element of a list, and what comes of it.
 use Rattle.std.proofs.Common.{◌≡◌, ℕ, ◌+◌, ◌<◌, Bool, true, false, cond, List, [], ◌∷◌, ◌++◌, ap, sym, subst, ◌∙◌, All, length, get_or, take, map, filter, sum_by}
-use Rattle.std.specs.List.{flat_map}
-use Rattle.std.proofs.lemmas.List.{append-nil, take_more, map-append}
-use Rattle.std.proofs.lemmas.List.Elements.{All-append, filter-append}
-use Rattle.std.proofs.lemmas.List.Sums.{sum_by_more}
-use Rattle.std.proofs.lemmas.Grind.{flat_map-append}
+use Rattle.slice_scheduler.proofs.Common.{flat_map, append-nil, take_more, map-append, All-append, filter-append, sum_by_more, flat_map-append}
 
 -- what all elements of two lists have, each of the lists joined has
 pub All-joined : {A : Type 0} (P : A → Type 0) (xs ys zs : List A) → zs ≡ xs ++ ys → All P xs → All P ys → All P zs

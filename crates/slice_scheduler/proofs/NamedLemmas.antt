@@ -1,22 +1,6 @@
 -- Which SIDs the elements of a schedule name.
 use Rattle.std.proofs.Common.{◌≡◌, ℕ, zero, suc, ◌+◌, ◌-◌, ◌==◌, Bool, true, false, cond, List, [], ◌∷◌, get_or, map, filter, All, ◌⊎◌, inl, inr, refl, arith}
-use Rattle.std.specs.Prelude.{nat_lt}
-use Rattle.std.specs.List.{AllByRecursion, Contains, flat_map}
-use Rattle.std.proofs.lemmas.List.{get_or-map, length-map}
-use Rattle.std.proofs.lemmas.List.Elements.{All-from_recursion, recursion_from_All}
-use Rattle.param_sets.specs.Units.{minislots_of}
-use Rattle.param_sets.specs.declared.scheduling.Scheduling.{Scheduling}
-use Rattle.param_sets.specs.declared.scheduling.Scheduling.TheVariants.{BestEffort, NonRealTimePolling, RealTimePolling, UnsolicitedGrant}
-use Rattle.grant_policy.specs.declared.policy.Policy.{Policy}
-use Rattle.slice_scheduler.specs.declared.piece.Piece.{Piece}
-use Rattle.slice_scheduler.specs.declared.span.Span.{Span}
-use Rattle.slice_scheduler.specs.declared.claim.Claim.{Claim}
-use Rattle.slice_scheduler.specs.declared.award.Award.{Award}
-use Rattle.slice_scheduler.specs.declared.flowing.AtFields.{AtFields}
-use Rattle.slice_scheduler.specs.declared.flowing.Flowing.{Flowing}
-use Rattle.slice_scheduler.specs.Due.{is_due, due_pieces, pieces_when_due, iuc_of}
-use Rattle.slice_scheduler.specs.Claims.{claim_of, claims_of, room_of}
-use Rattle.slice_scheduler.specs.Awards.{award_of, awards_of}
+use Rattle.slice_scheduler.proofs.Common.{nat_lt, AllByRecursion, Contains, flat_map, get_or-map, length-map, All-from_recursion, recursion_from_All, minislots_of, Scheduling, BestEffort, NonRealTimePolling, RealTimePolling, UnsolicitedGrant, Policy, Piece, Span, Claim, Award, AtFields, Flowing, is_due, due_pieces, pieces_when_due, iuc_of, claim_of, claims_of, room_of, award_of, awards_of}
 use Rattle.slice_scheduler.specs.Schedule.{ranked_below, by_rank, award_pieces, pieces_of, idle, spans_from, minislots_in, spans_of, pending_of}
 use Rattle.slice_scheduler.proofs.PackedLemmas.{spare}
 use Rattle.slice_scheduler.proofs.SumLemmas.{recursion-weaker, recursion-filter, recursion-append, recursion-flat_map, recursion-map, recursion-replicate}

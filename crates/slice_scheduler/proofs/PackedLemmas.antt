@@ -1,15 +1,7 @@
 -- Grants put one after the other tile what they fill.
 use Rattle.std.proofs.Common.{◌≡◌, ℕ, ◌-◌, ◌+◌, ◌<◌, ◌≤◌, List, [], ◌∷◌, ◌++◌, length, get_or, take, Bool, cond, ◌⊎◌, inl, inr, refl, sym, ap, ◌∙◌, subst, arith, zero-add}
-use Rattle.std.specs.List.{AllByRecursion}
-use Rattle.std.proofs.lemmas.List.Sums.{sum_by-cons, sum_by-append, sum_by_more}
-use Rattle.std.proofs.lemmas.Bool.{eq-eqb, ne_eqb, cases_eq}
-use Rattle.std.proofs.lemmas.List.{take_more, take_all, append-nil}
+use Rattle.slice_scheduler.proofs.Common.{AllByRecursion, sum_by-cons, sum_by-append, sum_by_more, eq-eqb, ne_eqb, cases_eq, take_more, take_all, append-nil, Span, Piece, idle, spans_from, minislots_in, Tiles, HasMinislots}
 use Rattle.slice_scheduler.specs.declared.span.Iuc.TheVariants.{Long}
-use Rattle.slice_scheduler.specs.declared.span.Span.{Span}
-use Rattle.slice_scheduler.specs.declared.piece.Piece.{Piece}
-use Rattle.slice_scheduler.specs.Schedule.{idle, spans_from, minislots_in}
-use Rattle.slice_scheduler.specs.Tiles.{Tiles}
-use Rattle.slice_scheduler.specs.Wanted.{HasMinislots}
 
 abbrev pub placed : ℕ → Piece → Span
 placed start piece = record { sid = piece.sid; iuc = piece.iuc; start = start; len = piece.len }

@@ -1,17 +1,6 @@
 -- The room that is shared, from what is due and what is claimed.
 use Rattle.std.proofs.Common.{◌≡◌, ℕ, ◌+◌, ◌-◌, ◌≤◌, Bool, true, false, cond, List, [], ◌∷◌, refl, arith, map, filter, sum_by}
-use Rattle.std.specs.Prelude.{nat_lt}
-use Rattle.std.specs.List.{flat_map}
-use Rattle.std.proofs.lemmas.List.Sums.{sum_by-cons}
-use Rattle.grant_policy.specs.declared.policy.Policy.{Policy}
-use Rattle.slice_scheduler.specs.declared.piece.Piece.{Piece}
-use Rattle.slice_scheduler.specs.declared.claim.Claim.{Claim}
-use Rattle.slice_scheduler.specs.declared.flowing.AtFields.{AtFields}
-use Rattle.slice_scheduler.specs.declared.flowing.Flowing.{Flowing}
-use Rattle.slice_scheduler.specs.Due.{due_minislots, due_pieces}
-use Rattle.slice_scheduler.specs.Claims.{claim_of, claims_of, base_of, taken_of, room_of}
-use Rattle.slice_scheduler.specs.Schedule.{minislots_in}
-use Rattle.slice_scheduler.specs.Wanted.{asking}
+use Rattle.slice_scheduler.proofs.Common.{nat_lt, flat_map, sum_by-cons, Policy, Piece, Claim, AtFields, Flowing, due_minislots, due_pieces, claim_of, claims_of, base_of, taken_of, room_of, minislots_in, asking}
 use Rattle.slice_scheduler.proofs.SumLemmas.{sum_by-add, sum_by-flat_map}
 use Rattle.slice_scheduler.proofs.AskingLemmas.{none_counts}
 use Rattle.slice_scheduler.proofs.TotalLemmas.{due_is, sum_by-map}

@@ -1,11 +1,6 @@
 -- What a walk over flows keeps.
 use Rattle.std.proofs.Common.{◌≡◌, ℕ, ◌+◌, ◌-◌, ◌<◌, ◌≤◌, List, [], ◌∷◌, ◌++◌, length, get_or, take, sym, subst, arith}
-use Rattle.std.specs.List.{AllByRecursion}
-use Rattle.std.proofs.lemmas.List.{take_more}
-use Rattle.slice_scheduler.specs.declared.flowing.Flowing.{Flowing}
-use Rattle.slice_scheduler.specs.Servable.{Ascends, SfidsAscend, need_at, total_need}
-use Rattle.slice_scheduler.specs.declared.flowing.AtFields.{AtFields}
-use Rattle.std.proofs.lemmas.List.Sums.{sum_by_more}
+use Rattle.slice_scheduler.proofs.Common.{AllByRecursion, take_more, Flowing, Ascends, SfidsAscend, need_at, total_need, AtFields, sum_by_more}
 use Rattle.slice_scheduler.proofs.SumLemmas.{recursion-weaker}
 
 recursion-push : {X : Type 0} (P : X → Type 0) (xs : List X) (y : X) → AllByRecursion P xs → P y → AllByRecursion P (xs ++ y ∷ [])

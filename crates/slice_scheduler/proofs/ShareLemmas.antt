@@ -1,16 +1,7 @@
 -- How the room is shared: those before a claim, and that the shares fit the room.
 use Rattle.std.proofs.Common.{◌≡◌, ℕ, zero, suc, ◌+◌, ◌-◌, ◌<◌, Bool, true, false, cond, List, [], ◌∷◌, length, get_or, take, refl, sym, ap, ◌∙◌, arith, filter, sum_by, min, add-one}
-use Rattle.std.specs.Prelude.{nat_lt, nat_le, ◌==◌}
-use Rattle.std.specs.List.{AllByRecursion}
-use Rattle.std.proofs.lemmas.Bool.{lt-ltb, le-ltb, eqb-true}
-use Rattle.std.proofs.lemmas.Bool.Decides.{nat_tests}
-use Rattle.std.proofs.lemmas.List.Sums.{sum_by-cons, sum_by-append}
-use Rattle.std.proofs.lemmas.List.Elements.{All-from_recursion}
-use Rattle.slice_scheduler.specs.declared.claim.Claim.{Claim}
-use Rattle.slice_scheduler.specs.Awards.{goes_before, wanted_before, granted_share}
+use Rattle.slice_scheduler.proofs.Common.{nat_lt, nat_le, ◌==◌, AllByRecursion, lt-ltb, le-ltb, eqb-true, nat_tests, sum_by-cons, sum_by-append, All-from_recursion, Claim, goes_before, wanted_before, granted_share, Ascends, wanted_at, wanted_from}
 use Rattle.slice_scheduler.specs.Schedule.{ranked_below}
-use Rattle.slice_scheduler.specs.Servable.{Ascends}
-use Rattle.slice_scheduler.specs.Wanted.{wanted_at, wanted_from}
 use Rattle.slice_scheduler.proofs.SumLemmas.{filtered-cons, filtered_twice-cons, filtered-split, filtered-none, sum_by-same, kept-pass, recursion-weaker, recursion-filter}
 use Rattle.slice_scheduler.proofs.RankLemmas.{Ascends-filter}
 

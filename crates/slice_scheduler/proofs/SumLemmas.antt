@@ -1,7 +1,6 @@
 -- Sums over filtered lists.
 use Rattle.std.proofs.Common.{◌≡◌, ℕ, ◌+◌, ◌<◌, ◌≤◌, Bool, true, false, cond, List, [], ◌∷◌, refl, sym, ap, ◌∙◌, zero-add, arith, filter, map, sum_by, zero, suc, length, get_or, ◌++◌, replicate}
-use Rattle.std.specs.List.{AllByRecursion, flat_map}
-use Rattle.std.proofs.lemmas.List.Sums.{sum_by-cons, sum_by-append}
+use Rattle.slice_scheduler.proofs.Common.{AllByRecursion, flat_map, sum_by-cons, sum_by-append}
 
 module _ {X : Type 0} (f : X → ℕ) where
   pub filtered-cons : (p : X → Bool) (x : X) (xs : List X) → sum_by f (filter p (x ∷ xs)) ≡ cond (p x) (f x) 0 + sum_by f (filter p xs)

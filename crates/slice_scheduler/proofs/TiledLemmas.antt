@@ -1,28 +1,9 @@
 -- The grants to flows that a slice can serve tile it.
 use Rattle.std.proofs.Common.{◌≡◌, ℕ, zero, suc, ◌+◌, ◌*◌, ◌<◌, ◌≤◌, ◌⊎◌, inl, inr, Bool, true, false, cond, List, [], ◌∷◌, refl, sym, ap, ◌∙◌, subst, sum_by, arith}
 use Rattle.std.specs.Int.{div_ceil}
-use Rattle.std.specs.List.{AllByRecursion, flat_map}
-use Rattle.std.proofs.Math.Nat.{div-zero, zero-div}
-use Rattle.std.proofs.lemmas.Bool.{eq-eqb, ne_eqb, cases_eq}
-use Rattle.std.proofs.lemmas.Grind.{div_ceil_times}
+use Rattle.slice_scheduler.proofs.Common.{AllByRecursion, flat_map, div-zero, zero-div, eq-eqb, ne_eqb, cases_eq, div_ceil_times, UnitSizes, minislots_of, reserve_of, need_of_kind, Scheduling, BestEffort, NonRealTimePolling, RealTimePolling, UnsolicitedGrant, Policy, Piece, Award, AtFields, Flowing, is_due, minislots_when_due, due_pieces, pieces_when_due, iuc_of, base_of, taken_of, awards_of, by_rank, award_pieces, pieces_of, elements_of, SfidsAscend, IsOfItsKind, need_at, total_need, IsTiled, HasMinislots}
 use Rattle.std.proofs.lemmas.Nat.{div-add-mod'}
-use Rattle.param_sets.specs.Units.{UnitSizes, minislots_of, reserve_of}
-use Rattle.param_sets.specs.Need.{need_of_kind}
 use Rattle.param_sets.specs.ParamSet.{IsOfKind}
-use Rattle.param_sets.specs.declared.scheduling.Scheduling.{Scheduling}
-use Rattle.param_sets.specs.declared.scheduling.Scheduling.TheVariants.{BestEffort, NonRealTimePolling, RealTimePolling, UnsolicitedGrant}
-use Rattle.grant_policy.specs.declared.policy.Policy.{Policy}
-use Rattle.slice_scheduler.specs.declared.piece.Piece.{Piece}
-use Rattle.slice_scheduler.specs.declared.award.Award.{Award}
-use Rattle.slice_scheduler.specs.declared.flowing.AtFields.{AtFields}
-use Rattle.slice_scheduler.specs.declared.flowing.Flowing.{Flowing}
-use Rattle.slice_scheduler.specs.Due.{is_due, minislots_when_due, due_pieces, pieces_when_due, iuc_of}
-use Rattle.slice_scheduler.specs.Claims.{base_of, taken_of}
-use Rattle.slice_scheduler.specs.Awards.{awards_of}
-use Rattle.slice_scheduler.specs.Schedule.{by_rank, award_pieces, pieces_of, elements_of}
-use Rattle.slice_scheduler.specs.Servable.{SfidsAscend, IsOfItsKind, need_at, total_need}
-use Rattle.slice_scheduler.specs.Tiles.{IsTiled}
-use Rattle.slice_scheduler.specs.Wanted.{HasMinislots}
 use Rattle.slice_scheduler.proofs.SumLemmas.{sum_by-le, recursion-weaker, recursion-append, recursion-flat_map, recursion-replicate, recursion-each}
 use Rattle.slice_scheduler.proofs.PackedLemmas.{packed_whole}
 use Rattle.slice_scheduler.proofs.TotalLemmas.{pieces-fit}

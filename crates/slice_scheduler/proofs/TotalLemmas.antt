@@ -1,29 +1,8 @@
 -- All that is granted fits the slice.
 use Rattle.std.proofs.Common.{◌≡◌, ℕ, zero, suc, ◌+◌, ◌*◌, ◌<◌, ◌≤◌, ◌⊎◌, inl, inr, Bool, true, false, cond, List, [], ◌∷◌, refl, sym, ap, ◌∙◌, zero-add, arith, map, sum_by, replicate, All, length, get_or, subst}
-use Rattle.std.specs.List.{AllByRecursion, flat_map}
-use Rattle.std.proofs.lemmas.Bool.{eq-eqb, ne_eqb, cases_eq, le-leb}
-use Rattle.std.proofs.lemmas.List.Elements.{recursion_from_All}
-use Rattle.std.proofs.lemmas.List.Sums.{sum_by-cons, sum_by-append}
-use Rattle.param_sets.specs.Units.{minislots_of}
-use Rattle.param_sets.specs.declared.scheduling.Scheduling.{Scheduling}
-use Rattle.param_sets.specs.declared.scheduling.Scheduling.TheVariants.{BestEffort, NonRealTimePolling, RealTimePolling, UnsolicitedGrant}
-use Rattle.grant_policy.specs.declared.policy.Policy.{Policy}
-use Rattle.slice_scheduler.specs.declared.piece.Piece.{Piece}
-use Rattle.slice_scheduler.specs.declared.claim.Claim.{Claim}
-use Rattle.slice_scheduler.specs.declared.award.Award.{Award}
-use Rattle.slice_scheduler.specs.declared.flowing.AtFields.{AtFields}
-use Rattle.slice_scheduler.specs.declared.flowing.Flowing.{Flowing}
-use Rattle.slice_scheduler.specs.Due.{is_due, due_minislots, minislots_when_due, due_pieces, pieces_when_due, iuc_of}
-use Rattle.slice_scheduler.specs.Claims.{claim_of, claims_of, base_of, taken_of, room_of}
-use Rattle.slice_scheduler.specs.Awards.{goes_before, wanted_before, award_of, awards_of, granted_share}
-use Rattle.slice_scheduler.specs.Schedule.{ranked_below, by_rank, award_pieces, pieces_of, minislots_in}
-use Rattle.slice_scheduler.specs.Servable.{SfidsAscend}
-use Rattle.slice_scheduler.specs.Wanted.{IsClaim, wanted_from}
+use Rattle.slice_scheduler.proofs.Common.{AllByRecursion, flat_map, eq-eqb, ne_eqb, cases_eq, le-leb, recursion_from_All, sum_by-cons, sum_by-append, minislots_of, Scheduling, BestEffort, NonRealTimePolling, RealTimePolling, UnsolicitedGrant, Policy, Piece, Claim, Award, AtFields, Flowing, is_due, due_minislots, minislots_when_due, due_pieces, pieces_when_due, iuc_of, claim_of, claims_of, base_of, taken_of, room_of, goes_before, wanted_before, award_of, awards_of, granted_share, ranked_below, by_rank, award_pieces, pieces_of, minislots_in, SfidsAscend, IsClaim, wanted_from, nat_le, nat_lt, filter, nat_tests, get_or-map, length-map}
 use Rattle.slice_scheduler.proofs.SumLemmas.{sum_by-add, sum_by-flat_map, filtered-all, filtered-le, filtered-map, filtered-without, recursion-map, recursion-weaker}
 use Rattle.slice_scheduler.proofs.WantedLemmas.{wanted_from-none}
-use Rattle.std.specs.Prelude.{nat_le, nat_lt, filter}
-use Rattle.std.proofs.lemmas.Bool.Decides.{nat_tests}
-use Rattle.std.proofs.lemmas.List.{get_or-map, length-map}
 use Rattle.slice_scheduler.specs.Busy.{LeavesNothingIdle}
 use Rattle.slice_scheduler.proofs.RankLemmas.{sum_by-ranked_below, sum_by-ranked, Ascends-map}
 use Rattle.slice_scheduler.proofs.ShareLemmas.{ClaimsAscend, shares_below-fit}

@@ -1,22 +1,8 @@
 -- The classes that are read are those of a plant.
 use Rattle.std.proofs.Common.{◌≡◌, ◌≢◌, ℕ, ◌≤◌, nat_le, ◌&&◌, true, false, not, List, [], ◌∷◌, ◌++◌, length, get_or, All, AllPairs, Option, Some, None, Result, Ok, Err, is_none, subst, arith}
-use Rattle.std.specs.Char.{is_ascii_alphanumeric}
-use Rattle.std.specs.List.{list_all, list_any}
-use Rattle.std.proofs.lemmas.Bool.{and_parts, not-true}
-use Rattle.std.proofs.lemmas.List.Elements.{All-push}
-use Rattle.std.proofs.lemmas.List.Quantifiers.{all_pairs_push}
-use Rattle.toml.specs.Data.{Data, Items, Members, as_array}
-use Rattle.tlv24.specs.Flow.{flow_of}
-use Rattle.tlv24.specs.declared.fields.FlowFields.{FlowFields}
-use Rattle.tlv24.specs.declared.fault.FlowFault.{FlowFault}
-use Rattle.plant.specs.declared.class_table.Class.{Class}
-use Rattle.slice_table.specs.declared.plant_key.Key.{Key}
-use Rattle.slice_table.specs.declared.plant_key.Key.TheVariants.{Classes, Entry}
-use Rattle.slice_table.specs.declared.plant_key.Place.{Place}
+use Rattle.slice_table.proofs.Common.{is_ascii_alphanumeric, list_all, list_any, and_parts, not-true, All-push, all_pairs_push, Data, Items, Members, as_array, flow_of, FlowFields, FlowFault, Class, Key, Classes, Entry, Place, is_class_named, StatesParameters, IsClass, AreClasses, items_len, expected_value, checked_value, text_at, bytes_at, table_of}
 use Rattle.slice_table.specs.declared.plant_key.Place.TheVariants as place
 use Rattle.slice_table.specs.declared.plant_key.Field.TheVariants as field
-use Rattle.plant.specs.Classes.{is_class_named, StatesParameters, IsClass, AreClasses}
-use Rattle.slice_table.specs.Tree.{items_len, expected_value, checked_value, text_at, bytes_at, table_of}
 use Rattle.slice_table.specs.ReadConsts.{is_class_name, class_name_at, states_parameters, parameters_in, class_encoding_at, class_read, classes_in, classes_if}
 use Rattle.slice_table.proofs.Parsed.{bind_ok, checked_ok, each_keeps, each_len}
 use Rattle.slice_table.proofs.Values.{none_passes, told_apart, is_none_none}

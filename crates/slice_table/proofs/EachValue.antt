@@ -1,11 +1,6 @@
 -- The items of an array one after the other, beside the loop over its values.
 use Rattle.std.proofs.Common.{◌≡◌, ℕ, ◌+◌, ◌<◌, ◌≤◌, List, [], ◌∷◌, ◌++◌, length, get_or, drop, Ok, sym, ap, ◌∙◌}
-use Rattle.std.proofs.lemmas.List.{drop_all, drop_more}
-use Rattle.toml.specs.Data.{Data}
-use Rattle.toml.specs.View.{view, items_view}
-use Rattle.toml.specs.declared.value.Value.{Value}
-use Rattle.lists.specs.Results.{◌>>=◌}
-use Rattle.slice_table.specs.Tree.{PlantResult, each}
+use Rattle.slice_table.proofs.Common.{drop_all, drop_more, Data, view, items_view, Value, ◌>>=◌, PlantResult, each}
 
 -- what is left at a value is what it is read as, and then the others
 pub at_value : {A : Type 0} (read : List A → Data → PlantResult A) (values : List Value) (i : ℕ) (v : Value) (done : List A) (all : PlantResult (List A))

@@ -1,13 +1,7 @@
 -- Which of several is the first.
 use Rattle.std.proofs.Common.{◌≡◌, ◌≢◌, ℕ, zero, suc, ◌<◌, ◌≤◌, ◌⊎◌, ◌↔◌, inl, inr, Bool, true, false, List, [], ◌∷◌, ◌++◌, append-nil, append_assoc, get_or, AllPairs, find, option_map, Option, Some, None, refl, sym, subst, ap, ◌∙◌, arith}
 use Rattle.std.specs.Prelude.{slice_get}
-use Rattle.std.specs.Option.{option_or}
-use Rattle.std.proofs.lemmas.Bool.{cases_Bool}
-use Rattle.std.proofs.lemmas.List.Quantifiers.{all_pairs_push}
-use Rattle.dsx_messages.specs.declared.modem.Modem.{Modem}
-use Rattle.plant.specs.declared.operator_row.RowFields.{RowFields}
-use Rattle.plant.specs.Row.{is_listed, same_modem}
-use Rattle.slice_table.specs.declared.checks.Apart.{Apart}
+use Rattle.slice_table.proofs.Common.{option_or, cases_Bool, all_pairs_push, Modem, RowFields, is_listed, same_modem, Apart}
 use Rattle.slice_table.specs.Checks.{meets, first_pair, first_meeting, first_named, first_again}
 use Rattle.slice_table.specs.First.{IsLeastPair, IsFirstWhere, StandsAgain}
 use Rattle.plant.proofs.Holders.{same_some, true_false, first_least}

@@ -1,3 +1,4 @@
+mod Common
 pub mod Trees
 pub mod EachValue
 pub mod Parsed

@@ -1,9 +1,6 @@
 -- What an `Ok` of a reading tells of its parts.
 use Rattle.std.proofs.Common.{◌≡◌, ◌+◌, Bool, true, false, List, [], ◌∷◌, ◌++◌, length, length-append, Option, Some, None, Ok, Err, refl, ap, subst, arith}
-use Rattle.toml.specs.Data.{Data, Items, no_items, item}
-use Rattle.lists.specs.Results.{◌>>=◌}
-use Rattle.slice_table.specs.declared.plant_key.Key.{Key}
-use Rattle.slice_table.specs.Tree.{PlantResult, each, items_len, required_value, expected_value, checked_value}
+use Rattle.slice_table.proofs.Common.{Data, Items, no_items, item, ◌>>=◌, Key, PlantResult, each, items_len, required_value, expected_value, checked_value}
 
 pub ok_same : {A : Type 0} (x y : A) → ◌≡◌ {A = PlantResult A} (Ok x) (Ok y) → x ≡ y
 ok_same x y h = cc

@@ -1,21 +1,7 @@
 -- A map of modems beside the addresses that were put into it.
 use Rattle.std.proofs.Common.{◌≡◌, ℕ, ◌+◌, ◌<◌, Bool, true, false, cond, ◌||◌, List, [], ◌∷◌, ◌++◌, length, get_or, take, drop, append_assoc, append-nil, Ok, Option, Some, None, is_some, option_copied, if◌then◌else◌, Bor, inl, inr, refl, sym, ap, subst, ◌∙◌, arith}
-use Rattle.std.specs.Option.{option_or}
-use Rattle.std.specs.List.{position_from}
-use Rattle.std.proofs.lemmas.Bool.{false≢true, cases_Bool}
-use Rattle.std.proofs.lemmas.List.{take_more, drop_more, length-take}
+use Rattle.slice_table.proofs.Common.{option_or, position_from, false≢true, cases_Bool, take_more, drop_more, length-take, Modem, RowFields, same_modem, is_listed, all_modems, Places, place_of, holder, Finds, Lists, Adds, PlantFault, NoMemory, ModemTwice, same_is_equal, or_false, listed_append, some_holder, Fails, PlantResult, plant_cause, first_again, modem_twice_fault, unless}
 use Rattle.std.proofs.lemmas.List.Concat.{flat_map-append}
-use Rattle.dsx_messages.specs.declared.modem.Modem.{Modem}
-use Rattle.plant.specs.declared.operator_row.RowFields.{RowFields}
-use Rattle.plant.specs.Row.{same_modem, is_listed}
-use Rattle.plant.specs.Plant.{all_modems}
-use Rattle.plant.specs.Roster.{Places, place_of, holder, Finds, Lists, Adds}
-use Rattle.slice_table.specs.declared.plant_fault.PlantFault.{PlantFault}
-use Rattle.slice_table.specs.declared.plant_fault.PlantFault.TheVariants.{NoMemory, ModemTwice}
-use Rattle.plant.proofs.Addresses.{same_is_equal, or_false, listed_append, some_holder}
-use Rattle.lists.specs.Results.{Fails}
-use Rattle.slice_table.specs.Tree.{PlantResult, plant_cause}
-use Rattle.slice_table.specs.Checks.{first_again, modem_twice_fault, unless}
 
 pub copied_none : (o : Option (Bor ℕ)) → is_some o ≡ false → option_copied o ≡ None
 copied_none None h = refl

@@ -1,22 +1,9 @@
 -- A plant that is read is valid.
 use Rattle.std.proofs.Common.{◌≡◌, ◌≢◌, ℕ, ◌≤◌, nat_le, nat_lt, ◌&&◌, Bool, true, false, not, List, [], ◌∷◌, ◌++◌, append-nil, append_assoc, length, get_or, All, AllPairs, find, option_map, Option, Some, None, Ok, inl, inr, zero, suc, refl, sym, subst, ◌∙◌, arith}
-use Rattle.std.specs.Option.{option_or}
-use Rattle.std.proofs.lemmas.Bool.{and_parts, cases_Bool, false≢true}
-use Rattle.std.proofs.lemmas.List.Quantifiers.{all_pairs_push}
+use Rattle.slice_table.proofs.Common.{option_or, and_parts, cases_Bool, false≢true, all_pairs_push, Modem, Apart, Slices, Sids, Sfids, ConstsFields, RowFields, PlantFault, SlicesMeet, SidsMeet, SfidsMeet, ModemTwice, TooManyElements, BudgetOverSlice, ProvisionedOver, AreConsts, is_listed, same_modem, DoesFit, count_of, IsPlant, all_modems, most_elements, modem_itself}
 use Rattle.std.proofs.lemmas.List.Kept.{AllPairs-cons}
-use Rattle.dsx_messages.specs.declared.modem.Modem.{Modem}
-use Rattle.slice_table.specs.declared.checks.Apart.{Apart}
-use Rattle.slice_table.specs.declared.checks.Apart.TheVariants.{Slices, Sids, Sfids}
-use Rattle.plant.specs.declared.consts.ConstsFields.{ConstsFields}
-use Rattle.plant.specs.declared.operator_row.RowFields.{RowFields}
-use Rattle.slice_table.specs.declared.plant_fault.PlantFault.{PlantFault}
-use Rattle.slice_table.specs.declared.plant_fault.PlantFault.TheVariants.{SlicesMeet, SidsMeet, SfidsMeet, ModemTwice, TooManyElements, BudgetOverSlice, ProvisionedOver}
-use Rattle.plant.specs.Consts.{AreConsts}
-use Rattle.plant.specs.Row.{is_listed, same_modem, DoesFit, count_of}
-use Rattle.plant.specs.Plant.{IsPlant, all_modems, most_elements}
 use Rattle.slice_table.specs.Checks.{meets, first_pair, first_meeting, first_again, is_over_slice, is_overfull, sids_needed, minislots_needed, provision_elements, counts_fit, needs_fit, do_fit, first_named, meeting_fault, twice_fault, elements_fault, budget_fault, provisioned_fault, late_fault, rows_fault, unless}
 use Rattle.slice_table.proofs.Values.{at_most, none_passes}
-use Rattle.plant.proofs.Addresses.{modem_itself}
 use Rattle.slice_table.proofs.RowReading.{AreRows}
 
 -- ---- where there is none

@@ -1,12 +1,8 @@
 -- A row that is read has each of its values from its own key.
 use Rattle.std.proofs.Common.{◌≡◌, ℕ, List, Ok, subst}
-use Rattle.toml.specs.Data.{Members}
-use Rattle.plant.specs.declared.consts.ConstsFields.{ConstsFields}
-use Rattle.plant.specs.declared.operator_row.RowFields.{RowFields}
+use Rattle.slice_table.proofs.Common.{Members, ConstsFields, RowFields, Place, at_field, number_of_key}
 use Rattle.slice_table.specs.declared.plant_key.Field.TheVariants as field
-use Rattle.slice_table.specs.declared.plant_key.Place.{Place}
 use Rattle.slice_table.specs.declared.plant_key.Place.TheVariants as place
-use Rattle.slice_table.specs.Tree.{at_field, number_of_key}
 use Rattle.slice_table.specs.ReadRows.{name_at, slice_at, range_at, policy_at, modems_at, provisions_if, row_at}
 use Rattle.slice_table.proofs.Parsed.{bind_ok, ok_same}
 

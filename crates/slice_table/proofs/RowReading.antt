@@ -1,25 +1,8 @@
 -- The rows that are read are those of a plant, but for what is asked of all keys together.
 use Rattle.std.proofs.Common.{◌≡◌, ◌≢◌, ℕ, ◌+◌, ◌≤◌, nat_le, ◌&&◌, true, false, not, List, [], ◌∷◌, ◌++◌, length, get_or, All, AllPairs, Option, Some, None, Ok, IsSome, IsTrue, codes, subst, ap, ◌∙◌, arith}
-use Rattle.std.specs.List.{list_any}
-use Rattle.std.proofs.lemmas.Bool.{and_parts, not-true}
-use Rattle.std.proofs.lemmas.List.Elements.{All-push}
-use Rattle.std.proofs.lemmas.List.Quantifiers.{all_pairs_push}
-use Rattle.toml.specs.Data.{Data, Members, get_member, as_array}
-use Rattle.dsx_messages.specs.declared.modem.Modem.{Modem}
-use Rattle.admission.specs.Free.{Numbers}
-use Rattle.slice_scheduler.specs.Minislots.{Minislots}
-use Rattle.plant.specs.declared.consts.ConstsFields.{ConstsFields}
-use Rattle.plant.specs.declared.operator_row.RowFields.{RowFields}
-use Rattle.plant.specs.declared.provision.Provision.{Provision}
-use Rattle.slice_table.specs.declared.plant_key.Key.TheVariants.{Operators, Entry}
-use Rattle.slice_table.specs.declared.plant_key.Field.{Field}
+use Rattle.slice_table.proofs.Common.{list_any, and_parts, not-true, All-push, all_pairs_push, Data, Members, get_member, as_array, Modem, Numbers, Minislots, ConstsFields, RowFields, Provision, Operators, Entry, Field, Place, sets_of_encoding, is_listed, IsFrom, IsRow, IsProvision, range_of, items_len, required_value, expected_value, checked_value, at_field, modem_at, number_of_key, pair_at, text_at, bytes_at, array_at, table_of}
 use Rattle.slice_table.specs.declared.plant_key.Field.TheVariants as field
-use Rattle.slice_table.specs.declared.plant_key.Place.{Place}
 use Rattle.slice_table.specs.declared.plant_key.Place.TheVariants as place
-use Rattle.plant.specs.Provisioned.{sets_of_encoding}
-use Rattle.plant.specs.Row.{is_listed, IsFrom, IsRow, IsProvision}
-use Rattle.slice_table.specs.Ranges.{range_of}
-use Rattle.slice_table.specs.Tree.{items_len, required_value, expected_value, checked_value, at_field, modem_at, number_of_key, pair_at, text_at, bytes_at, array_at, table_of}
 use Rattle.plant.specs.Name.{is_operator_name}
 use Rattle.slice_table.specs.ReadRows.{is_called, name_at, fits_frame, slice_at, range_at, modem_read, modems_at, own_modem_at, has_sets, provision_at, provision_read, provisions_in, provisions_if, row_at, row_read, rows_of}
 use Rattle.slice_table.proofs.Parsed.{bind_ok, checked_ok, each_keeps, each_len}

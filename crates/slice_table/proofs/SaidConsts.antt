@@ -1,28 +1,13 @@
 -- A reading of what all operators share answers it exactly where the keys say it.
 use Rattle.std.proofs.Common.{◌≡◌, ℕ, ◌≤◌, ◌↔◌, inl, inr, nat_le, ◌&&◌, true, false, not, List, [], length, get_or, Option, Some, None, Result, Ok, Err, codes, refl, sym, subst, ap, ◌∙◌}
-use Rattle.std.specs.Char.{is_ascii_alphanumeric}
-use Rattle.std.specs.List.{list_all, list_any}
-use Rattle.std.proofs.lemmas.Bool.{and_parts, not-true}
-use Rattle.std.proofs.lemmas.List.Folds.{list_any_none}
-use Rattle.toml.specs.Data.{Data, array, table, Items, Members, get_member, as_array}
-use Rattle.tlv24.specs.Flow.{flow_of}
-use Rattle.tlv24.specs.declared.fields.FlowFields.{FlowFields}
-use Rattle.tlv24.specs.declared.fault.FlowFault.{FlowFault}
+use Rattle.slice_table.proofs.Common.{is_ascii_alphanumeric, list_all, list_any, and_parts, not-true, list_any_none, Data, array, table, Items, Members, get_member, as_array, flow_of, FlowFields, FlowFault, Class, ConstsFields, Key, Classes, Entry, Place, is_class_named, StatesParameters, items_len, required_value, expected_value, checked_value, number_at, number_of_key, text_at, bytes_at, table_of, SayInTurn, SaysUnits, SaysBackoffs, SaysTimers, SaysKeys, SaysClassName, SaysParameters, SaysClass, SaysClasses, SaysConsts}
 use Rattle.param_sets.specs.Units.{UnitSizes}
 use Rattle.transactions.specs.Waits.{Waits}
-use Rattle.plant.specs.declared.class_table.Class.{Class}
 use Rattle.plant.specs.declared.consts.Backoffs.{Backoffs}
-use Rattle.plant.specs.declared.consts.ConstsFields.{ConstsFields}
 use Rattle.slice_table.specs.declared.read_consts.PlantKeys.{PlantKeys}
-use Rattle.slice_table.specs.declared.plant_key.Key.{Key}
-use Rattle.slice_table.specs.declared.plant_key.Key.TheVariants.{Classes, Entry}
 use Rattle.slice_table.specs.declared.plant_key.Field.TheVariants as field
-use Rattle.slice_table.specs.declared.plant_key.Place.{Place}
 use Rattle.slice_table.specs.declared.plant_key.Place.TheVariants as place
-use Rattle.plant.specs.Classes.{is_class_named, StatesParameters}
-use Rattle.slice_table.specs.Tree.{items_len, required_value, expected_value, checked_value, number_at, number_of_key, text_at, bytes_at, table_of}
 use Rattle.slice_table.specs.ReadConsts.{units_at, backoffs_at, timers_at, plant_keys_at, plant_keys_of, is_class_name, class_name_at, states_parameters, parameters_in, class_encoding_at, class_read, classes_in, classes_if, with_classes, consts_of}
-use Rattle.slice_table.specs.Says.{SayInTurn, SaysUnits, SaysBackoffs, SaysTimers, SaysKeys, SaysClassName, SaysParameters, SaysClass, SaysClasses, SaysConsts}
 use Rattle.slice_table.proofs.Parsed.{ok_same, bind_ok, required_ok, expected_ok, checked_ok}
 use Rattle.slice_table.proofs.Values.{at_most, none_passes, told_apart}
 use Rattle.slice_table.proofs.ClassReading.{parameters}

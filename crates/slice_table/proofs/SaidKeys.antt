@@ -1,27 +1,13 @@
 -- A reading of one key answers a value exactly where the key says it.
 use Rattle.std.proofs.Common.{◌≡◌, ℕ, pos, negsuc, ◌+◌, ◌≤◌, ◌↔◌, inl, inr, nat_le, le-leb, ◌&&◌, Bool, true, List, [], ◌∷◌, ◌++◌, Option, Some, None, Result, Ok, Err, codes, refl, sym, subst, ap, ◌∙◌, arith}
-use Rattle.std.specs.Str.{bytes_eq}
-use Rattle.std.proofs.lemmas.Bool.{and_parts, cases_Bool}
-use Rattle.std.proofs.lemmas.Slice.Eq.{bytes_eq-Decides}
-use Rattle.toml.specs.Data.{Data, string, integer, float, boolean, datetime, array, table, Items, no_items, item, Members, as_str, as_array, as_table}
+use Rattle.slice_table.proofs.Common.{bytes_eq, and_parts, cases_Bool, bytes_eq-Decides, Data, string, integer, float, boolean, datetime, array, table, Items, no_items, item, Members, as_str, as_array, as_table, ◌>>=◌, Modem, Numbers, Minislots, ConstsFields, Field, Place, Key, Table, Entry, range_of, default_of, SaysNumber, SaysNumberIn, two, SaysBytes, IsAddress, SayInTurn, SaysSlice, SaysRange, SaysPolicy}
 use Rattle.hex.specs.Hex.{decode_of, decode_sized}
 use Rattle.hex.specs.declared.error.FromHexError.{FromHexError}
-use Rattle.lists.specs.Results.{◌>>=◌}
-use Rattle.dsx_messages.specs.declared.modem.Modem.{Modem}
-use Rattle.admission.specs.Free.{Numbers}
 use Rattle.grant_policy.specs.declared.policy.Policy.{Policy}
 use Rattle.grant_policy.specs.declared.policy.Policy.TheVariants.{Strict, Aged, Short}
-use Rattle.slice_scheduler.specs.Minislots.{Minislots}
-use Rattle.plant.specs.declared.consts.ConstsFields.{ConstsFields}
-use Rattle.slice_table.specs.declared.plant_key.Field.{Field}
 use Rattle.slice_table.specs.declared.plant_key.Field.TheVariants as field
-use Rattle.slice_table.specs.declared.plant_key.Place.{Place}
-use Rattle.slice_table.specs.declared.plant_key.Key.{Key}
-use Rattle.slice_table.specs.declared.plant_key.Key.TheVariants.{Table, Entry}
-use Rattle.slice_table.specs.Ranges.{range_of, default_of}
 use Rattle.slice_table.specs.Tree.{PlantResult, each, required_value, expected_value, checked_value, at_field, natural, number_of, number_if, number_at, number_of_key, both, pair_in, array_at, pair_at, text_at, bytes_if_decoded, bytes_at, modem_in, modem_of, table_of}
 use Rattle.slice_table.specs.ReadRows.{fits_frame, slice_at, is_range, range_at, aged_at, policy_named, policy_at}
-use Rattle.slice_table.specs.Says.{SaysNumber, SaysNumberIn, two, SaysBytes, IsAddress, SayInTurn, SaysSlice, SaysRange, SaysPolicy}
 use Rattle.slice_table.proofs.Parsed.{ok_same, bind_ok, required_ok, expected_ok, checked_ok}
 use Rattle.slice_table.proofs.Values.{at_most}
 

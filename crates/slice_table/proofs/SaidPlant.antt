@@ -1,27 +1,10 @@
 -- A document is read as a plant exactly where its keys say it and it is valid.
 use Rattle.std.proofs.Common.{◌≡◌, ◌≢◌, ℕ, zero, suc, ◌-◌, ◌≤◌, ◌↔◌, nat_le, nat_lt, ◌&&◌, Bool, true, false, not, List, [], ◌∷◌, ◌++◌, append_assoc, length, length-append, get_or, All, AllPairs, find, option_map, Option, Some, None, Ok, codes, refl, sym, subst, ap, ◌∙◌, arith}
-use Rattle.std.proofs.lemmas.Bool.{false_from_ne_true}
-use Rattle.std.proofs.lemmas.List.{get_or_append_left, get_or-append_right}
-use Rattle.std.proofs.lemmas.List.Folds.{list_any_none}
-use Rattle.toml.specs.Data.{Members, get_member}
-use Rattle.dsx_messages.specs.declared.modem.Modem.{Modem}
-use Rattle.slice_table.specs.declared.checks.Apart.{Apart}
-use Rattle.slice_table.specs.declared.checks.Apart.TheVariants.{Slices, Sids, Sfids}
-use Rattle.plant.specs.declared.consts.ConstsFields.{ConstsFields}
-use Rattle.plant.specs.declared.operator_row.RowFields.{RowFields}
-use Rattle.plant.specs.declared.plant.PlantFields.{PlantFields}
-use Rattle.slice_table.specs.declared.plant_fault.PlantFault.{PlantFault}
+use Rattle.slice_table.proofs.Common.{false_from_ne_true, get_or_append_left, get_or-append_right, list_any_none, Members, get_member, Modem, Apart, Slices, Sids, Sfids, ConstsFields, RowFields, PlantFields, PlantFault, AreConsts, is_listed, same_modem, DoesFit, count_of, IsPlant, all_modems, most_elements, consts_of, rows_of, SaysConsts, SaysPlant, same_is_equal}
 use Rattle.slice_table.specs.declared.plant_key.Field.TheVariants as field
-use Rattle.plant.specs.Consts.{AreConsts}
-use Rattle.plant.specs.Row.{is_listed, same_modem, DoesFit, count_of}
-use Rattle.plant.specs.Plant.{IsPlant, all_modems, most_elements}
-use Rattle.slice_table.specs.ReadConsts.{consts_of}
-use Rattle.slice_table.specs.ReadRows.{rows_of}
 use Rattle.slice_table.specs.Checks.{meets, first_pair, first_meeting, first_again, is_over_slice, is_overfull, sids_needed, minislots_needed, provision_elements, counts_fit, needs_fit, do_fit, meeting_fault, twice_fault, elements_fault, budget_fault, provisioned_fault, late_fault, rows_fault, unless}
 use Rattle.slice_table.specs.ReadPlant.{plant_of}
-use Rattle.slice_table.specs.Says.{SaysConsts, SaysPlant}
 use Rattle.slice_table.proofs.Parsed.{ok_same, bind_ok}
-use Rattle.plant.proofs.Addresses.{same_is_equal}
 use Rattle.slice_table.proofs.ClassReading.{classes_read}
 use Rattle.slice_table.proofs.RowReading.{rows_read}
 use Rattle.slice_table.proofs.PlantReading.{valid, no_fault}

@@ -1,26 +1,11 @@
 -- A reading of the operators answers rows exactly where the keys say them.
 use Rattle.std.proofs.Common.{◌≡◌, ◌≢◌, ℕ, ◌↔◌, inl, inr, nat_le, ◌&&◌, Bool, true, false, not, List, [], length, get_or, Option, Some, None, Ok, codes, IsSome, refl, sym, subst, ap, ◌∙◌}
-use Rattle.std.specs.Str.{bytes_eq}
-use Rattle.std.specs.Char.{is_ascii_alphanumeric}
-use Rattle.std.specs.List.{list_all, list_any}
-use Rattle.std.proofs.lemmas.Bool.{and_parts, not-true, false_from_ne_true}
-use Rattle.std.proofs.lemmas.List.Folds.{list_any_none}
-use Rattle.std.proofs.lemmas.Slice.Eq.{bytes_eq-Decides}
-use Rattle.toml.specs.Data.{Data, array, table, Items, Members, get_member, as_array}
-use Rattle.dsx_messages.specs.declared.modem.Modem.{Modem}
-use Rattle.plant.specs.declared.consts.ConstsFields.{ConstsFields}
-use Rattle.plant.specs.declared.operator_row.RowFields.{RowFields}
-use Rattle.plant.specs.declared.provision.Provision.{Provision}
+use Rattle.slice_table.proofs.Common.{bytes_eq, is_ascii_alphanumeric, list_all, list_any, and_parts, not-true, false_from_ne_true, list_any_none, bytes_eq-Decides, Data, array, table, Items, Members, get_member, as_array, Modem, ConstsFields, RowFields, Provision, Place, Operators, Entry, sets_of_encoding, is_listed, IsAddress, SayInTurn, SaysName, SaysModems, SaysProvision, SaysProvisions, SaysRow, SaysRows}
 use Rattle.slice_table.specs.declared.plant_key.Field.TheVariants as field
-use Rattle.slice_table.specs.declared.plant_key.Place.{Place}
 use Rattle.slice_table.specs.declared.plant_key.Place.TheVariants as place
-use Rattle.slice_table.specs.declared.plant_key.Key.TheVariants.{Operators, Entry}
 use Rattle.plant.specs.Name.{IsOperatorName, is_operator_name}
-use Rattle.plant.specs.Provisioned.{sets_of_encoding}
-use Rattle.plant.specs.Row.{is_listed}
 use Rattle.slice_table.specs.Tree.{items_len, required_value, expected_value, checked_value, at_field, number_of_key, text_at, bytes_at, array_at, modem_at, table_of}
 use Rattle.slice_table.specs.ReadRows.{is_called, name_at, slice_at, range_at, policy_at, modem_read, modems_at, own_modem_at, has_sets, provision_at, provision_read, provisions_in, provisions_if, row_at, row_read, rows_of}
-use Rattle.slice_table.specs.Says.{IsAddress, SayInTurn, SaysName, SaysModems, SaysProvision, SaysProvisions, SaysRow, SaysRows}
 use Rattle.slice_table.proofs.Parsed.{ok_same, bind_ok, required_ok, expected_ok, checked_ok}
 use Rattle.slice_table.proofs.RowParts.{row_parts}
 use Rattle.slice_table.proofs.Values.{at_most, none_passes, told_apart}

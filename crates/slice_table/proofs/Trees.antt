@@ -1,9 +1,6 @@
 -- The values of an array beside the items that they stand for.
 use Rattle.std.proofs.Common.{◌≡◌, ℕ, ◌≤◌, ◌==◌, ◌&&◌, nat_le, le-leb, true, false, List, [], ◌∷◌, length, Ok, refl, ap, suc, arith}
-use Rattle.toml.specs.View.{items_view}
-use Rattle.toml.specs.declared.value.Value.{Value}
-use Rattle.slice_table.specs.declared.plant_key.Key.{Key}
-use Rattle.slice_table.specs.Tree.{items_len, checked_value}
+use Rattle.slice_table.proofs.Common.{items_view, Value, Key, items_len, checked_value}
 
 pub items_len_view : (values : List Value) → items_len (items_view values) ≡ length values
 items_len_view [] = refl

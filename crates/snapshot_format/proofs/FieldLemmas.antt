@@ -1,22 +1,14 @@
 -- Fields that were written are read again.
 use Rattle.std.proofs.Common.{◌≡◌, ◌≢◌, ℕ, zero, suc, ◌+◌, ◌*◌, ◌-◌, ◌/◌, ◌<◌, ◌≤◌, ◌^◌, ◌==◌, ◌&&◌, Bool, true, false, not, nat_lt, nat_le, List, [], ◌∷◌, ◌++◌, length, drop, slice_index, Ok, refl, sym, ap, ◌∙◌, arith, add-one, length-append}
-use Rattle.std.specs.List.{AllByRecursion, prefix_len, list_all}
-use Rattle.std.specs.Fmt.{decimal}
-use Rattle.std.specs.Char.{digit_value, is_ascii_digit, is_ascii_alphanumeric}
-use Rattle.std.specs.Str.{bytes_eq}
+use Rattle.snapshot_format.proofs.Common.{AllByRecursion, prefix_len, list_all, decimal, digit_value, is_ascii_digit, is_ascii_alphanumeric, bytes_eq, eq-eqb, ne_eqb, lt-ltb, le-leb, take_at, Modem, address_field, bytes_text, IsModem}
 use Rattle.std.specs.Str.Parse.{AllDigits, digits_value_after}
-use Rattle.std.proofs.lemmas.Bool.{eq-eqb, ne_eqb, lt-ltb, le-leb}
 use Rattle.std.proofs.lemmas.Fmt.{decimal_is_IsNumeral}
 use Rattle.std.proofs.lemmas.Str.{digit_value_digit}
 use Rattle.std.proofs.lemmas.Str.Parse.{digit_from_value}
-use Rattle.std.proofs.lemmas.List.{take_at}
 use Rattle.hex.specs.Hex.{IsBytes, encode_upper, encode_with, upper_digits, decode_sized}
 use Rattle.hex.proofs.HexLemmas.{length-encode_with, decode_of-encode_upper, decode_sized-twice}
-use Rattle.dsx_messages.specs.declared.modem.Modem.{Modem}
 use Rattle.plant.specs.Name.{IsOperatorName, is_operator_name}
 use Rattle.snapshot_format.specs.Fields.{take_field, digits_after, take_number, take_name, take_modem, take_bytes}
-use Rattle.snapshot_format.specs.Text.{address_field, bytes_text}
-use Rattle.snapshot_format.specs.Saved.{IsModem}
 
 -- ---- a field up to the byte that ends it
 

@@ -1,33 +1,12 @@
 -- Whatever text is read, the states keep what the machine's types keep.
 use Rattle.std.proofs.Common.{◌≡◌, ℕ, zero, suc, ◌+◌, ◌-◌, ◌==◌, ◌&&◌, ◌||◌, Bool, true, false, cond, nat_le, List, [], ◌∷◌, ◌++◌, length, take, Option, Some, None, Result, Ok, Err, refl, sym, ap, subst, ◌∙◌, append_assoc, append-nil, codes}
-use Rattle.std.specs.Prelude.{IfSome, IfOk}
-use Rattle.std.specs.List.{AllByRecursion, list_all}
-use Rattle.std.specs.Char.{is_ascii_alphanumeric}
-use Rattle.std.proofs.lemmas.Bool.{and_parts, leb-true, eqb-true}
-use Rattle.lists.specs.Results.{◌>>=◌, Gives}
-use Rattle.param_sets.specs.declared.param_set.ParamFields.{ParamFields}
-use Rattle.param_sets.specs.declared.sets.SetsFields.{SetsFields}
-use Rattle.param_sets.specs.ParamSet.{IsParameterSet}
-use Rattle.param_sets.specs.Sets.{IsWithinProvisioned, failing_in_provisioned, failing_in_admitted, sets_unless}
+use Rattle.snapshot_format.proofs.Common.{IfSome, IfOk, AllByRecursion, list_all, is_ascii_alphanumeric, and_parts, leb-true, eqb-true, ◌>>=◌, Gives, ParamFields, SetsFields, IsParameterSet, IsWithinProvisioned, failing_in_provisioned, failing_in_admitted, sets_unless, first_failing, is_within, KeptEntry, is_waiting, Pending, Share, NextShare, Repeated, NotWithin, SnapshotFault, SavedFlow, SavedOperator, Snapshot, Taken, place_result, stop_at, take_items, AllFollow}
 use Rattle.dsx_messages.specs.declared.code.Code.TheVariants.{RejectAuthorizationFailure, RejectInvalidForContext}
-use Rattle.param_sets.specs.Within.{first_failing}
-use Rattle.param_sets.proofs.WithinLemmas.{is_within}
 use Rattle.slice_scheduler.specs.Minislots.{IsSlice}
-use Rattle.transactions.specs.declared.entry.KeptEntry.{KeptEntry}
-use Rattle.transactions.specs.Entry.{is_waiting}
-use Rattle.flow_table.specs.declared.flow.Pending.{Pending}
 use Rattle.plant.specs.Name.{IsOperatorName, is_operator_name}
-use Rattle.operator_model.specs.declared.share.Share.{Share}
-use Rattle.operator_model.specs.declared.share.NextShare.{NextShare}
 use Rattle.snapshot_format.specs.declared.fault.Wrong.{Wrong}
-use Rattle.snapshot_format.specs.declared.fault.Wrong.TheVariants.{Repeated, NotWithin}
 use Rattle.snapshot_format.specs.declared.fault.ReadStop.{ReadStop}
-use Rattle.snapshot_format.specs.declared.fault.SnapshotFault.{SnapshotFault}
-use Rattle.snapshot_format.specs.declared.saved.SavedFlow.{SavedFlow}
-use Rattle.snapshot_format.specs.declared.saved.SavedOperator.{SavedOperator}
-use Rattle.snapshot_format.specs.declared.saved.Snapshot.{Snapshot}
 use Rattle.snapshot_format.specs.declared.operator_records.OperatorHead.{OperatorHead}
-use Rattle.snapshot_format.specs.Reading.{Taken, place_result, stop_at, take_items, AllFollow}
 use Rattle.snapshot_format.specs.Fields.{take_literal, take_presence, take_field, take_number, parse_name, take_name, take_modem, take_bytes}
 use Rattle.snapshot_format.specs.Sets.{take_params, is_parameter_set, checked_set, take_set, take_optional_set, within, with_active, checked_sets, take_sets}
 use Rattle.snapshot_format.specs.Records.{take_sid, take_waiting, take_pending, take_flow, flow_follows, take_flows, take_kind, take_state, is_timed, checked_entry, take_entry, entry_follows, take_entries, take_arrivals, checked_share, take_share, take_slice, take_next_share, take_next, take_head, take_operator, operator_follows, take_operators}

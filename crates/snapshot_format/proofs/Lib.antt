@@ -1,3 +1,4 @@
+mod Common
 pub mod FieldLemmas
 pub mod SetLemmas
 pub mod RecordLemmas

@@ -1,10 +1,8 @@
 -- Records that a loop reads one after the other.
 use Rattle.std.proofs.Common.{◌≡◌, ℕ, suc, ◌-◌, ◌+◌, ◌≤◌, ◌<◌, Bool, true, false, List, [], ◌∷◌, ◌++◌, Ok, Err, refl, sym, ◌∙◌, arith}
-use Rattle.snapshot_format.specs.declared.fault.Wrong.TheVariants.{Repeated}
+use Rattle.snapshot_format.proofs.Common.{Repeated, Fails, Taken, read_cause, stop_at, take_items}
 use Rattle.snapshot_format.specs.declared.fault.ReadFault.{ReadFault}
 use Rattle.snapshot_format.specs.declared.fault.ReadFault.TheVariants.{NoMemory, Stopped}
-use Rattle.lists.specs.Results.{Fails}
-use Rattle.snapshot_format.specs.Reading.{Taken, read_cause, stop_at, take_items}
 
 module _ {A : Type 0} (item_at : List ℕ → Taken A) (may_follow : List A → A → Bool) (count i : ℕ) (before : List A) (bytes : List ℕ) (total : Taken (List A)) where
   pub goes_on : (item : A) (after : List ℕ) → i < count → item_at bytes ≡ Ok (item, after) → may_follow before item ≡ true

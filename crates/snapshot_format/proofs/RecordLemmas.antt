@@ -1,32 +1,18 @@
 -- Records that were written are read again.
 use Rattle.std.proofs.Common.{◌≡◌, ◌≢◌, ℕ, ◌<◌, ◌^◌, ◌==◌, ◌||◌, Bool, true, false, List, [], ◌∷◌, ◌++◌, length, Option, Some, None, Ok, refl, sym, ap, ◌∙◌, append_assoc, append-nil, arith, rules, codes}
-use Rattle.std.specs.Prelude.{IfSome}
-use Rattle.std.specs.List.{flat_map, AllByRecursion}
-use Rattle.std.specs.Fmt.{decimal}
-use Rattle.std.specs.Char.{digit_value}
-use Rattle.std.proofs.lemmas.Bool.{le-leb, eq-eqb}
+use Rattle.snapshot_format.proofs.Common.{IfSome, flat_map, AllByRecursion, decimal, digit_value, le-leb, eq-eqb, Modem, KeptEntry, is_waiting, Pending, Share, NextShare, SavedFlow, SavedOperator, Taken, take_items, AllFollow, IsModem, IsPending, IsSavedFlow, IsSavedEntry, IsHeard, IsSavedArrival, IsSavedShare, IsSavedNext, IsSavedOperator}
 use Rattle.hex.specs.Hex.{IsBytes}
 use Rattle.dsx_messages.specs.declared.kind.Kind.{Kind}
 use Rattle.dsx_messages.specs.declared.kind.Kind.TheVariants.{Dsa, Dsc, Dsd}
-use Rattle.dsx_messages.specs.declared.modem.Modem.{Modem}
-use Rattle.transactions.specs.declared.entry.KeptEntry.{KeptEntry}
 use Rattle.transactions.specs.declared.entry.ResponseState.{ResponseState}
 use Rattle.transactions.specs.declared.entry.ResponseState.TheVariants.{Waiting, Held}
-use Rattle.transactions.specs.Entry.{is_waiting}
 use Rattle.transactions.specs.Keeping.{HasTicks, IsHeldUnsent}
-use Rattle.flow_table.specs.declared.flow.Pending.{Pending}
 use Rattle.operator_model.specs.declared.heard.Heard.{Heard}
 use Rattle.operator_model.specs.declared.heard.Heard.TheVariants.{Message, Request}
 use Rattle.operator_model.specs.declared.heard.Arrival.{Arrival}
-use Rattle.operator_model.specs.declared.share.Share.{Share}
-use Rattle.operator_model.specs.declared.share.NextShare.{NextShare}
-use Rattle.snapshot_format.specs.declared.saved.SavedFlow.{SavedFlow}
-use Rattle.snapshot_format.specs.declared.saved.SavedOperator.{SavedOperator}
-use Rattle.snapshot_format.specs.Reading.{Taken, take_items, AllFollow}
 use Rattle.snapshot_format.specs.Fields.{take_literal, take_presence, take_number, take_bytes}
 use Rattle.snapshot_format.specs.Records.{take_sid, take_waiting, take_pending, take_flow, flow_follows, take_flows, take_kind, take_state, is_timed, take_entry, entry_follows, take_entries, take_message, take_request, take_arrival, arrival_follows, take_arrivals, take_share, take_slice, take_next_share, take_next, take_head, take_operator, operator_follows, take_operators}
 use Rattle.snapshot_format.specs.Text.{address_field, bytes_text, sets_text, sid_text, flag_text, pending_record, flow_text, kind_text, state_text, entry_text, heard_text, arrival_text, share_text, next_text, head_text, operator_text}
-use Rattle.snapshot_format.specs.Saved.{IsModem, IsPending, IsSavedFlow, IsSavedEntry, IsHeard, IsSavedArrival, IsSavedShare, IsSavedNext, IsSavedOperator}
 use Rattle.snapshot_format.proofs.FieldLemmas.{IsOutside, field_back, name_back, modem_back, bytes_back}
 use Rattle.snapshot_format.proofs.SetLemmas.{long_back, short_back, byte_back, sets_back}
 

@@ -1,22 +1,12 @@
 -- Parameter sets that were written are read again.
 use Rattle.std.proofs.Common.{◌≡◌, ℕ, ◌<◌, ◌^◌, ◌==◌, ◌&&◌, true, nat_le, List, ◌∷◌, ◌++◌, Option, Some, None, Ok, refl, ap, ◌∙◌, append_assoc, arith}
-use Rattle.std.specs.Prelude.{IfSome}
-use Rattle.std.specs.Fmt.{decimal}
-use Rattle.std.specs.Char.{digit_value}
-use Rattle.std.proofs.lemmas.Bool.{le-leb, and_parts, eqb-true, leb-true}
+use Rattle.snapshot_format.proofs.Common.{IfSome, decimal, digit_value, le-leb, and_parts, eqb-true, leb-true, ParamFields, SetsFields, IsParameterSet, IsOfKind, HasNoPolls, HasNoGrants, HasGrants, IsWithinProvisioned, IsWithinOrNull, nothing_fails, IsSet, AreSets}
 use Rattle.param_sets.specs.declared.scheduling.Scheduling.{Scheduling}
 use Rattle.param_sets.specs.declared.scheduling.Scheduling.TheVariants.{BestEffort, NonRealTimePolling, RealTimePolling, UnsolicitedGrant}
-use Rattle.param_sets.specs.declared.param_set.ParamFields.{ParamFields}
-use Rattle.param_sets.specs.declared.sets.SetsFields.{SetsFields}
 use Rattle.param_sets.specs.Scheduling.{scheduling_number, scheduling_of}
-use Rattle.param_sets.specs.ParamSet.{IsParameterSet, IsOfKind, HasNoPolls, HasNoGrants, HasGrants}
-use Rattle.param_sets.specs.Sets.{IsWithinProvisioned}
-use Rattle.param_sets.specs.Within.{IsWithinOrNull}
-use Rattle.param_sets.proofs.WithinLemmas.{nothing_fails}
 use Rattle.snapshot_format.specs.Fields.{take_literal, take_presence, take_number}
 use Rattle.snapshot_format.specs.Sets.{take_scheduling, take_params, has_no_polls, has_no_grants, has_grants, is_of_kind, is_parameter_set, take_set, take_optional_set, checked_sets, take_sets}
 use Rattle.snapshot_format.specs.Text.{params_text, optional_set_text, sets_text}
-use Rattle.snapshot_format.specs.Saved.{IsSet, AreSets}
 use Rattle.snapshot_format.proofs.FieldLemmas.{number_back}
 
 -- ---- numbers of a width

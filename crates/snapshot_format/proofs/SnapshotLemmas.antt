@@ -1,18 +1,10 @@
 -- A snapshot that was written is read again.
 use Rattle.std.proofs.Common.{◌≡◌, ℕ, ◌+◌, ◌-◌, ◌%◌, ◌<◌, ◌^◌, false, nat_lt, List, [], ◌∷◌, ◌++◌, length, take, Result, Ok, refl, ap, subst, ◌∙◌, append_assoc, arith, codes, length-append}
-use Rattle.std.specs.List.{flat_map}
-use Rattle.std.specs.Fmt.{decimal}
-use Rattle.std.specs.Char.{digit_value}
-use Rattle.std.proofs.lemmas.Bool.{eq-eqb, le-ltb}
-use Rattle.std.proofs.lemmas.List.{take_at, drop_at}
-use Rattle.snapshot_format.specs.declared.fault.SnapshotFault.{SnapshotFault}
-use Rattle.snapshot_format.specs.declared.saved.Snapshot.{Snapshot}
+use Rattle.snapshot_format.proofs.Common.{flat_map, decimal, digit_value, eq-eqb, le-ltb, take_at, drop_at, SnapshotFault, Snapshot, Gives, IsSnapshot}
 use Rattle.snapshot_format.specs.Fields.{take_literal}
 use Rattle.snapshot_format.specs.Checksum.{adler_after, adler_32, line_count}
 use Rattle.snapshot_format.specs.Text.{operator_text, opening_text, body_text, closing_line, text_of_snapshot}
-use Rattle.lists.specs.Results.{Gives}
 use Rattle.snapshot_format.specs.Snapshot.{take_version, take_plant, take_frame, take_body, take_end, checked_end, snapshot_of, snapshot_cause}
-use Rattle.snapshot_format.specs.Saved.{IsSnapshot}
 use Rattle.snapshot_format.proofs.SetLemmas.{long_back, short_back}
 use Rattle.snapshot_format.proofs.RecordLemmas.{operators_back}
 

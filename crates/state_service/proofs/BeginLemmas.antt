@@ -2,28 +2,8 @@
 use Rattle.std.proofs.Common.{◌≡◌, ◌≢◌, ◌⊎◌, inl, inr, ⊎_elim, ℕ, ◌+◌, List, [], ◌∷◌, length, Option, Some, None, IfSome, Result, Ok, Err, OnOk, refl, sym, ap, subst, ◌∙◌, arith}
 use Rattle.std.specs.Prelude.{◌==◌, if◌then◌else◌}
 use Rattle.std.specs.declared.io.buffered.BufReader.{BufReader}
-use Rattle.std.specs.Io.Buffered.{reader_buffer, reader_capacity, reader_inner, reader_remaining}
-use Rattle.std.specs.Io.KnownBytes.{Appends, prepend_known}
-use Rattle.std.proofs.KnownBytes.{Appends-nil}
-use Rattle.run_model.specs.IsStateAfter.{CoreView}
-use Rattle.script_format.specs.Input.{plant_text, script_text}
+use Rattle.state_service.proofs.Common.{reader_buffer, reader_capacity, reader_inner, reader_remaining, Appends, prepend_known, Appends-nil, CoreView, plant_text, script_text, WhereKnown, PlantFields, Snapshot, states_of, IsRestarted, LeavesOnly, JournalContent, journal_content, SaysState, LeadsTo, PeriodEnd, Ended, Open, AreTakenSoFar, IsServing, LeadsHere, HasLines, HasNoFewer, LosesNoLine, IsRestFrame, greeting, IsAfterPeriod, LeadsAtEnd, ServiceOrigin, IsJournalOf, IsLeftFrom, IsLeftBy, HoldsTakenLines, IsFoundIn, IsSavedWith, IsChangedTo, IsUnderFile, IsFirstCore, IsRestoredFrom, IsServiceSoFar, IsServiceOn, IsStateService, IsUnharmed, IsLeftUnder, IsLeftByService, IsLeftByOpening, IsLeftAt}
 use Rattle.script_format.specs.Lines.{parts_of}
-use Rattle.line_service.specs.Bytes.{WhereKnown}
-use Rattle.plant.specs.declared.plant.PlantFields.{PlantFields}
-use Rattle.snapshot_format.specs.declared.saved.Snapshot.{Snapshot}
-use Rattle.snapshot_format.specs.States.{states_of}
-use Rattle.plant_restart.specs.Restarted.{IsRestarted}
-use Rattle.line_journal.specs.Device.{LeavesOnly}
-use Rattle.line_journal.specs.Journal.{JournalContent, journal_content}
-use Rattle.durable_service.specs.Durable.{SaysState, LeadsTo}
-use Rattle.state_service.specs.declared.period_end.PeriodEnd.{PeriodEnd}
-use Rattle.state_service.specs.declared.period_end.PeriodEnd.TheVariants.{Ended}
-use Rattle.state_service.specs.declared.reading.BatchEnd.TheVariants.{Open}
-use Rattle.state_service.specs.Taking.{AreTakenSoFar}
-use Rattle.state_service.specs.Serving.{IsServing, LeadsHere, HasLines, HasNoFewer, LosesNoLine, IsRestFrame, greeting}
-use Rattle.state_service.specs.Periods.{IsAfterPeriod, LeadsAtEnd}
-use Rattle.state_service.specs.Crashes.{ServiceOrigin, IsJournalOf, IsLeftFrom, IsLeftBy, HoldsTakenLines}
-use Rattle.state_service.specs.Beginning.{IsFoundIn, IsSavedWith, IsChangedTo, IsUnderFile, IsFirstCore, IsRestoredFrom, IsServiceSoFar, IsServiceOn, IsStateService, IsUnharmed, IsLeftUnder, IsLeftByService, IsLeftByOpening, IsLeftAt}
 use Rattle.state_service.proofs.ReadLemmas.{take_nil}
 use Rattle.state_service.proofs.KeepLemmas.{weaker, joined, begun_loses_none}
 use Rattle.state_service.proofs.CrashLemmas.{origin_of, under_file, none_taken}

@@ -1,13 +1,10 @@
 -- A snapshot of a core, as it is saved and as it is the answer to a line.
 use Rattle.std.proofs.Common.{◌≡◌, ℕ, List, map, refl, ap, ◌∙◌}
-use Rattle.run_model.specs.IsStateAfter.{CoreView}
-use Rattle.snapshot_format.specs.declared.saved.Snapshot.{Snapshot}
-use Rattle.snapshot_format.specs.States.{states_of}
+use Rattle.state_service.proofs.Common.{CoreView, Snapshot, states_of, IsSavedCore}
 use Rattle.snapshot_format.specs.Text.{text_of_snapshot}
 use Rattle.plant_restart.specs.Saving.{saved_book, IsCoreSnapshot}
 use Rattle.plant_restart.proofs.SaveLemmas.{states_saved}
 use Rattle.resumed_service.specs.Items.{SnapshotIsGiven}
-use Rattle.resumed_service.specs.NewFrames.{IsSavedCore}
 
 module _ (file : List ℕ) (live : CoreView) (saved : Snapshot) (is : IsSavedCore file live saved) where
   pub core_snapshot_is : IsCoreSnapshot live file saved

@@ -1,27 +1,7 @@
 -- Which lines of the input a journal has at any moment.
 use Rattle.std.proofs.Common.{◌≡◌, ◌⊎◌, inl, inr, ⊎_elim, ℕ, ◌+◌, List, [], ◌∷◌, ◌++◌, length, map, Option, Some, None, Vec, IfSome, refl, sym, ap, subst, ◌∙◌, arith, append_assoc, append-nil}
-use Rattle.std.specs.declared.alloc.Global.{Global}
-use Rattle.std.specs.Io.KnownBytes.{Appends, append_known}
-use Rattle.std.proofs.lemmas.List.{map-append}
-use Rattle.plant.specs.declared.plant.PlantFields.{PlantFields}
-use Rattle.run_model.specs.IsStateAfter.{CoreView}
-use Rattle.script_format.specs.Lines.{lines_of, parts_from}
-use Rattle.snapshot_format.specs.States.{states_of}
-use Rattle.plant_restart.specs.Restarted.{IsRestarted}
-use Rattle.line_service.specs.Bytes.{WhereKnown}
-use Rattle.line_journal.specs.Device.{LeavesOnly}
-use Rattle.line_journal.specs.Journal.{JournalContent, journal_content, with_lines, fresh}
-use Rattle.durable_service.specs.Durable.{LeadsTo, IsLeading}
-use Rattle.durable_service.proofs.LeadLemmas.{leads_anew}
-use Rattle.state_service.specs.declared.period_end.DueState.{DueState}
-use Rattle.state_service.specs.declared.period_end.PeriodEnd.TheVariants.{Due}
-use Rattle.state_service.specs.declared.reading.BatchEnd.{BatchEnd}
+use Rattle.state_service.proofs.Common.{Global, Appends, append_known, map-append, PlantFields, CoreView, lines_of, parts_from, states_of, IsRestarted, WhereKnown, LeavesOnly, JournalContent, journal_content, with_lines, fresh, LeadsTo, IsLeading, leads_anew, DueState, Due, BatchEnd, kept_line, line_at_end, AreTaken, AreAllTaken, AreTakenSoFar, IsAfterBatch, Event, lines_done, LeadOn, LeadsHere, HasLines, HasNoFewer, SaysDue, AreFirstLines, HoldsLines, IsLeftBy, HoldsTakenLines, ServiceOrigin, IsJournalOf, IsLeftFrom, IsFirstCore, IsServiceSoFar, IsServedUpTo, IsLeftByService, IsLeftUnder}
 use Rattle.state_service.specs.declared.reading.BatchEnd.TheVariants as batch
-use Rattle.state_service.specs.Taking.{kept_line, line_at_end, AreTaken, AreAllTaken, AreTakenSoFar, IsAfterBatch}
-use Rattle.state_service.specs.Serving.{Event, lines_done, LeadOn, LeadsHere, HasLines, HasNoFewer}
-use Rattle.state_service.specs.Periods.{SaysDue}
-use Rattle.state_service.specs.Crashes.{AreFirstLines, HoldsLines, IsLeftBy, HoldsTakenLines, ServiceOrigin, IsJournalOf, IsLeftFrom}
-use Rattle.state_service.specs.Beginning.{IsFirstCore, IsServiceSoFar, IsServedUpTo, IsLeftByService, IsLeftUnder}
 use Rattle.state_service.proofs.KeepLemmas.{lines_added, state_put, weaker}
 use Rattle.state_service.proofs.ServeLemmas.{Reads}
 

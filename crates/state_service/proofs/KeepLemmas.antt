@@ -1,14 +1,6 @@
 -- What a journal has at any moment.
 use Rattle.std.proofs.Common.{◌≡◌, ◌≤◌, inl, inr, ⊎_elim, ℕ, ◌+◌, List, [], ◌++◌, length, Option, Vec, refl, sym, ap, subst, ◌∙◌, arith, length-append}
-use Rattle.std.specs.declared.alloc.Global.{Global}
-use Rattle.std.proofs.lemmas.List.{length-map}
-use Rattle.line_journal.specs.Found.{texts}
-use Rattle.plant.specs.declared.plant.PlantFields.{PlantFields}
-use Rattle.snapshot_format.specs.declared.saved.Snapshot.{Snapshot}
-use Rattle.line_journal.specs.Device.{LeavesOnly, Only, Elapses}
-use Rattle.line_journal.specs.Journal.{JournalContent, journal_content, with_lines, fresh, IsBeforeOrAfter}
-use Rattle.durable_service.specs.Durable.{SaysState, StandsForState, IsBegunWith}
-use Rattle.state_service.specs.Serving.{HasLines, HasNoFewer, LosesNoLine}
+use Rattle.state_service.proofs.Common.{Global, length-map, texts, PlantFields, Snapshot, LeavesOnly, Only, Elapses, JournalContent, journal_content, with_lines, fresh, IsBeforeOrAfter, SaysState, StandsForState, IsBegunWith, HasLines, HasNoFewer, LosesNoLine}
 
 -- more lines
 pub lines_added : (least : ℕ) (content later : Option JournalContent) (lines : List (List ℕ)) → HasNoFewer least content → later ≡ with_lines lines content → HasNoFewer least later

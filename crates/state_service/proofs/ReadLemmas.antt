@@ -1,16 +1,8 @@
 -- Lines that are taken of an input, a byte at a time.
 use Rattle.std.proofs.Common.{◌≡◌, ◌≢◌, ◌<◌, ◌≤◌, ℕ, zero, suc, ◌==◌, Bool, true, false, List, [], ◌∷◌, ◌++◌, length, take, drop, map, Vec, Option, Some, None, IfSome, ⊎_elim, refl, sym, ap, subst, ◌∙◌, arith, append_assoc, take-append-drop}
-use Rattle.std.specs.declared.alloc.Global.{Global}
+use Rattle.state_service.proofs.Common.{Global, Keeps, DropsConsumable, map-append, drop-append-le, parts_from, WhereKnown, texts, BatchEnd, kept_line, line_at_end, AreTaken, AreAllTaken, AreTakenToEnd, AreTakenSoFar, IsAfterBatch}
 use Rattle.std.specs.Io.{StartsWith}
-use Rattle.std.specs.Io.KnownBytes.{Keeps}
-use Rattle.std.specs.Io.BufRead.{DropsConsumable}
-use Rattle.std.proofs.lemmas.List.{map-append, drop-append-le}
 use Rattle.std.proofs.lemmas.Bool.Decides.{nat_tests}
-use Rattle.script_format.specs.Lines.{parts_from}
-use Rattle.line_service.specs.Bytes.{WhereKnown}
-use Rattle.line_journal.specs.Found.{texts}
-use Rattle.state_service.specs.declared.reading.BatchEnd.{BatchEnd}
-use Rattle.state_service.specs.Taking.{kept_line, line_at_end, AreTaken, AreAllTaken, AreTakenToEnd, AreTakenSoFar, IsAfterBatch}
 
 -- ---- the first bytes of a line
 

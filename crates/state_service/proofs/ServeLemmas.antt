@@ -1,24 +1,11 @@
 -- Lines that are done, one batch after the other, and commands.
 use Rattle.std.proofs.Common.{◌≡◌, ℕ, ◌+◌, List, [], ◌∷◌, ◌++◌, length, Option, Some, None, inl, inr, ⊎_elim, refl, ap, subst, sym, ◌∙◌, arith, append-nil, length-append}
-use Rattle.std.specs.Io.KnownBytes.{Appends}
-use Rattle.std.proofs.KnownBytes.{Appends-trans}
-use Rattle.run_model.specs.IsStateAfter.{CoreView}
-use Rattle.line_service.specs.Bytes.{WhereKnown}
-use Rattle.snapshot_format.specs.States.{states_of}
-use Rattle.plant_restart.specs.Restarted.{IsRestarted}
-use Rattle.durable_service.specs.Durable.{IsKeptState}
-use Rattle.resumed_service.specs.NewFrames.{frame_text}
+use Rattle.state_service.proofs.Common.{Appends, Appends-trans, CoreView, WhereKnown, states_of, IsRestarted, IsKeptState, frame_text, DueState, BatchEnd, AreNoCommands, IsRefusedCommand, IsCommandRefusedFor, IsSnapshotDue, IsNumberDue, IsCommandDue, AreTakenSoFar, IsAfterBatch, Event, lines_done, text_told, LeadOn, AreDoneNext, IsServing, IsAtLine, GoesOnFromState, GoesOnUnderNumber, IsAfterLines, GoesOnAfterSave}
 use Rattle.resumed_service.proofs.ServedLemmas.{known_map}
-use Rattle.state_service.specs.declared.period_end.DueState.{DueState}
-use Rattle.state_service.specs.declared.reading.BatchEnd.{BatchEnd}
 use Rattle.state_service.specs.declared.reading.BatchEnd.TheVariants.{Open, Command, Ended}
 use Rattle.state_service.specs.declared.performing.CommandRefusal.{CommandRefusal}
 use Rattle.state_service.specs.declared.performing.CommandRefusal.TheVariants.{NoSnapshot, NoNumber}
-use Rattle.state_service.specs.Commands.{AreNoCommands, IsRefusedCommand, IsCommandRefusedFor, IsSnapshotDue, IsNumberDue, IsCommandDue}
-use Rattle.state_service.specs.Taking.{AreTakenSoFar, IsAfterBatch}
-use Rattle.state_service.specs.Serving.{Event, lines_done, text_told, LeadOn, AreDoneNext, IsServing, IsAtLine, GoesOnFromState, GoesOnUnderNumber}
 use Rattle.state_service.specs.Serving.Event.{Done, Saved, SnapshotGiven, NumberGiven, CommandRefused}
-use Rattle.state_service.specs.Periods.{IsAfterLines, GoesOnAfterSave}
 
 pub none_if : {A : Type 0} (option : Option A) → ((some : A) → option ≡ Some some → ⊥) → option ≡ None
 none_if None other = refl

@@ -2,19 +2,13 @@
 use Rattle.std.proofs.Common.{◌≡◌, ◌≢◌, ◌≤◌, ℕ, List, Option, Some, None, Result, Ok, Err, IfSome, IfErr, subst, arith, lt_of_lt_of_le, lt_of_le_of_lt}
 use Rattle.toml.specs.Parse.{parse_document}
 use Rattle.slice_table.specs.ReadPlant.{text_plant}
-use Rattle.plant.specs.declared.plant.PlantFields.{PlantFields}
-use Rattle.run_model.specs.IsStateAfter.{CoreView}
-use Rattle.script_format.specs.Input.{plant_text}
+use Rattle.state_service.proofs.Common.{PlantFields, CoreView, plant_text, JournalContent, LeadsHere, IsFoundIn, IsSavedWith, IsDiskFault, IsServingFault, IsFaultOfChange, IsStartRefused, IsStartFault, IsJournalFault, IsRefusedAt, IsServiceFault}
 use Rattle.plant_restart.specs.declared.fault.ChangeFault.{ChangeFault}
 use Rattle.plant_restart.specs.declared.refusing.RefusedState.{RefusedState}
-use Rattle.line_journal.specs.Journal.{JournalContent}
 use Rattle.durable_service.specs.declared.fault.DurableFault.{DurableFault}
 use Rattle.durable_service.specs.declared.fault.DurableFault.TheVariants as durable
 use Rattle.state_service.specs.declared.fault.StateServiceFault.{StateServiceFault}
 use Rattle.state_service.specs.declared.fault.StateServiceFault.TheVariants.{NotText, InvalidPlant, Journal, NotRestored, NotChanged, Stream, NoMemory}
-use Rattle.state_service.specs.Serving.{LeadsHere}
-use Rattle.state_service.specs.Beginning.{IsFoundIn, IsSavedWith}
-use Rattle.state_service.specs.Faults.{IsDiskFault, IsServingFault, IsFaultOfChange, IsStartRefused, IsStartFault, IsJournalFault, IsRefusedAt, IsServiceFault}
 
 pub if_err : {T E : Type 0} (r : Result T E) (P Q : E → Type 0) → ((e : E) → P e → Q e) → IfErr r P → IfErr r Q
 if_err (Ok x) P Q f h = tt

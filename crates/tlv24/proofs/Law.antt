@@ -1,17 +1,6 @@
 -- The reading function answers what the relations say.
 use Rattle.std.proofs.Common.{◌≡◌, ◌≢◌, ℕ, zero, suc, ◌+◌, ◌-◌, ◌<◌, ◌≤◌, Bool, true, false, cond, leb, List, [], ◌∷◌, ◌++◌, length, take, drop, Option, Some, None, Result, Ok, Err, refl, sym, ap, subst, ◌∙◌, append_assoc, length-append, arith}
-use Rattle.std.proofs.lemmas.List.{take-append-drop, length-take, get_or-drop}
-use Rattle.std.proofs.lemmas.Option.{same_Some}
-use Rattle.std.proofs.lemmas.Bool.{leb-true, leb-false}
-use Rattle.tlv24.specs.declared.tlv.Tlv.{Tlv}
-use Rattle.tlv24.specs.declared.tlv.TlvFault.{TlvFault}
-use Rattle.tlv24.specs.declared.tlv.TlvFault.TheVariants.{Cut}
-use Rattle.tlv24.specs.declared.fields.FlowFields.{FlowFields}
-use Rattle.tlv24.specs.declared.fault.FlowFault.{FlowFault}
-use Rattle.tlv24.specs.Tlv.{tlv, spelled, spelled_one, IsFront, Begins, NoTlvBegins, First, Front, first_tlv, front_of}
-use Rattle.tlv24.specs.Flow.{fields_of, fault_of, flow_of, IsFlowEncoding, IsFirstFlowFault}
-use Rattle.tlv24.specs.Stated.{States}
-use Rattle.tlv24.specs.Reading.{IsReadUpTo}
+use Rattle.tlv24.proofs.Common.{take-append-drop, length-take, get_or-drop, same_Some, leb-true, leb-false, Tlv, TlvFault, Cut, FlowFields, FlowFault, tlv, spelled, spelled_one, IsFront, Begins, NoTlvBegins, First, Front, first_tlv, front_of, fields_of, fault_of, flow_of, IsFlowEncoding, IsFirstFlowFault, States, IsReadUpTo}
 use Rattle.tlv24.specs.Law.{AreBytes, IsRightAnswer}
 use Rattle.tlv24.proofs.Lists.{shrinks, front_of-none, front_of-some}
 use Rattle.tlv24.proofs.Sound.{read_nothing, read_more_here, read_all, read_flow_of, cut_exact, cut_first, fault_exact_here, fault_first_here, refused, one_flow, flow_ok}

@@ -1,3 +1,4 @@
+mod Common
 pub mod Law
 pub mod Lists
 pub mod Sound

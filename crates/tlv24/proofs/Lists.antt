@@ -1,9 +1,7 @@
 -- Lists of TLVs: their bytes tell them, and what is read from the front.
 use Rattle.std.proofs.Common.{◌≡◌, ℕ, zero, suc, ◌<◌, ◌≤◌, Bool, true, false, cond, leb, List, [], ◌∷◌, ◌++◌, length, take, drop, Option, Some, None, refl, sym, ap, subst, ◌∙◌, append_assoc, length-drop, arith}
-use Rattle.std.specs.List.{AllByRecursion}
-use Rattle.std.proofs.lemmas.List.{append-nil, take_at, drop_at}
+use Rattle.tlv24.proofs.Common.{AllByRecursion, append-nil, take_at, drop_at, Tlv}
 use Rattle.std.proofs.lemmas.Grind.{flat_map-append}
-use Rattle.tlv24.specs.declared.tlv.Tlv.{Tlv}
 use Rattle.tlv24.specs.Tlv.{tlv, FitsLengthByte, spelled_one, spelled, IsTlvList, IsFront, Begins, NoTlvBegins, First, Front, first_tlv, front_within, front_of}
 
 -- ---- the bytes tell the list

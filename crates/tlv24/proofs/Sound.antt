@@ -1,22 +1,7 @@
 -- Reading a flow encoding from left to right, against what it means.
 use Rattle.std.proofs.Common.{◌≡◌, ◌≢◌, ℕ, zero, suc, ◌-◌, ◌<◌, ◌≤◌, Bool, true, false, cond, eqb, not, nat_lt, ◌||◌, List, [], ◌∷◌, ◌++◌, length, slice_get, Option, Some, None, is_some, Result, Ok, Err, refl, sym, ap, subst, ◌∙◌, ◌⊎◌, length-append, eq-eqb, arith, inl, inr}
-use Rattle.std.specs.Prelude.{IfSome}
-use Rattle.std.specs.Option.{option_map}
-use Rattle.std.specs.List.{AllByRecursion}
-use Rattle.std.proofs.lemmas.List.{append-nil}
-use Rattle.std.proofs.lemmas.Option.{same_Some}
-use Rattle.std.proofs.lemmas.Bool.{cases_eq, leb-true}
-use Rattle.std.proofs.lemmas.Bool.Decides.{nat_tests}
-use Rattle.tlv24.specs.declared.tlv.Tlv.{Tlv}
-use Rattle.tlv24.specs.declared.tlv.TlvFault.{TlvFault}
-use Rattle.tlv24.specs.declared.tlv.TlvFault.TheVariants.{Cut, WrongLength, Twice, Range, NoMemory}
-use Rattle.tlv24.specs.declared.fields.FlowFields.{FlowFields}
-use Rattle.tlv24.specs.declared.fault.FlowFault.{FlowFault}
-use Rattle.tlv24.specs.Tlv.{tlv, FitsLengthByte, spelled, Begins, NoTlvBegins, First, Front, first_tlv, front_of}
+use Rattle.tlv24.proofs.Common.{IfSome, option_map, AllByRecursion, append-nil, same_Some, cases_eq, leb-true, nat_tests, Tlv, TlvFault, Cut, WrongLength, Twice, Range, NoMemory, FlowFields, FlowFault, tlv, FitsLengthByte, spelled, Begins, NoTlvBegins, First, Front, first_tlv, front_of, States, AreInRange, IsReadUpTo}
 use Rattle.tlv24.specs.Flow.{byte, word, long, low_bits, value_of, values_of, lengths_of, in_range, fields_of, IsOfSubtype, IsOnceAtMost, EachIsOnceAtMost, IsFlowEncoding, fault_with, fault_of, GoesWrong, IsFirstFlowFault, fault_after, says_after, cut_in, flow_of}
-use Rattle.tlv24.specs.Stated.{States}
-use Rattle.tlv24.specs.Range.{AreInRange}
-use Rattle.tlv24.specs.Reading.{IsReadUpTo}
 use Rattle.tlv24.proofs.Values.{differs, values_of-append, values_same, values_other, IsFine, fine, fault_of-known, lengths_low, lengths_high}
 use Rattle.tlv24.proofs.Lists.{goes_on, one_list, starts_with, not_stuck, IsFront-more, front_of-none, front_of-some}
 

@@ -1,12 +1,7 @@
 -- What stands under a subtype after one more TLV.
 use Rattle.std.proofs.Common.{◌≡◌, ◌≢◌, ◌≤◌, ℕ, Bool, true, false, cond, List, [], ◌∷◌, ◌++◌, length, map, filter, slice_get, Option, Some, None, is_some, refl, sym, ap, subst, ◌∙◌, eqb, eq-eqb, arith, nat_lt, ◌||◌}
-use Rattle.std.proofs.lemmas.List.{map-append, append-nil}
+use Rattle.tlv24.proofs.Common.{map-append, append-nil, nat_tests, Tlv, TlvFault, WrongLength, Twice, Range, tlv}
 use Rattle.std.proofs.lemmas.List.Elements.{filter-append}
-use Rattle.std.proofs.lemmas.Bool.Decides.{nat_tests}
-use Rattle.tlv24.specs.declared.tlv.Tlv.{Tlv}
-use Rattle.tlv24.specs.declared.tlv.TlvFault.{TlvFault}
-use Rattle.tlv24.specs.declared.tlv.TlvFault.TheVariants.{WrongLength, Twice, Range}
-use Rattle.tlv24.specs.Tlv.{tlv}
 use Rattle.tlv24.specs.Flow.{values_of, value_of, lengths_of, fault_with, fault_of, in_range, is_terminated}
 
 pub values_of-append : (subtype : ℕ) (xs ys : List Tlv) → values_of subtype (xs ++ ys) ≡ values_of subtype xs ++ values_of subtype ys

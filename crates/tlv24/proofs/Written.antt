@@ -1,23 +1,9 @@
 -- What is written says the fields: each known subtype stands where its field does, once, with its length and in its range.
 use Rattle.std.proofs.Common.{◌≡◌, ◌≢◌, ℕ, ◌-◌, ◌<◌, ◌≤◌, ◌%◌, ◌^◌, Bool, true, false, cond, eqb, ltb, not, ◌&&◌, List, [], ◌∷◌, ◌++◌, length, slice_get, get_or, Option, Some, None, refl, sym, ap, subst, ◌∙◌, append_assoc, length-append, eq-eqb, arith, inl, inr}
-use Rattle.std.specs.Prelude.{IfSome, IsTrue, option_to_list}
-use Rattle.std.specs.Option.{option_map}
-use Rattle.std.specs.Int.{w16, w32, to_be_bytes}
-use Rattle.std.specs.List.{AllByRecursion, list_all}
+use Rattle.tlv24.proofs.Common.{IfSome, IsTrue, option_to_list, option_map, w16, w32, to_be_bytes, AllByRecursion, list_all, append-nil, take_at, same_Some, cases_eq, le-leb, ltb-true, and_from, Tlv, FlowFields, FitsLengthByte, spelled, IsClassName, AreInRange, byte, word, long, low_bits, name_of, errored_of, value_of, values_of, lengths_of, in_range, is_terminated, IsOfSubtype, IsOnceAtMost, EachIsOnceAtMost, IsFlowEncoding, single, terminated_name, spelled_error, under, tlvs_of, States}
 use Rattle.std.proofs.Math.Seq.{get_or-append_seam}
-use Rattle.std.proofs.lemmas.List.{append-nil, take_at}
 use Rattle.std.proofs.lemmas.Nat.{from_be_bytes-to_be_bytes_2, from_be_bytes-to_be_bytes_4}
-use Rattle.std.proofs.lemmas.Option.{same_Some}
-use Rattle.std.proofs.lemmas.Bool.{cases_eq, le-leb, ltb-true, and_from}
-use Rattle.tlv24.specs.declared.tlv.Tlv.{Tlv}
 use Rattle.tlv24.specs.declared.fields.ErrorEncodings.{ErrorEncodings}
-use Rattle.tlv24.specs.declared.fields.FlowFields.{FlowFields}
-use Rattle.tlv24.specs.Tlv.{FitsLengthByte, spelled}
-use Rattle.tlv24.specs.Name.{IsClassName}
-use Rattle.tlv24.specs.Range.{AreInRange}
-use Rattle.tlv24.specs.Flow.{byte, word, long, low_bits, name_of, errored_of, value_of, values_of, lengths_of, in_range, is_terminated, IsOfSubtype, IsOnceAtMost, EachIsOnceAtMost, IsFlowEncoding}
-use Rattle.tlv24.specs.Spelling.{single, terminated_name, spelled_error, under, tlvs_of}
-use Rattle.tlv24.specs.Stated.{States}
 use Rattle.tlv24.proofs.Values.{values_of-append, differs}
 use Rattle.tlv24.proofs.Lists.{spelled-append, short-append}
 use Rattle.tlv24.proofs.Sound.{stated_fields}

@@ -1,17 +1,12 @@
 -- What decides a message, by what it was read as, and a step, by whose message it handles.
 use Rattle.std.proofs.Common.{◌≡◌, ℕ, List, Option, Some, None, option_map, Result, IfOk, refl, sym, ap, ◌∙◌, subst}
-use Rattle.std.specs.Prelude.{slice_get}
-use Rattle.std.proofs.lemmas.Option.{slice_get-map}
+use Rattle.trace_report.proofs.Common.{slice_get, slice_get-map, Step, CoreView, Decision, AtHand, IsDecision, IsDecisionOf, first_message, message_of_step, message_at_hand}
 use Rattle.std.specs.declared.alloc.AllocError.{AllocError}
 use Rattle.operator_model.specs.Replay.{BookView}
 use Rattle.operator_model.specs.State.{Operator, operator}
-use Rattle.run_model.specs.declared.step.Step.{Step}
 use Rattle.run_model.specs.declared.step.Step.TheVariants as steps
-use Rattle.run_model.specs.IsStateAfter.{CoreView}
 use Rattle.live_core.specs.Performing.{forgotten, IsOf}
-use Rattle.trace_report.specs.declared.decision.Decision.{Decision}
 use Rattle.trace_report.specs.declared.seen.StepReport.{StepReport}
-use Rattle.trace_report.specs.Decision.{AtHand, IsDecision, IsDecisionOf, first_message, message_of_step, message_at_hand}
 
 -- ---- a step
 

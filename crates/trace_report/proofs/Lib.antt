@@ -1,3 +1,4 @@
+mod Common
 pub mod DecisionLemmas
 pub mod LineLemmas
 pub mod QuoteLemmas

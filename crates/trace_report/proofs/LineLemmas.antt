@@ -1,12 +1,9 @@
 -- A text in two at its first line feed.
 use Rattle.std.proofs.Common.{◌≡◌, ℕ, zero, suc, ◌+◌, ◌<◌, ◌≤◌, ◌==◌, ◌≢◌, Bool, true, false, List, [], ◌∷◌, ◌++◌, length, take, drop, arith, refl, sym, ap, subst, ◌∙◌, eq-eqb, append_assoc, append-nil}
-use Rattle.std.proofs.lemmas.List.{take_all}
+use Rattle.trace_report.proofs.Common.{take_all, slice_index, slice_index_or, HasNoBreak, line_at, IsRestAfter}
 use Rattle.memchr.specs.Find.{Nowhere, NoneBefore, Passes, is_byte}
-use Rattle.std.specs.Prelude.{slice_index, slice_index_or}
 use Rattle.std.proofs.lemmas.Bool.{false_from_ne_true, eqb-true}
 use Rattle.script_format.specs.Lines.{parts_from, parts_of, lines_of}
-use Rattle.line_service.specs.Front.{HasNoBreak}
-use Rattle.trace_report.specs.Quotes.{line_at, IsRestAfter}
 
 -- what stands before the first line feed has none
 pub no_break_before : (text : List ℕ) (place : ℕ) → Nowhere (Passes (is_byte 10) text) 0 place → HasNoBreak (take place text)

@@ -1,13 +1,7 @@
 -- Lines of a script that are quoted.
 use Rattle.std.proofs.Common.{◌≡◌, ℕ, ◌+◌, ◌-◌, ◌^◌, ◌<◌, ◌≤◌, true, false, List, [], ◌∷◌, ◌++◌, Option, max, arith, ap, subst, ◌∙◌}
-use Rattle.std.specs.Prelude.{nat_lt}
+use Rattle.trace_report.proofs.Common.{nat_lt, Appends, Appends-nil, HasNoBreak, line_at, IsRestAfter, quote, HasNoCheckLine, HasQuoted}
 use Rattle.std.proofs.lemmas.Bool.Decides.{nat_tests}
-use Rattle.std.specs.Io.KnownBytes.{Appends}
-use Rattle.std.proofs.KnownBytes.{Appends-nil}
-use Rattle.line_service.specs.Front.{HasNoBreak}
-use Rattle.trace_report.specs.Quotes.{line_at, IsRestAfter, quote}
-use Rattle.trace_report.specs.Remarks.{HasNoCheckLine}
-use Rattle.trace_report.specs.Told.{HasQuoted}
 use Rattle.trace_report.proofs.LineLemmas.{rest_more}
 use Rattle.trace_report.proofs.RemarkLemmas.{no_remark, said_remark}
 

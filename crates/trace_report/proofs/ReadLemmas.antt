@@ -1,9 +1,6 @@
 -- What a reader of a trace finds.
 use Rattle.std.proofs.Common.{◌≡◌, ◌≢◌, ◌==◌, ℕ, ◌+◌, ◌-◌, ◌^◌, ◌<◌, ◌≤◌, Bool, true, false, List, [], ◌∷◌, ◌++◌, arith, Option, Some, None, refl, sym, ap, subst, ◌∙◌, append_assoc, append-nil, codes}
-use Rattle.std.specs.Prelude.{filter}
-use Rattle.std.specs.Fmt.{decimal}
-use Rattle.std.specs.List.{AllByRecursion}
-use Rattle.std.proofs.lemmas.Option.{slice_get_within}
+use Rattle.trace_report.proofs.Common.{filter, decimal, AllByRecursion, slice_get_within, HasNoBreak, Decision, is_check_line, IsOtherLine, with_ends, HasNoCheckLine, check_lines, check_line, IsDecisionText, IsTraceText}
 use Rattle.check_table.specs.declared.check.Check.{Check}
 use Rattle.check_table.specs.declared.check.Check.TheVariants as checks
 use Rattle.check_table.specs.declared.check.MessageCheck.{MessageCheck}
@@ -11,13 +8,9 @@ use Rattle.check_table.specs.declared.check.MessageCheck.TheVariants as message_
 use Rattle.check_table.specs.Table.{table}
 use Rattle.check_table.specs.Messages.{message_table}
 use Rattle.script_format.specs.Lines.{parts_from, parts_of}
-use Rattle.line_service.specs.Front.{HasNoBreak}
-use Rattle.trace_report.specs.declared.decision.Decision.{Decision}
 use Rattle.trace_report.specs.declared.decision.Decision.TheVariants as decisions
 use Rattle.trace_report.specs.Names.{message_check_name, check_name}
 use Rattle.trace_report.specs.Reading.{AreDecisionLines, TraceIsRead}
-use Rattle.trace_report.specs.Remarks.{is_check_line, IsOtherLine, with_ends, HasNoCheckLine, check_lines}
-use Rattle.trace_report.specs.Trace.{check_line, IsDecisionText, IsTraceText}
 use Rattle.trace_report.proofs.LineLemmas.{line_first}
 use Rattle.trace_report.proofs.RemarkLemmas.{no_break_both, no_break_decimal, no_break_of}
 use Rattle.trace_report.proofs.TextLemmas.{text_remark}

@@ -1,17 +1,8 @@
 -- Lines with no line feed, and remarks one after the other.
 use Rattle.std.proofs.Common.{Option, ◌≡◌, ◌≢◌, ◌==◌, ℕ, ◌+◌, ◌-◌, ◌*◌, ◌/◌, ◌%◌, ◌^◌, ◌<◌, ◌≤◌, Bool, true, false, not, List, [], ◌∷◌, ◌++◌, arith, refl, sym, ap, subst, ◌∙◌, append_assoc, append-nil, codes, eq-eqb, true≢false}
-use Rattle.std.specs.Fmt.{decimal}
-use Rattle.std.specs.List.{list_all, AllByRecursion}
+use Rattle.trace_report.proofs.Common.{decimal, list_all, AllByRecursion, map-append, HasNoBreak, Appends, Appends-nil, Appends-trans, map, quote, HasWorded, IsOtherLine, with_ends, HasNoCheckLine, indented_line, AreWords, no_words_line}
 use Rattle.std.proofs.lemmas.Fmt.{decimal_by_steps}
 use Rattle.std.proofs.lemmas.Grind.{flat_map-append}
-use Rattle.std.proofs.lemmas.List.{map-append}
-use Rattle.line_service.specs.Front.{HasNoBreak}
-use Rattle.std.specs.Io.KnownBytes.{Appends}
-use Rattle.std.proofs.KnownBytes.{Appends-nil, Appends-trans}
-use Rattle.std.specs.Prelude.{map}
-use Rattle.trace_report.specs.Quotes.{quote}
-use Rattle.trace_report.specs.Told.{HasWorded}
-use Rattle.trace_report.specs.Remarks.{IsOtherLine, with_ends, HasNoCheckLine, indented_line, AreWords, no_words_line}
 
 -- ---- no line feed
 

@@ -1,10 +1,6 @@
 -- What is written of steps, one step after the other.
 use Rattle.std.proofs.Common.{◌≡◌, ℕ, List, [], ◌∷◌, ◌++◌, max, Option, Some, None, refl, sym, ap, ◌∙◌, append_assoc, append-nil}
-use Rattle.script_format.specs.declared.script.LineStep.{LineStep}
-use Rattle.trace_report.specs.declared.decision.Decision.{Decision}
-use Rattle.trace_report.specs.Quotes.{quote_after}
-use Rattle.trace_report.specs.Remarks.{AreWords}
-use Rattle.trace_report.specs.Trace.{IsDecisionText, last_quoted, IsReportText}
+use Rattle.trace_report.proofs.Common.{LineStep, Decision, quote_after, AreWords, IsDecisionText, last_quoted, IsReportText}
 
 -- a step more is quoted
 pub last_more : (last : ℕ) (lines : List LineStep) (line : LineStep) → last_quoted last (lines ++ line ∷ []) ≡ max (last_quoted last lines) line.number

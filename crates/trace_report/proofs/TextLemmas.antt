@@ -1,10 +1,6 @@
 -- Decisions and their texts, one behind the other.
 use Rattle.std.proofs.Common.{◌≡◌, ℕ, List, [], ◌∷◌, ◌++◌, Option, sym, ap, ◌∙◌, subst, append_assoc, append-nil}
-use Rattle.plant.specs.declared.plant.PlantFields.{PlantFields}
-use Rattle.run_model.specs.declared.step.Step.{Step}
-use Rattle.trace_report.specs.declared.decision.Decision.{Decision}
-use Rattle.trace_report.specs.Remarks.{HasNoCheckLine}
-use Rattle.trace_report.specs.Trace.{IsDecisionAfter, AreDecided, IsDecisionText, IsTraceText}
+use Rattle.trace_report.proofs.Common.{PlantFields, Step, Decision, HasNoCheckLine, IsDecisionAfter, AreDecided, IsDecisionText, IsTraceText}
 use Rattle.trace_report.proofs.RemarkLemmas.{no_remark, remark_both}
 
 -- three pieces with a fourth behind them

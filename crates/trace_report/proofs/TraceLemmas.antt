@@ -1,29 +1,13 @@
 -- The steps of a script, one after the other.
 use Rattle.std.proofs.Common.{◌≡◌, inl, inr, true, false, ℕ, zero, suc, List, [], ◌∷◌, ◌++◌, take, max, Option, Some, None, Err, refl, sym, ap, subst, ◌∙◌, append_assoc}
-use Rattle.std.specs.Prelude.{slice_get}
-use Rattle.std.proofs.KnownBytes.{Appends-nil, Appends-trans}
-use Rattle.std.proofs.lemmas.List.{map-append}
-use Rattle.plant.specs.declared.plant.PlantFields.{PlantFields}
-use Rattle.run_model.specs.declared.step.Step.{Step}
-use Rattle.run_model.specs.declared.step.Out.{Out}
-use Rattle.run_model.specs.IsStateAfter.{CoreView, IsStateAfter}
+use Rattle.trace_report.proofs.Common.{slice_get, Appends-nil, Appends-trans, map-append, PlantFields, Step, Out, CoreView, IsStateAfter, LineStep, steps_without_numbers, Decision, IsDecision, quote_after, no_words_line, AreDecided, IsTraceText, last_quoted, IsReportText, HasNoWords, HasTraced, HasQuoted, HasToldStep, first_left, none_left, take_next, drop_next, ends_at}
 use Rattle.live_core.specs.declared.core_fault.CoreFault.{CoreFault}
 use Rattle.live_core.specs.Faults.{step_fault, IsReported}
-use Rattle.script_format.specs.declared.script.LineStep.{LineStep}
-use Rattle.script_format.specs.Script.{steps_without_numbers}
 use Rattle.line_service.specs.declared.steps_end.StepsEnd.{StepsEnd}
 use Rattle.line_service.specs.declared.steps_end.StepsEnd.TheVariants as ends
 use Rattle.line_service.specs.Ends.{steps_end}
 use Rattle.line_service.specs.Steps.{IsStepsEndAt}
-use Rattle.trace_report.specs.declared.decision.Decision.{Decision}
-use Rattle.trace_report.specs.Decision.{IsDecision}
-use Rattle.trace_report.specs.Quotes.{quote_after}
-use Rattle.trace_report.specs.Remarks.{no_words_line}
-use Rattle.trace_report.specs.Trace.{AreDecided, IsTraceText, last_quoted, IsReportText, HasNoWords, HasTraced}
-use Rattle.trace_report.specs.Told.{HasQuoted, HasToldStep}
 use Rattle.trace_report.proofs.TracedSoFar.{IsTracedSoFar}
-use Rattle.line_service.proofs.LeftLemmas.{first_left, none_left, take_next, drop_next}
-use Rattle.line_service.proofs.StepLemmas.{ends_at}
 use Rattle.trace_report.proofs.RemarkLemmas.{no_remark, words_remark, no_words_are}
 use Rattle.trace_report.proofs.ReportLemmas.{last_more, next_quoted, step_reported}
 use Rattle.trace_report.proofs.TextLemmas.{text_remark, text_more, decided_more}

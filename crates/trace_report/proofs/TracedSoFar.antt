@@ -1,13 +1,6 @@
 -- How much of a trace is written so far.
 use Rattle.std.proofs.Common.{◌≡◌, ℕ, List, [], take, drop, Option}
-use Rattle.std.specs.Io.KnownBytes.{Appends}
-use Rattle.plant.specs.declared.plant.PlantFields.{PlantFields}
-use Rattle.run_model.specs.declared.step.Out.{Out}
-use Rattle.run_model.specs.IsStateAfter.{CoreView, IsStateAfter}
-use Rattle.script_format.specs.declared.script.LineStep.{LineStep}
-use Rattle.script_format.specs.Script.{steps_without_numbers}
-use Rattle.trace_report.specs.declared.decision.Decision.{Decision}
-use Rattle.trace_report.specs.Trace.{AreDecided, IsTraceText, last_quoted, IsReportText}
+use Rattle.trace_report.proofs.Common.{Appends, PlantFields, Out, CoreView, IsStateAfter, LineStep, steps_without_numbers, Decision, AreDecided, IsTraceText, last_quoted, IsReportText}
 
 -- some of the steps are done and told, and these are left; the line of `next` is quoted, and `last` is the greatest number before
 pub record IsTracedSoFar (plant : PlantFields) (script : List ℕ) (steps : List LineStep) (last : ℕ) (next : Option LineStep) (core : CoreView) (old new : Option (List ℕ)) (left : List LineStep) : Type 0 where

@@ -1,19 +1,8 @@
 -- What begins and acknowledgements keep of the entries.
 use Rattle.std.proofs.Common.{◌≡◌, ℕ, ◌<◌, ◌≤◌, Bool, true, false, cond, List, [], ◌∷◌, ◌++◌, length, get_or, set, map, count_by, Option, Some, None, is_some, option_map, refl, sym, ap, ◌∙◌, arith, inl, inr, Bor}
-use Rattle.std.specs.List.{find, position}
+use Rattle.transactions.proofs.Common.{find, position, cases_Bool, and_parts, eqb-true, true≢false, length-set, length_push, All-push, All-set, sum_by_push, sum_by-set, position-Some, Kind, Modem, KeptEntry, Waits, IsLasting, is_of, waits_for, begun_entry, held_entry, entry_after_ack, OneEach, HasTicks, IsHeldUnsent, IsKept}
 use Rattle.std.specs.Option.{option_copied}
-use Rattle.std.proofs.lemmas.Bool.{cases_Bool, and_parts, eqb-true, true≢false}
 use Rattle.std.proofs.lemmas.Slice.Eq.{bytes_eq-Decides}
-use Rattle.std.proofs.lemmas.List.{length-set, length_push}
-use Rattle.std.proofs.lemmas.List.Elements.{All-push, All-set}
-use Rattle.std.proofs.lemmas.List.Sums.{sum_by_push, sum_by-set}
-use Rattle.std.proofs.lemmas.List.Quantifiers.{position-Some}
-use Rattle.dsx_messages.specs.declared.kind.Kind.{Kind}
-use Rattle.dsx_messages.specs.declared.modem.Modem.{Modem}
-use Rattle.transactions.specs.declared.entry.KeptEntry.{KeptEntry}
-use Rattle.transactions.specs.Waits.{Waits, IsLasting}
-use Rattle.transactions.specs.Entry.{is_of, waits_for}
-use Rattle.transactions.specs.Keeping.{begun_entry, held_entry, entry_after_ack, OneEach, HasTicks, IsHeldUnsent, IsKept}
 use Rattle.transactions.proofs.ListLemmas.{count_by-none, count_by-weaker, find-position, find-no_position, none_changed, one_changed}
 
 -- an entry that is of a modem and a transaction ID names both

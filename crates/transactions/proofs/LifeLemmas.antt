@@ -1,14 +1,7 @@
 -- The life of an entry, tick by tick and wait by wait.
 use Rattle.std.proofs.Common.{◌≡◌, ℕ, zero, suc, ◌+◌, ◌-◌, ◌*◌, ◌<◌, ◌≤◌, true, List, refl, ap, ◌∙◌, arith}
 use Rattle.std.specs.Fn.{iterate}
-use Rattle.std.proofs.lemmas.Bool.{cond-true, cond-false, and_left, and_from, ne_eqb, eq-eqb, lt-ltb}
-use Rattle.dsx_messages.specs.declared.kind.Kind.{Kind}
-use Rattle.dsx_messages.specs.declared.modem.Modem.{Modem}
-use Rattle.transactions.specs.declared.entry.KeptEntry.{KeptEntry}
-use Rattle.transactions.specs.Waits.{Waits, IsLasting}
-use Rattle.transactions.specs.Entry.{is_waiting}
-use Rattle.transactions.specs.Timers.{is_response_due, is_resent, is_given_up, is_forgotten, entry_after_tick}
-use Rattle.transactions.specs.Keeping.{begun_entry, held_entry}
+use Rattle.transactions.proofs.Common.{cond-true, cond-false, and_left, and_from, ne_eqb, eq-eqb, lt-ltb, Kind, Modem, KeptEntry, Waits, IsLasting, is_waiting, is_response_due, is_resent, is_given_up, is_forgotten, entry_after_tick, begun_entry, held_entry}
 use Rattle.transactions.specs.Life.{after_ticks, WaitsInVain, IsOnlyHeld}
 
 -- m ticks, and then n

@@ -1,14 +1,9 @@
 -- Lists that a pass takes from, changes, or writes to at one place.
 use Rattle.std.proofs.Common.{◌≡◌, ℕ, zero, suc, ◌+◌, ◌<◌, ◌≤◌, Bool, true, false, cond, List, [], ◌∷◌, ◌++◌, length, get_or, set, take, slice_get, nat_lt, map, filter, count_by, Option, Some, None, is_some, IsSome, IfSome, IfNone, All, refl, sym, ap, ◌∙◌, subst, arith}
 use Rattle.std.specs.List.Retain.{RetainsInTurn}
-use Rattle.std.specs.List.{find, position, position_or_len}
-use Rattle.std.proofs.lemmas.Bool.{true≢false, ltb-false}
+use Rattle.transactions.proofs.Common.{find, position, position_or_len, true≢false, ltb-false, append-nil, map-append, All-filter, filter_passes, filter_more, All-map, position-Some, sum_by-cons, sum_by_more_le, position_or_len_is}
 use Rattle.std.proofs.lemmas.Option.{none-some, slice_get-get_or, slice_get_past}
-use Rattle.std.proofs.lemmas.List.{append-nil, map-append}
-use Rattle.std.proofs.lemmas.List.Elements.{All-filter, filter_passes, filter_more, All-map}
-use Rattle.std.proofs.lemmas.List.Quantifiers.{position-Some}
 use Rattle.std.proofs.lemmas.List.Folds.{find_at}
-use Rattle.std.proofs.lemmas.List.Sums.{sum_by-cons, sum_by_more_le, position_or_len_is}
 
 -- what one pass keeps and changes, where each call answers by a test and changes by a function
 pub retained : {S X : Type 0} (R : S → X → Bool → S → X → Type 0) (state : S) (test : X → Bool) (change : X → X) → ((x : X) (b : Bool) (after : S) (y : X) → R state x b after y → (b ≡ test x) × (after ≡ state) × (y ≡ change x)) → (xs ys : List X) → RetainsInTurn R state xs ys → ys ≡ map change (filter test xs)

@@ -1,14 +1,6 @@
 -- What a tick keeps of the entries.
 use Rattle.std.proofs.Common.{◌≡◌, ℕ, ◌≤◌, Bool, true, false, not, ◌&&◌, List, filter, refl, arith, inl, inr}
-use Rattle.std.proofs.lemmas.Bool.{cases_Bool, cases_eq, cases_lt, cond_both, not-true, not_from_false, or_parts, and_from, eq-eqb, lt-ltb, both_ways}
-use Rattle.std.proofs.lemmas.List.{length-map}
-use Rattle.std.proofs.lemmas.List.Sums.{length-filter, count_by-le-length}
-use Rattle.dsx_messages.specs.declared.modem.Modem.{Modem}
-use Rattle.transactions.specs.declared.entry.KeptEntry.{KeptEntry}
-use Rattle.transactions.specs.Waits.{Waits}
-use Rattle.transactions.specs.Entry.{is_of, is_waiting}
-use Rattle.transactions.specs.Timers.{is_response_due, is_resent, is_given_up, is_forgotten, entry_after_tick, kept_after}
-use Rattle.transactions.specs.Keeping.{HasTicks, IsHeldUnsent, IsKept}
+use Rattle.transactions.proofs.Common.{cases_Bool, cases_eq, cases_lt, cond_both, not-true, not_from_false, or_parts, and_from, eq-eqb, lt-ltb, both_ways, length-map, length-filter, count_by-le-length, Modem, KeptEntry, Waits, is_of, is_waiting, is_response_due, is_resent, is_given_up, is_forgotten, entry_after_tick, kept_after, HasTicks, IsHeldUnsent, IsKept}
 use Rattle.transactions.proofs.ListLemmas.{All-kept, count_by-kept}
 
 module _ (waits : Waits) where

@@ -1,10 +1,5 @@
 use Rattle.std.proofs.Common.{◌≡◌, ◌∙◌, sym, ap, get_or, None, Some, List, arith}
-use Rattle.std.specs.Prelude.{slice_get}
-use Rattle.operator_model.specs.declared.action.Entry.{Entry}
-use Rattle.operator_model.specs.declared.output.Output.{Output}
-use Rattle.run_model.specs.IsStateAfter.{frames_of}
-use Rattle.plant_core.specs.Waiting.{waiting_in}
-use Rattle.plant_core.proofs.WaitingLemmas.{none_here, one_here, some_here, on_err}
+use Rattle.cell_state.proofs.Common.{slice_get, Entry, Output, frames_of, waiting_in, none_here, one_here, some_here, on_err}
 use Rattle.cell_state.proofs.collecting.oldest_from.Goals as goal
 
 pub returns-in-Some-clause-value : goal.returns-in-Some-clause-value

@@ -1,10 +1,6 @@
 use Rattle.std.proofs.Common.{arith, ◌+◌, List, map, option_map, refl, sym, ap, subst, ◌∙◌}
-use Rattle.std.proofs.lemmas.Option.{slice_get-get_or, slice_get-map, slice_get_read}
-use Rattle.live_core.proofs.GiveLemmas.{one_more_taken, all_taken}
+use Rattle.cell_state.proofs.Common.{slice_get-get_or, slice_get-map, slice_get_read, one_more_taken, all_taken, book_after_action, Told, cell_book, waiting_of}
 use Rattle.operator_model.specs.declared.action.Action.TheVariants as actions
-use Rattle.operator_model.specs.Replay.{book_after_action}
-use Rattle.cell_state.specs.declared.told.Told.{Told}
-use Rattle.cell_state.specs.HeldView.{cell_book, waiting_of}
 use Rattle.cell_state.proofs.ReceiptLemmas.{ReceiptsSoFar, one_more_receipt, all_receipts}
 use Rattle.cell_state.proofs.giving.give.Goals as goal
 

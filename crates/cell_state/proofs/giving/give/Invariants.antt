@@ -1,9 +1,6 @@
 use Rattle.std.proofs.Common.{◌≡◌}
-use Rattle.std.specs.Prelude.{map, vec_len, vec_capacity}
-use Rattle.live_core.proofs.GiveLemmas.{HaveTakenSoFar}
+use Rattle.cell_state.proofs.Common.{map, vec_len, vec_capacity, HaveTakenSoFar, book_after_action, cell_book, waiting_of}
 use Rattle.operator_model.specs.declared.action.Action.TheVariants as actions
-use Rattle.operator_model.specs.Replay.{book_after_action}
-use Rattle.cell_state.specs.HeldView.{cell_book, waiting_of}
 use Rattle.cell_state.proofs.ReceiptLemmas.{ReceiptsSoFar}
 use Rattle.cell_state.proofs.giving.give.Given as goal
 

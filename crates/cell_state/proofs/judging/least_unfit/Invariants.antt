@@ -1,6 +1,5 @@
 use Rattle.std.proofs.Common.{◌≡◌, drop, map}
-use Rattle.live_core.specs.Reslicing.{least_unfit}
-use Rattle.cell_state.specs.HeldView.{cell_book}
+use Rattle.cell_state.proofs.Common.{least_unfit, cell_book}
 use Rattle.cell_state.proofs.judging.least_unfit.Given as goal
 
 abbrev pub invariant-loop-op : goal.invariant-loop-op

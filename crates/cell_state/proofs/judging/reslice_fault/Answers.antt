@@ -1,6 +1,5 @@
 use Rattle.std.proofs.Common.{ap, map, ◌∙◌}
-use Rattle.live_core.specs.Reslicing.{reslice_fault}
-use Rattle.cell_state.specs.HeldView.{cell_book}
+use Rattle.cell_state.proofs.Common.{reslice_fault, cell_book}
 use Rattle.cell_state.proofs.judging.reslice_fault.Goals as goal
 
 pub returns : goal.returns

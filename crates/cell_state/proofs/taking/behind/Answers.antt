@@ -1,8 +1,5 @@
 use Rattle.std.proofs.Common.{ap, ◌∙◌, List}
-use Rattle.std.specs.Prelude.{count_by}
-use Rattle.operator_model.specs.declared.action.Entry.{Entry}
-use Rattle.operator_model.specs.declared.output.Output.{Output}
-use Rattle.cell_state.specs.Taking.{is_frame}
+use Rattle.cell_state.proofs.Common.{count_by, Entry, Output, is_frame}
 use Rattle.cell_state.proofs.TakeLemmas.{few, passed}
 use Rattle.cell_state.proofs.taking.behind.Goals as goal
 

@@ -1,6 +1,5 @@
 use Rattle.std.proofs.Common.{sym, ◌∙◌}
-use Rattle.check_table.specs.Said.{said_by}
-use Rattle.check_explainer.specs.Asking.{subject_of, is_named_in}
+use Rattle.check_explainer.proofs.Common.{said_by, subject_of, is_named_in}
 use Rattle.check_explainer.proofs.ListLemmas.{one_kept, one_left}
 use Rattle.check_explainer.proofs.asking.add_named.Goals as goal
 use Rattle.check_explainer.proofs.asking.add_named.Goals.{then-names+in_ok-push, else-names}

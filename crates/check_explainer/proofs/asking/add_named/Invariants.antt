@@ -1,6 +1,5 @@
 use Rattle.std.proofs.Common.{◌≡◌, ◌++◌, take, map, filter}
-use Rattle.check_table.specs.Said.{said_by}
-use Rattle.check_explainer.specs.Asking.{subject_of, is_named_in}
+use Rattle.check_explainer.proofs.Common.{said_by, subject_of, is_named_in}
 use Rattle.check_explainer.proofs.asking.add_named.Given as goal
 
 abbrev pub invariant-loop-sfid : goal.invariant-loop-sfid

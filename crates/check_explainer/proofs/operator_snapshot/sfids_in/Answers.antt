@@ -1,7 +1,5 @@
 use Rattle.std.proofs.Common.{◌∙◌, ap, sym, ◌++◌, ◌∷◌, [], ℕ, List, take}
-use Rattle.std.proofs.lemmas.List.{take_all, take_more, map-append}
-use Rattle.flow_table.specs.declared.flow.Flow.{Flow}
-use Rattle.flow_table.specs.Table.{sfids_of}
+use Rattle.check_explainer.proofs.Common.{take_all, take_more, map-append, Flow, sfids_of}
 use Rattle.check_explainer.proofs.operator_snapshot.sfids_in.Goals as goal
 
 pub loop-sfid-preserved : goal.loop-sfid-preserved

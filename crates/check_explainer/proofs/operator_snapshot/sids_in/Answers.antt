@@ -1,6 +1,5 @@
 use Rattle.std.proofs.Common.{◌∙◌, List, ℕ, map, filter, ap, arith}
-use Rattle.std.proofs.lemmas.List.{take_all}
-use Rattle.flow_table.specs.declared.flow.Flow.{Flow}
+use Rattle.check_explainer.proofs.Common.{take_all, Flow}
 use Rattle.check_explainer.proofs.ListLemmas.{has_sid, sid_in, sids_chosen}
 use Rattle.check_explainer.proofs.operator_snapshot.sids_in.Goals as goal
 

@@ -1,10 +1,8 @@
 use Rattle.std.proofs.Common.{ℕ, [], refl, ◌≡◌, Some, arith}
 use Rattle.tlv24.specs.Flow.{fault_of, flow_of}
 use Rattle.tlv24.specs.Tlv.{front_of}
-use Rattle.dsx_messages.specs.declared.code.Code.TheVariants.{RejectInvalidForContext}
+use Rattle.check_table.proofs.Common.{RejectInvalidForContext, worked_row, first_modem, worked_operator}
 use Rattle.dsx_messages.specs.Reading.{flow_in, flows_in, message_of}
-use Rattle.operator_model.specs.Worked.{worked_row, first_modem}
-use Rattle.check_table.specs.Examples.{worked_operator}
 use Rattle.check_table.proofs.ExampleLemmas.{unstated, best_effort, not_one_for_each, null_untaken, nothing_added, two_differ, two_apart, one_unnamed, one_mistyped, one_refused}
 use Rattle.check_table.proofs.worked.worked_encodings.Goals as goal
 

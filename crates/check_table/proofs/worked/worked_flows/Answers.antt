@@ -6,8 +6,7 @@ use Rattle.admission.specs.Free.{first_free, least_free_of}
 use Rattle.operator_model.specs.Asked.{first_encoding, set_of, asked_sets, nested_sets, addition_of, change_of}
 use Rattle.operator_model.specs.Verdict.{addition_within_limit, change_within_limit, verdict}
 use Rattle.operator_model.specs.Machine.{own_step}
-use Rattle.operator_model.specs.Worked.{worked_row, first_modem, second_modem, message_actions, addition}
-use Rattle.check_table.specs.Examples.{worked_operator, one_added}
+use Rattle.check_table.proofs.Common.{worked_row, first_modem, second_modem, message_actions, addition, worked_operator, one_added}
 use Rattle.check_table.proofs.ExampleLemmas.{first_flow, other_modem, none_deleted, not_owned, waits}
 use Rattle.check_table.proofs.ListLemmas.{contains-nothing}
 use Rattle.check_table.proofs.worked.worked_flows.Goals as goal

@@ -1,10 +1,8 @@
 use Rattle.std.proofs.Common.{[], refl, arith}
 use Rattle.tlv24.specs.Flow.{fault_of, flow_of}
 use Rattle.tlv24.specs.Tlv.{front_of}
-use Rattle.dsx_messages.specs.declared.kind.Kind.TheVariants.{Dsa}
+use Rattle.check_table.proofs.Common.{Dsa, worked_row, first_modem, worked_operator}
 use Rattle.dsx_messages.specs.Reading.{flow_in, flows_in, message_of}
-use Rattle.operator_model.specs.Worked.{worked_row, first_modem}
-use Rattle.check_table.specs.Examples.{worked_operator}
 use Rattle.check_table.proofs.MessageLemmas.{left_out_handled}
 use Rattle.check_table.proofs.worked.worked_messages.Goals as goal
 

@@ -6,8 +6,7 @@ use Rattle.admission.specs.Free.{first_free, least_free_of}
 use Rattle.operator_model.specs.Asked.{first_encoding, set_of, asked_sets, nested_sets, addition_of, change_of}
 use Rattle.operator_model.specs.Verdict.{addition_within_limit, change_within_limit, verdict}
 use Rattle.operator_model.specs.Machine.{own_step}
-use Rattle.operator_model.specs.Worked.{worked_row, first_modem}
-use Rattle.check_table.specs.Examples.{worked_operator, one_added, full_added}
+use Rattle.check_table.proofs.Common.{worked_row, first_modem, worked_operator, one_added, full_added}
 use Rattle.check_table.proofs.ExampleLemmas.{best_effort, reserving, too_many_flows, sfids_used, sids_used, elements_over, minislots_over}
 use Rattle.check_table.proofs.worked.worked_room.Goals as goal
 

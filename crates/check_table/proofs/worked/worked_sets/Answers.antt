@@ -3,8 +3,7 @@ use Rattle.tlv24.specs.Flow.{fault_of, flow_of}
 use Rattle.tlv24.specs.Tlv.{front_of}
 use Rattle.dsx_messages.specs.Reading.{flow_in, flows_in, message_of}
 use Rattle.admission.specs.Free.{first_free, least_free_of}
-use Rattle.operator_model.specs.Worked.{worked_row, first_modem}
-use Rattle.check_table.specs.Examples.{worked_operator, provisioned_row}
+use Rattle.check_table.proofs.Common.{worked_row, first_modem, worked_operator, provisioned_row}
 use Rattle.check_table.proofs.ExampleLemmas.{unstated, reserving, first_flow, two_beyond, change_beyond}
 use Rattle.check_table.proofs.worked.worked_sets.Goals as goal
 

@@ -1,7 +1,6 @@
 -- The last subcommand is added to what stood before it.
 use Rattle.std.proofs.Common.{refl, ap, ◌∙◌}
-use Rattle.std.proofs.lemmas.Result.{IfOk-weaker}
-use Rattle.command_line.specs.ClapLine.{with_first_words, with_later_words}
+use Rattle.command_line.proofs.Common.{IfOk-weaker, with_first_words, with_later_words}
 use Rattle.command_line.proofs.CommandLemmas.{added_subcommand}
 use Rattle.command_line.proofs.command.clap_command.Goals as goal
 

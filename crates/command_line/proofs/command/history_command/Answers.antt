@@ -1,9 +1,7 @@
 -- What the operand's rule is, step by step, and that it is added to the word's.
 use Rattle.std.proofs.Common.{◌≡◌, ◌∙◌, true, false, ap, ap₂}
-use Rattle.std.proofs.lemmas.Result.{IfOk-weaker}
-use Rattle.clap.specs.Words.{Rule, rule_of, with_rule}
+use Rattle.command_line.proofs.Common.{IfOk-weaker, Rule, rule_of, with_rule, name_argument}
 use Rattle.clap.specs.declared.builder.arg.Arg.{Arg}
-use Rattle.command_line.specs.ClapLine.{name_argument}
 use Rattle.command_line.proofs.command.history_command.Goals as goal
 
 pub returns : goal.returns

@@ -1,9 +1,6 @@
 use Rattle.std.proofs.Common.{◌≡◌, [], Result, Ok, Err, IfOk, IfErr}
-use Rattle.std.proofs.lemmas.Result.{IfOk-weaker}
-use Rattle.clap.specs.Walk.{texts}
+use Rattle.command_line.proofs.Common.{IfOk-weaker, texts, Error, ArgMatches}
 use Rattle.clap.specs.Words.{FailsBy, HasKind, Kinds}
-use Rattle.clap.specs.declared.error.Error.{Error}
-use Rattle.clap.specs.declared.parser.matches.ArgMatches.{ArgMatches}
 use Rattle.command_line.proofs.CommandLemmas.{fails_by_faults, has_entered}
 use Rattle.command_line.proofs.command.matches_of.Goals as goal
 

@@ -1,8 +1,6 @@
 -- Each subcommand is added to what stood before it.
 use Rattle.std.proofs.Common.{ap, ◌∙◌}
-use Rattle.std.specs.Prelude.{codes}
-use Rattle.std.proofs.lemmas.Result.{IfOk-weaker}
-use Rattle.clap.specs.Words.{App, new_app, with_subcommand}
+use Rattle.command_line.proofs.Common.{codes, IfOk-weaker, App, new_app, with_subcommand}
 use Rattle.command_line.proofs.command.with_first_words.Goals as goal
 
 pub returns : goal.returns

@@ -1,6 +1,5 @@
 use Rattle.std.proofs.Common.{Err}
-use Rattle.clap.specs.Walk.{texts}
-use Rattle.clap.specs.Words.{subcommand_rows_of}
+use Rattle.command_line.proofs.Common.{texts, subcommand_rows_of}
 use Rattle.command_line.proofs.ReadLemmas.{clause_fault, clause_help, clause_named, clause_ok, clause_wrong, of_error, of_order}
 use Rattle.command_line.proofs.reading.read_words.Goals as goal
 

@@ -1,8 +1,6 @@
 use Rattle.std.proofs.Common.{◌≡◌, List}
-use Rattle.std.specs.Prelude.{codes}
+use Rattle.command_line.proofs.Common.{codes, StandsFor, Order, one, check, run, threads, capture, serve, trace, history}
 use Rattle.clap.specs.Words.{Row, Text}
-use Rattle.command_line.specs.ClapLine.{StandsFor}
-use Rattle.command_line.specs.Order.{Order, one, check, run, threads, capture, serve, trace, history}
 use Rattle.command_line.proofs.reading.word_named.Goals as goal
 
 -- a name that is none of the words stands for no order

@@ -1,10 +1,7 @@
 use Rattle.std.proofs.Common.{◌≡◌, true, false, [], eqb, sym, arith}
 use Rattle.std.proofs.lemmas.Bool.Decides.{nat_tests}
 use Rattle.std.proofs.lemmas.Result.{err_from_is_err_and}
-use Rattle.tlv24.specs.Tlv.{front_of}
-use Rattle.tlv24.specs.Flow.{values_of}
-use Rattle.dsx_messages.specs.TlvType.{upstream_service_flow}
-use Rattle.dsx_messages.specs.Reading.{flows_read_after}
+use Rattle.dsx_messages.proofs.Common.{front_of, values_of, upstream_service_flow, flows_read_after}
 use Rattle.dsx_messages.proofs.Passes.{fails, flows_skip, flows_take, flows_stop, flows_end}
 use Rattle.dsx_messages.proofs.reading.flows_of.Goals as goal
 use Rattle.dsx_messages.proofs.reading.flows_of.Goals.{then-first-eq-UPSTREAM_SERVICE_FLOW+in_ok-flow+in_ok-push, else-first-eq-UPSTREAM_SERVICE_FLOW}

@@ -1,8 +1,5 @@
 use Rattle.std.proofs.Common.{◌≡◌, [], length}
-use Rattle.tlv24.specs.Tlv.{front_of}
-use Rattle.tlv24.specs.Flow.{values_of}
-use Rattle.dsx_messages.specs.TlvType.{upstream_service_flow}
-use Rattle.dsx_messages.specs.Reading.{flows_read_after}
+use Rattle.dsx_messages.proofs.Common.{front_of, values_of, upstream_service_flow, flows_read_after}
 use Rattle.dsx_messages.proofs.reading.flows_of.Given as goal
 
 abbrev pub invariant-loop-first : goal.invariant-loop-first

@@ -1,7 +1,5 @@
 use Rattle.std.proofs.Common.{sym, subst}
-use Rattle.std.specs.Prelude.{IfSome}
-use Rattle.dsx_messages.specs.declared.kind.Kind.{Kind}
-use Rattle.dsx_messages.specs.Told.{IsDetailSpelling}
+use Rattle.dsx_messages.proofs.Common.{IfSome, Kind, IsDetailSpelling}
 use Rattle.dsx_messages.proofs.Replies.{every_accepted_addition, every_accepted_change, every_refused_addition, every_refused_change}
 use Rattle.dsx_messages.proofs.reply_reading.detail_of.Goals as goal
 

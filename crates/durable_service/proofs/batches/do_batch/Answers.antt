@@ -1,9 +1,5 @@
 use Rattle.std.proofs.Common.{◌∙◌, ap, sym, List, ℕ, ◌+◌, Vec}
-use Rattle.std.specs.declared.alloc.Global.{Global}
-use Rattle.std.proofs.lemmas.List.{length-map}
-use Rattle.live_core.specs.LiveView.{live_view}
-use Rattle.line_journal.specs.Found.{texts}
-use Rattle.line_journal.specs.Journal.{journal_content, with_lines}
+use Rattle.durable_service.proofs.Common.{Global, length-map, live_view, texts, journal_content, with_lines}
 use Rattle.durable_service.proofs.LeadLemmas.{leads_on, text_alone}
 use Rattle.durable_service.proofs.batches.do_batch.Goals as goal
 

@@ -1,6 +1,5 @@
 use Rattle.std.proofs.Common.{◌∙◌, ap, List, ℕ, length, drop, nat_eq, ◌-◌}
-use Rattle.std.specs.Cmp.Lexicographic.{pointwise}
-use Rattle.live_core.specs.LiveView.{live_view}
+use Rattle.durable_service.proofs.Common.{pointwise, live_view}
 use Rattle.durable_service.proofs.DoneLemmas.{enough_memory, out_of_memory}
 use Rattle.durable_service.proofs.LeadLemmas.{line_reached}
 use Rattle.durable_service.proofs.doing.do_line.Goals as goal

@@ -1,10 +1,5 @@
 use Rattle.std.proofs.Common.{rules, arith, ◌≡◌, ◌+◌, ◌++◌, [], ◌<◌, sym, subst, ℕ, List, length, take, Vec, append-nil}
-use Rattle.std.specs.Prelude.{slice_index_or}
-use Rattle.std.specs.declared.alloc.Global.{Global}
-use Rattle.live_core.specs.LiveView.{live_view}
-use Rattle.line_service.specs.Service.{all_done, all_told}
-use Rattle.line_journal.specs.Found.{texts}
-use Rattle.durable_service.specs.Durable.{LineIsDone, LinesAreDone}
+use Rattle.durable_service.proofs.Common.{slice_index_or, Global, live_view, all_done, all_told, texts, LineIsDone, LinesAreDone}
 use Rattle.durable_service.proofs.DoneLemmas.{none_done, line_joined}
 use Rattle.durable_service.proofs.ListLemmas.{texts_more, taken_length, all_taken}
 use Rattle.durable_service.proofs.doing.do_lines.Goals as goal

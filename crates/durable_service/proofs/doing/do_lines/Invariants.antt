@@ -1,8 +1,5 @@
 use Rattle.std.proofs.Common.{◌≡◌, ◌+◌, take}
-use Rattle.live_core.specs.After.{BehindEachRun, IsReachableFromStart}
-use Rattle.live_core.specs.LiveView.{live_view}
-use Rattle.line_journal.specs.Found.{texts}
-use Rattle.durable_service.specs.Durable.{LinesAreDone}
+use Rattle.durable_service.proofs.Common.{BehindEachRun, IsReachableFromStart, live_view, texts, LinesAreDone}
 use Rattle.durable_service.proofs.doing.do_lines.Given as goal
 
 -- the lines so far are done

@@ -1,6 +1,5 @@
 use Rattle.std.proofs.Common.{◌≡◌, ◌∷◌, take}
-use Rattle.line_journal.specs.Found.{texts}
-use Rattle.durable_service.specs.Durable.{count_line}
+use Rattle.durable_service.proofs.Common.{texts, count_line}
 use Rattle.durable_service.proofs.lines.snapshot_lines.Given as goal
 
 abbrev pub invariant-loop-line : goal.invariant-loop-line

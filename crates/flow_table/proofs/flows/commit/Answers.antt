@@ -1,6 +1,5 @@
 use Rattle.std.proofs.Common.{◌≡◌, ◌<◌, length, None, Err, nat_cmp, ap, arith}
-use Rattle.std.specs.Map.{lookup}
-use Rattle.std.specs.BTreeMap.{is_at}
+use Rattle.flow_table.proofs.Common.{lookup, is_at}
 use Rattle.flow_table.proofs.EntryLemmas.{length_put_new, none_is}
 use Rattle.flow_table.proofs.flows.commit.Goals as goal
 

@@ -1,6 +1,5 @@
 use Rattle.std.proofs.Common.{◌≡◌, ◌≤◌}
-use Rattle.std.specs.Map.{keys_of}
-use Rattle.flow_table.specs.Gap.{gap_from}
+use Rattle.flow_table.proofs.Common.{keys_of, gap_from}
 use Rattle.flow_table.proofs.flows.least_free_sid.Given as goal
 
 abbrev pub invariant-loop-sid : goal.invariant-loop-sid

@@ -1,6 +1,5 @@
 use Rattle.std.proofs.Common.{rules, ◌≡◌, ◌∙◌, ap, sym, arith, ◌++◌, List, [], ◌∷◌, ℕ, length, append_assoc}
-use Rattle.line_journal.specs.Found.{texts}
-use Rattle.line_journal.specs.Lines.{marked_lines, records}
+use Rattle.line_journal.proofs.Common.{texts, marked_lines, records}
 use Rattle.line_journal.proofs.ReadLaws.{texts_push, records_push}
 use Rattle.line_journal.proofs.recovery.read_lines.Goals as goal
 

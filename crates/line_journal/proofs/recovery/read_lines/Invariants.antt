@@ -1,6 +1,5 @@
 use Rattle.std.proofs.Common.{◌≡◌, ◌+◌, ◌++◌, length}
-use Rattle.line_journal.specs.Found.{texts}
-use Rattle.line_journal.specs.Lines.{marked_lines, records}
+use Rattle.line_journal.proofs.Common.{texts, marked_lines, records}
 use Rattle.line_journal.proofs.recovery.read_lines.Given as goal
 
 abbrev pub invariant-loop-line : goal.invariant-loop-line

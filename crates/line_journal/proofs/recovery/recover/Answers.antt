@@ -1,6 +1,5 @@
 use Rattle.std.proofs.Common.{◌∙◌, ap, sym, subst, List, ℕ}
-use Rattle.line_journal.specs.Device.{Only}
-use Rattle.line_journal.specs.Journal.{journal_content}
+use Rattle.line_journal.proofs.Common.{Only, journal_content}
 use Rattle.line_journal.proofs.Moments.{kept}
 use Rattle.line_journal.proofs.Recovering.{is_found, gate_is, begun, was_cut, front_left, was_shut, text_is, same_again, settled_again}
 use Rattle.line_journal.proofs.recovery.recover.Goals as goal

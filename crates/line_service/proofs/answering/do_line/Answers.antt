@@ -1,9 +1,5 @@
 use Rattle.std.proofs.Common.{◌≡◌, Ok, subst, sym, ◌∙◌}
-use Rattle.plant.specs.declared.plant.PlantFields.{PlantFields}
-use Rattle.live_core.specs.LiveView.{live_view}
-use Rattle.line_service.specs.declared.line_outcome.LineOutcome.{LineOutcome}
-use Rattle.line_service.specs.Service.{steps_said}
-use Rattle.line_service.specs.SoFar.{HasAnswered}
+use Rattle.line_service.proofs.Common.{PlantFields, live_view, LineOutcome, steps_said, HasAnswered}
 use Rattle.line_service.proofs.StepLemmas.{after_plant}
 use Rattle.line_service.proofs.LineLemmas.{steps_answered}
 use Rattle.line_service.proofs.answering.do_line.Goals as goal

@@ -1,10 +1,6 @@
 use Rattle.std.proofs.Common.{◌≡◌, None, [], ◌∷◌, length, ap, refl, sym, ◌∙◌, arith}
-use Rattle.std.proofs.lemmas.Bool.Decides.{nat_tests}
-use Rattle.std.specs.Vec.Iter.{into_iter_items}
-use Rattle.std.proofs.lemmas.List.{nil_from_length}
+use Rattle.line_service.proofs.Common.{nat_tests, into_iter_items, nil_from_length, step_fault, live_view}
 use Rattle.live_core.specs.declared.core_fault.CoreFault.TheVariants as faults
-use Rattle.live_core.specs.Faults.{step_fault}
-use Rattle.live_core.specs.LiveView.{live_view}
 use Rattle.line_service.specs.declared.steps_end.StepsEnd.TheVariants as ends
 use Rattle.line_service.proofs.LeftLemmas.{count_next}
 use Rattle.line_service.proofs.StepLemmas.{none_done, none_written, half_more, all_are_done, step_not_done, on_err_of}

@@ -1,12 +1,5 @@
-use Rattle.run_model.specs.Starts.{Start}
+use Rattle.line_service.proofs.Common.{Start, into_iter_items, into_iter_len, PlantFields, Out, Step, IsAfterFrom, live_view, IsHalfDone}
 use Rattle.std.proofs.Common.{◌≡◌, length, List}
-use Rattle.std.specs.Vec.Iter.{into_iter_items, into_iter_len}
-use Rattle.plant.specs.declared.plant.PlantFields.{PlantFields}
-use Rattle.run_model.specs.declared.step.Out.{Out}
-use Rattle.run_model.specs.declared.step.Step.{Step}
-use Rattle.live_core.specs.After.{IsAfterFrom}
-use Rattle.live_core.specs.LiveView.{live_view}
-use Rattle.line_service.specs.SoFar.{IsHalfDone}
 use Rattle.line_service.proofs.answering.run_steps.Given as goal
 
 abbrev pub invariant-loop-number : goal.invariant-loop-number

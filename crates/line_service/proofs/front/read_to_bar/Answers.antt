@@ -1,6 +1,5 @@
 use Rattle.std.proofs.Common.{◌≡◌, ◌∷◌, List, ℕ, Bool, true, false, Option, Some, subst}
-use Rattle.line_service.specs.Bytes.{WhereKnown, Takes}
-use Rattle.line_service.specs.Front.{IsReadSoFar, ReadsOn}
+use Rattle.line_service.proofs.Common.{WhereKnown, Takes, IsReadSoFar, ReadsOn}
 use Rattle.line_service.proofs.FrontLemmas.{known_on, text_known, script_known}
 use Rattle.line_service.proofs.front.read_to_bar.Goals as goal
 

@@ -1,5 +1,4 @@
-use Rattle.line_service.specs.Bytes.{WhereKnown}
-use Rattle.line_service.specs.Front.{IsReadSoFar}
+use Rattle.line_service.proofs.Common.{WhereKnown, IsReadSoFar}
 use Rattle.line_service.proofs.front.read_to_bar.Given as goal
 
 abbrev pub invariant-loop : goal.invariant-loop

@@ -1,6 +1,5 @@
 use Rattle.std.proofs.Common.{◌∷◌, List, ℕ, codes, true≢false, ◌∙◌, subst, sym}
-use Rattle.std.proofs.lemmas.Slice.Eq.{bytes_eq-Decides}
-use Rattle.line_service.specs.Front.{IsReadSoFar}
+use Rattle.line_service.proofs.Common.{bytes_eq-Decides, IsReadSoFar}
 use Rattle.line_service.proofs.FrontLemmas.{byte_read, line_read, bar_read}
 use Rattle.line_service.proofs.front.take_byte.Goals as goal
 

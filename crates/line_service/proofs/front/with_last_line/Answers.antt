@@ -1,7 +1,6 @@
 use Rattle.std.proofs.Common.{◌≡◌, [], List, ℕ, codes, Bool, true, false, not, true≢false, refl, subst, sym, ap, ◌∙◌}
 use Rattle.std.specs.Str.{bytes_eq}
-use Rattle.std.proofs.lemmas.Slice.Eq.{bytes_eq-Decides}
-use Rattle.line_service.specs.Front.{IsFrontText}
+use Rattle.line_service.proofs.Common.{bytes_eq-Decides, IsFrontText}
 use Rattle.line_service.proofs.FrontLemmas.{bar_at_end, no_bar_read}
 use Rattle.line_service.proofs.front.with_last_line.Goals.{then-ne+in_ok-extend_from_slice, else-ne}
 use Rattle.line_service.proofs.front.with_last_line.Goals as goal

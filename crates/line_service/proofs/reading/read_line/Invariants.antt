@@ -1,5 +1,4 @@
-use Rattle.line_service.specs.Bytes.{WhereKnown}
-use Rattle.line_service.specs.Lines.{IsPartRead}
+use Rattle.line_service.proofs.Common.{WhereKnown, IsPartRead}
 use Rattle.line_service.proofs.reading.read_line.Given as goal
 
 abbrev pub invariant-loop : goal.invariant-loop

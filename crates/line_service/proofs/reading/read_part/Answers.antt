@@ -1,7 +1,5 @@
 use Rattle.std.proofs.Common.{rules, ◌≡◌, [], Some, IfSome, subst}
-use Rattle.std.specs.Io.BufRead.{FillKeeps}
-use Rattle.line_service.specs.declared.line_break.LineBreak.TheVariants.{End}
-use Rattle.line_service.specs.Lines.{IsPartRead, IsMoreRead}
+use Rattle.line_service.proofs.Common.{FillKeeps, End, IsPartRead, IsMoreRead}
 use Rattle.line_service.proofs.ReadLemmas.{line_ended, consumed, at_end}
 use Rattle.line_service.proofs.reading.read_part.Goals as goal
 

@@ -1,8 +1,5 @@
 use Rattle.std.proofs.Common.{◌∙◌, List, ℕ, subst}
-use Rattle.std.proofs.KnownBytes.{Appends-kept}
-use Rattle.live_core.specs.LiveView.{live_view}
-use Rattle.script_format.specs.declared.fields.FieldError.TheVariants.{TooLong}
-use Rattle.line_service.specs.SoFar.{LineIsAnswered}
+use Rattle.line_service.proofs.Common.{Appends-kept, live_view, TooLong, LineIsAnswered}
 use Rattle.line_service.proofs.LineLemmas.{end_written, none_answered, long_said, whole_held}
 use Rattle.line_service.proofs.StepLemmas.{on_ok, on_ok_map, reachable_on}
 use Rattle.line_service.proofs.serving.answer_held.Goals as goal

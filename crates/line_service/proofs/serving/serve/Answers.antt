@@ -1,13 +1,5 @@
 use Rattle.std.proofs.Common.{refl, subst}
-use Rattle.live_core.specs.After.{IsAfterFrom}
-use Rattle.live_core.specs.LiveView.{live_view}
-use Rattle.script_format.specs.Lines.{lines_of}
-use Rattle.line_service.specs.declared.line_break.LineBreak.{LineBreak}
-use Rattle.line_service.specs.declared.line_break.LineBreak.TheVariants.{Another, End}
-use Rattle.line_service.specs.Bytes.{WhereKnown}
-use Rattle.line_service.specs.Lines.{IsLineRead}
-use Rattle.line_service.specs.Service.{IsServiceOf}
-use Rattle.line_service.specs.SoFar.{IsServedSoFar}
+use Rattle.line_service.proofs.Common.{IsAfterFrom, live_view, lines_of, LineBreak, Another, End, WhereKnown, IsLineRead, IsServiceOf, IsServedSoFar}
 use Rattle.line_service.proofs.ServiceLemmas.{begun, served_on, served_all, known_same, known_then, known_ended}
 use Rattle.line_service.proofs.serving.serve.Goals as goal
 

@@ -1,13 +1,5 @@
-use Rattle.run_model.specs.Starts.{Start}
+use Rattle.line_service.proofs.Common.{Start, PlantFields, Out, Step, IsAfterFrom, IsReachableFromStart, live_view, lines_of, WhereKnown, IsHeld, IsServedSoFar}
 use Rattle.std.proofs.Common.{List, []}
-use Rattle.plant.specs.declared.plant.PlantFields.{PlantFields}
-use Rattle.run_model.specs.declared.step.Out.{Out}
-use Rattle.run_model.specs.declared.step.Step.{Step}
-use Rattle.live_core.specs.After.{IsAfterFrom, IsReachableFromStart}
-use Rattle.live_core.specs.LiveView.{live_view}
-use Rattle.script_format.specs.Lines.{lines_of}
-use Rattle.line_service.specs.Bytes.{WhereKnown}
-use Rattle.line_service.specs.SoFar.{IsHeld, IsServedSoFar}
 use Rattle.line_service.proofs.serving.serve.Given as goal
 
 abbrev pub invariant-loop : goal.invariant-loop

@@ -1,6 +1,5 @@
 use Rattle.std.proofs.Common.{◌≡◌, ◌+◌, ◌≤◌, ◌++◌, length, vec_len, vec_capacity}
-use Rattle.std.specs.Vec.Iter.{into_iter_items, into_iter_len}
-use Rattle.run_model.specs.OwnSteps.{outputs_under}
+use Rattle.live_core.proofs.Common.{into_iter_items, into_iter_len, outputs_under}
 use Rattle.live_core.proofs.acting.append.Given as goal
 
 abbrev pub invariant-loop-output : goal.invariant-loop-output

@@ -1,6 +1,5 @@
 use Rattle.std.proofs.Common.{◌≡◌, drop}
-use Rattle.std.specs.Prelude.{slice_get}
-use Rattle.run_model.specs.IsStateAfter.{frames_of}
+use Rattle.live_core.proofs.Common.{slice_get, frames_of}
 use Rattle.live_core.proofs.acting.frame_copy.Given as goal
 
 abbrev pub invariant-loop-output : goal.invariant-loop-output

@@ -1,9 +1,7 @@
 use Rattle.std.proofs.Common.{option_map, sym, ap, ◌∙◌, arith}
-use Rattle.std.proofs.lemmas.Option.{slice_get-get_or, slice_get-map, slice_get_read}
-use Rattle.live_core.specs.DeskView.{slot_book, slot_waiting}
+use Rattle.live_core.proofs.Common.{slice_get-get_or, slice_get-map, slice_get_read, slot_book, slot_waiting, went}
 use Rattle.live_core.proofs.GiveLemmas.{one_more_taken, all_taken}
 use Rattle.operator_model.specs.declared.action.Action.TheVariants as actions
-use Rattle.live_core.specs.Performing.{went}
 use Rattle.live_core.proofs.giving.give.Goals as goal
 
 pub reslice-requires : goal.reslice-requires

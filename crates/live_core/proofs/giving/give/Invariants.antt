@@ -1,7 +1,6 @@
-use Rattle.live_core.specs.DeskView.{slot_book, slot_waiting}
+use Rattle.live_core.proofs.Common.{slot_book, slot_waiting, went}
 use Rattle.live_core.proofs.GiveLemmas.{HaveTakenSoFar}
 use Rattle.operator_model.specs.declared.action.Action.TheVariants as actions
-use Rattle.live_core.specs.Performing.{went}
 use Rattle.live_core.proofs.giving.give.Given as goal
 
 abbrev pub invariant-loop-op : goal.invariant-loop-op

@@ -1,6 +1,5 @@
 use Rattle.std.proofs.Common.{◌≡◌, drop}
-use Rattle.std.specs.List.{position_from}
-use Rattle.live_core.specs.Reslicing.{do_meet}
+use Rattle.live_core.proofs.Common.{position_from, do_meet}
 use Rattle.live_core.proofs.judging.first_met.Given as goal
 
 abbrev pub invariant-loop-op : goal.invariant-loop-op

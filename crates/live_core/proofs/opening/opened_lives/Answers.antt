@@ -1,7 +1,6 @@
 use Rattle.std.proofs.Common.{◌≡◌, ℕ, ◌∷◌, ap, length, get_or, ◌∙◌, arith}
-use Rattle.std.specs.Vec.Iter.{into_iter_items}
+use Rattle.live_core.proofs.Common.{into_iter_items, sound_of}
 use Rattle.live_core.proofs.FollowLemmas.{map_more}
-use Rattle.live_core.specs.LiveOperator.{sound_of}
 use Rattle.live_core.proofs.OpenLemmas.{as_opened}
 use Rattle.live_core.proofs.opening.opened_lives.Goals as goal
 

@@ -1,6 +1,5 @@
 use Rattle.std.proofs.Common.{◌≡◌, ◌+◌, length, take, map, vec_len}
-use Rattle.std.specs.Vec.Iter.{into_iter_items, into_iter_len}
-use Rattle.live_core.specs.LiveOperator.{sound_of}
+use Rattle.live_core.proofs.Common.{into_iter_items, into_iter_len, sound_of}
 use Rattle.live_core.proofs.OpenLemmas.{as_opened}
 use Rattle.live_core.proofs.opening.opened_lives.Given as goal
 

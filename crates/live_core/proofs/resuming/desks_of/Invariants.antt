@@ -1,8 +1,5 @@
 use Rattle.std.proofs.Common.{◌≡◌, ◌+◌, ◌++◌, [], length, map, vec_len}
-use Rattle.std.specs.Prelude.{replicate}
-use Rattle.std.specs.Vec.Iter.{into_iter_items, into_iter_len}
-use Rattle.live_core.specs.DeskView.{slot_book, slot_waiting}
-use Rattle.live_core.specs.LiveOperator.{book_by}
+use Rattle.live_core.proofs.Common.{replicate, into_iter_items, into_iter_len, slot_book, slot_waiting, book_by}
 use Rattle.live_core.proofs.resuming.desks_of.Given as goal
 
 abbrev pub invariant-loop-live : goal.invariant-loop-live

@@ -1,10 +1,7 @@
 use Rattle.std.proofs.Common.{map, sym, subst, ◌∙◌, ap, arith}
-use Rattle.plant.specs.declared.consts.ConstsFields.{ConstsFields}
-use Rattle.operator_model.specs.State.{Operator}
-use Rattle.live_core.specs.LiveOperator.{sound_of}
+use Rattle.live_core.proofs.Common.{ConstsFields, Operator, sound_of, IsResumeFault}
 use Rattle.live_core.proofs.ResumeLemmas.{seen_none, seen_may_wait, seen_some}
 use Rattle.live_core.proofs.ResumeFaultLemmas.{handed_on, together_seen, early_fault, slice_fault, memory_fault, all_seen, of_rows}
-use Rattle.live_core.specs.Resumed.{IsResumeFault}
 use Rattle.live_core.proofs.resuming.gather_of.Goals as goal
 
 pub reslice-requires : goal.reslice-requires

@@ -1,6 +1,5 @@
 use Rattle.std.proofs.Common.{sym, subst, map}
-use Rattle.live_core.specs.LiveOperator.{sound_of, IsSoundAt, IsAtFrame, WaitsFrom}
-use Rattle.live_core.specs.Resumed.{IsOddFault}
+use Rattle.live_core.proofs.Common.{sound_of, IsSoundAt, IsAtFrame, WaitsFrom, IsOddFault}
 use Rattle.live_core.proofs.ResumeLemmas.{all_more, all_gone}
 use Rattle.live_core.proofs.ResumeFaultLemmas.{handed_on, odd_among}
 use Rattle.live_core.proofs.resuming.go_together.Goals as goal

@@ -1,7 +1,5 @@
 use Rattle.std.proofs.Common.{ap, ◌∙◌}
-use Rattle.plant.specs.declared.consts.ConstsFields.{ConstsFields}
-use Rattle.live_core.specs.LiveOperator.{sound_of}
-use Rattle.live_core.specs.Resumed.{later_of}
+use Rattle.live_core.proofs.Common.{ConstsFields, sound_of, later_of}
 use Rattle.live_core.proofs.ResumeFaultLemmas.{first_seen}
 use Rattle.live_core.proofs.resuming.valid_later.Goals as goal
 

@@ -1,7 +1,5 @@
 use Rattle.std.proofs.Common.{ap, ◌∙◌}
-use Rattle.plant.specs.declared.consts.ConstsFields.{ConstsFields}
-use Rattle.operator_model.specs.State.{Operator}
-use Rattle.live_core.specs.LiveOperator.{sound_of}
+use Rattle.live_core.proofs.Common.{ConstsFields, Operator, sound_of}
 use Rattle.live_core.proofs.ResumeFaultLemmas.{first_seen}
 use Rattle.live_core.proofs.resuming.valid_slices.Goals as goal
 

@@ -1,6 +1,5 @@
 use Rattle.std.proofs.Common.{◌≡◌, ◌++◌, map, drop}
-use Rattle.map_assembly.specs.Map.{map_pending, pending_element}
-use Rattle.map_assembly.specs.Gathering.{part_at}
+use Rattle.map_assembly.proofs.Common.{map_pending, pending_element, part_at}
 use Rattle.map_assembly.proofs.assembling.push_all_pending.Given as goal
 
 abbrev pub invariant-loop-k : goal.invariant-loop-k

@@ -1,7 +1,5 @@
 use Rattle.std.proofs.Common.{◌≡◌, ◌++◌, map, drop}
-use Rattle.map_assembly.specs.Reading.{element_of_span}
-use Rattle.map_assembly.specs.Map.{spans_with_idle}
-use Rattle.map_assembly.specs.Gathering.{part_at}
+use Rattle.map_assembly.proofs.Common.{element_of_span, spans_with_idle, part_at}
 use Rattle.map_assembly.proofs.assembling.push_filled.Given as goal
 
 abbrev pub invariant-loop-k : goal.invariant-loop-k

@@ -1,6 +1,5 @@
 use Rattle.std.proofs.Common.{◌≡◌, [], List}
-use Rattle.std.specs.Prelude.{replicate}
-use Rattle.slice_scheduler.specs.declared.elements.ElementsFields.{ElementsFields}
+use Rattle.map_assembly.proofs.Common.{replicate, ElementsFields}
 use Rattle.map_assembly.proofs.gather.no_queues.Given as goal
 
 abbrev pub invariant-loop-op : goal.invariant-loop-op

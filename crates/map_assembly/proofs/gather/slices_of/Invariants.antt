@@ -1,6 +1,5 @@
 use Rattle.std.proofs.Common.{◌≡◌, ◌≤◌, All, map, take}
-use Rattle.slice_scheduler.specs.Minislots.{Minislots}
-use Rattle.plant.specs.declared.operator_row.RowFields.{RowFields}
+use Rattle.map_assembly.proofs.Common.{Minislots, RowFields}
 use Rattle.map_assembly.proofs.gather.slices_of.Given as goal
 
 abbrev pub invariant-loop-row : goal.invariant-loop-row

@@ -1,6 +1,5 @@
 use Rattle.std.proofs.Common.{◌≡◌, length}
-use Rattle.map_assembly.specs.Element.{elements_in}
-use Rattle.map_assembly.specs.Judging.{behind_null}
+use Rattle.map_assembly.proofs.Common.{elements_in, behind_null}
 use Rattle.map_assembly.proofs.reading.behind_null.Given as goal
 
 abbrev pub invariant-loop-first : goal.invariant-loop-first

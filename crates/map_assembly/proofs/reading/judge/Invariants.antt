@@ -1,6 +1,5 @@
 use Rattle.std.proofs.Common.{◌≡◌, ◌+◌, ◌*◌, ◌≤◌, length}
-use Rattle.map_assembly.specs.Element.{elements_in}
-use Rattle.map_assembly.specs.Judging.{count_before_null}
+use Rattle.map_assembly.proofs.Common.{elements_in, count_before_null}
 use Rattle.map_assembly.proofs.reading.judge.Given as goal
 
 abbrev pub invariant-loop-first : goal.invariant-loop-first

@@ -1,6 +1,5 @@
 use Rattle.std.proofs.Common.{◌≡◌, ◌+◌, ◌≤◌, length}
-use Rattle.map_assembly.specs.Element.{elements_in}
-use Rattle.map_assembly.specs.Judging.{judged_behind}
+use Rattle.map_assembly.proofs.Common.{elements_in, judged_behind}
 use Rattle.map_assembly.proofs.reading.judge_behind.Given as goal
 
 abbrev pub invariant-loop-first : goal.invariant-loop-first

@@ -1,6 +1,5 @@
 use Rattle.std.proofs.Common.{◌≡◌, ◌++◌, map, length}
-use Rattle.map_assembly.specs.declared.element.MapElement.{MapElement}
-use Rattle.map_assembly.specs.Element.{elements_in}
+use Rattle.map_assembly.proofs.Common.{MapElement, elements_in}
 use Rattle.map_assembly.proofs.reading.sids_in.Given as goal
 
 abbrev pub invariant-loop-first : goal.invariant-loop-first

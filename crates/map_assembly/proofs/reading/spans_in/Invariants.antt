@@ -1,6 +1,5 @@
 use Rattle.std.proofs.Common.{◌≡◌, ◌++◌, length}
-use Rattle.map_assembly.specs.Element.{elements_in}
-use Rattle.map_assembly.specs.Judging.{spans_in}
+use Rattle.map_assembly.proofs.Common.{elements_in, spans_in}
 use Rattle.map_assembly.proofs.reading.spans_in.Given as goal
 
 abbrev pub invariant-loop-first : goal.invariant-loop-first

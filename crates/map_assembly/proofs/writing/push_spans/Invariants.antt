@@ -1,6 +1,5 @@
 use Rattle.std.proofs.Common.{◌≡◌, ◌++◌, map, take}
-use Rattle.map_assembly.specs.Reading.{element_of_span}
-use Rattle.map_assembly.specs.Map.{map_span}
+use Rattle.map_assembly.proofs.Common.{element_of_span, map_span}
 use Rattle.map_assembly.proofs.writing.push_spans.Given as goal
 
 abbrev pub invariant-loop-span : goal.invariant-loop-span

@@ -1,6 +1,5 @@
 use Rattle.std.proofs.Common.{◌≡◌, ◌++◌, take}
-use Rattle.map_assembly.specs.Element.{spelled_elements}
-use Rattle.map_assembly.specs.Writing.{spelled_header}
+use Rattle.map_assembly.proofs.Common.{spelled_elements, spelled_header}
 use Rattle.map_assembly.proofs.writing.write_map.Given as goal
 
 abbrev pub invariant-loop-element : goal.invariant-loop-element

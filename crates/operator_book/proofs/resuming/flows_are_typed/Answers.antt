@@ -1,8 +1,5 @@
 use Rattle.std.proofs.Common.{ℕ, take, sym, arith}
-use Rattle.std.proofs.lemmas.List.{take_all}
-use Rattle.std.proofs.lemmas.List.Elements.{All-more, at_read, All-same}
-use Rattle.flow_table.specs.declared.flow.Flow.{Flow}
-use Rattle.operator_book.specs.Resuming.{IsTypedFlow}
+use Rattle.operator_book.proofs.Common.{take_all, All-more, at_read, All-same, Flow, IsTypedFlow}
 use Rattle.operator_book.proofs.resuming.flows_are_typed.Goals as goal
 
 abbrev HasTypes : ℕ × Flow → Type 0

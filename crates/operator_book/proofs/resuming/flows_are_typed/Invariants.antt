@@ -1,6 +1,5 @@
 use Rattle.std.proofs.Common.{ℕ, All, take}
-use Rattle.flow_table.specs.declared.flow.Flow.{Flow}
-use Rattle.operator_book.specs.Resuming.{IsTypedFlow}
+use Rattle.operator_book.proofs.Common.{Flow, IsTypedFlow}
 use Rattle.operator_book.proofs.resuming.flows_are_typed.Given as goal
 
 abbrev pub invariant-loop-entry : goal.invariant-loop-entry

@@ -1,6 +1,5 @@
 use Rattle.std.proofs.Common.{◌≤◌, ℕ, List, All, IfSome, subst, rules}
-use Rattle.flow_table.specs.declared.flow.Flow.{Flow}
-use Rattle.operator_book.specs.Resuming.{IsTypedFlow}
+use Rattle.operator_book.proofs.Common.{Flow, IsTypedFlow}
 use Rattle.operator_book.proofs.SoundState.{sound_state}
 use Rattle.operator_book.proofs.resuming.has_sound_state.Goals as goal
 

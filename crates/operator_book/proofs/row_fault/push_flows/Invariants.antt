@@ -1,6 +1,5 @@
 use Rattle.std.proofs.Common.{◌≡◌, ◌++◌, take}
-use Rattle.std.specs.List.{flat_map}
-use Rattle.operator_book.specs.RowFaults.{row_faults_of_flow}
+use Rattle.operator_book.proofs.Common.{flat_map, row_faults_of_flow}
 use Rattle.operator_book.proofs.row_fault.push_flows.Given as goal
 
 abbrev pub invariant-loop-sfid : goal.invariant-loop-sfid

@@ -1,6 +1,5 @@
 use Rattle.std.proofs.Common.{◌≡◌, drop}
-use Rattle.operator_model.specs.declared.heard.Arrival.{Arrival}
-use Rattle.operator_book.specs.Resuming.{first_fault_in, modem_fault}
+use Rattle.operator_book.proofs.Common.{Arrival, first_fault_in, modem_fault}
 use Rattle.operator_book.proofs.share_fault.messages_fault.Given as goal
 
 abbrev pub invariant-loop-arrival : goal.invariant-loop-arrival

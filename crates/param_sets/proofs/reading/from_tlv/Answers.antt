@@ -1,13 +1,5 @@
 use Rattle.std.proofs.Common.{◌≡◌, ◌↔◌, ℕ, Result, Ok, Err, None, ap, sym, subst, ◌∙◌}
-use Rattle.tlv24.specs.Subtype.{scheduling_type_subtype}
-use Rattle.tlv24.specs.declared.fields.FlowFields.{FlowFields}
-use Rattle.dsx_messages.specs.declared.code.Code.TheVariants.{RejectInvalidForContext, RejectRequiredParameterNotPresent}
-use Rattle.param_sets.specs.Scheduling.{scheduling_of}
-use Rattle.param_sets.specs.Reading.{parameter_set_of}
-use Rattle.param_sets.specs.AsksFor.{AsksFor, IsLeastMissing}
-use Rattle.param_sets.specs.Units.{UnitSizes}
-use Rattle.param_sets.specs.declared.param_set.ParamFields.{ParamFields}
-use Rattle.param_sets.specs.declared.refusal.Refusal.{Refusal}
+use Rattle.param_sets.proofs.Common.{scheduling_type_subtype, FlowFields, RejectInvalidForContext, RejectRequiredParameterNotPresent, scheduling_of, parameter_set_of, AsksFor, IsLeastMissing, UnitSizes, ParamFields, Refusal}
 use Rattle.param_sets.proofs.AskedLemmas.{answered_is_asked, answered_is_set, asked_is_answered}
 use Rattle.param_sets.proofs.RefusalLemmas.{is_unknown, is_missing}
 use Rattle.param_sets.proofs.reading.from_tlv.Goals as goal

@@ -1,6 +1,5 @@
 use Rattle.std.proofs.Common.{◌≡◌, take}
-use Rattle.std.specs.List.{fold}
-use Rattle.pcap_capture.specs.Checks.{with_byte}
+use Rattle.pcap_capture.proofs.Common.{fold, with_byte}
 use Rattle.pcap_capture.proofs.checks.rest_of.Given as goal
 
 abbrev pub invariant-loop-byte : goal.invariant-loop-byte

@@ -1,6 +1,5 @@
 use Rattle.std.proofs.Common.{◌≡◌, map, []}
-use Rattle.std.specs.Prelude.{replicate}
-use Rattle.operator_book.specs.Kept.{HeldHistory}
+use Rattle.plant_core.proofs.Common.{replicate, HeldHistory}
 use Rattle.plant_core.proofs.opening.no_histories.Given as goal
 
 abbrev pub invariant-loop : goal.invariant-loop

@@ -1,8 +1,5 @@
 use Rattle.std.proofs.Common.{rules, [], ◌∷◌, sym, refl, ◌∙◌, subst}
-use Rattle.std.proofs.lemmas.List.{map-append}
-use Rattle.operator_book.specs.ViewOf.{policy_of}
-use Rattle.plant_passes.specs.Passes.{pass_view}
-use Rattle.plant_passes.specs.Turns.{FollowsPolicy, Gathers}
+use Rattle.plant_passes.proofs.Common.{map-append, policy_of, pass_view, FollowsPolicy, Gathers}
 use Rattle.plant_passes.proofs.Moves.{joins}
 use Rattle.plant_passes.proofs.Cells.{gathers_one, gathers_more, pop_all, map_popped, no_hands}
 use Rattle.plant_passes.proofs.dealing.gather.Goals as goal

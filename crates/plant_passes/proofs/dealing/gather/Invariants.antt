@@ -1,7 +1,5 @@
 use Rattle.std.proofs.Common.{◌≡◌, List, [], ◌∷◌, ◌++◌, map, All}
-use Rattle.operator_book.specs.ViewOf.{policy_of}
-use Rattle.plant_passes.specs.Passes.{PassView, pass_view}
-use Rattle.plant_passes.specs.Turns.{FollowsPolicy, Gathers}
+use Rattle.plant_passes.proofs.Common.{policy_of, PassView, pass_view, FollowsPolicy, Gathers}
 use Rattle.plant_passes.proofs.dealing.gather.Given as goal
 
 -- what is left, and what was joined, are all

@@ -1,8 +1,5 @@
 use Rattle.std.proofs.Common.{rules, ◌≡◌, ℕ, [], ◌∷◌, ◌++◌, length, Some, sym, ap, ◌∙◌, subst}
-use Rattle.atomic_table.specs.Table.{opening}
-use Rattle.plant_passes.specs.Runs.{origin_of, IsOwnRun}
-use Rattle.plant_passes.specs.Seats.{opener}
-use Rattle.plant_passes.specs.Rule.{opening_of, IsCellTable}
+use Rattle.plant_passes.proofs.Common.{opening, origin_of, IsOwnRun, opener, opening_of, IsCellTable}
 use Rattle.plant_passes.proofs.Moves.{begins}
 use Rattle.plant_passes.proofs.dealing.table_round.Goals as goal
 

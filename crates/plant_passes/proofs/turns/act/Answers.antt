@@ -1,9 +1,5 @@
 use Rattle.std.proofs.Common.{rules, ◌≡◌, ◌<◌, ℕ, true, [], ◌∷◌, ◌++◌, sym, ap, ◌∙◌, refl, subst}
-use Rattle.operator_model.specs.Machine.{is_spent}
-use Rattle.plant_passes.specs.Runs.{state_after}
-use Rattle.plant_passes.specs.Histories.{entries, history_entry}
-use Rattle.plant_passes.specs.Steps.{SeesHistory, after_closing}
-use Rattle.plant_passes.specs.Turns.{HasBookWith}
+use Rattle.plant_passes.proofs.Common.{is_spent, state_after, entries, history_entry, SeesHistory, after_closing, HasBookWith}
 use Rattle.plant_passes.proofs.Moves.{advances, shuts}
 use Rattle.plant_passes.proofs.Acting.{acts_now, ends_now}
 use Rattle.plant_passes.proofs.Calls.{refuses_turn}

@@ -1,7 +1,5 @@
 use Rattle.std.proofs.Common.{rules, ◌∷◌, [], Some, sym, ap, ◌∙◌, subst}
-use Rattle.operator_model.specs.Machine.{own_step}
-use Rattle.operator_model.specs.Replay.{BookView, operator_of_book, book_after_action}
-use Rattle.plant_passes.specs.Runs.{origin_of, IsOwnRun}
+use Rattle.plant_passes.proofs.Common.{own_step, BookView, operator_of_book, book_after_action, origin_of, IsOwnRun}
 use Rattle.plant_passes.proofs.Acting.{one_in_hand, taken_out, if_ok, on_err, acted_in_hand, unchanged_in_hand, no_stranger, no_misfit}
 use Rattle.plant_passes.proofs.turns.act_in_turn.Goals as goal
 

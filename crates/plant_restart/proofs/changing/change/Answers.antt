@@ -1,8 +1,5 @@
 use Rattle.std.proofs.Common.{◌≡◌, ap, subst, ◌∙◌}
-use Rattle.plant.specs.declared.consts.ConstsFields.{ConstsFields}
-use Rattle.plant.specs.declared.plant.PlantFields.{PlantFields}
-use Rattle.plant.specs.Consts.{KeepsConsts}
-use Rattle.live_core.specs.LiveView.{live_view}
+use Rattle.plant_restart.proofs.Common.{ConstsFields, PlantFields, KeepsConsts, live_view}
 use Rattle.plant_restart.proofs.ChangeLemmas.{saved_change, change_refused, change_memory}
 use Rattle.plant_restart.proofs.changing.change.Goals as goal
 

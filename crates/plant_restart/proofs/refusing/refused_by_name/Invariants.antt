@@ -1,6 +1,5 @@
 use Rattle.std.proofs.Common.{◌≡◌, ◌++◌, map, drop}
-use Rattle.plant_restart.specs.Saving.{saved_by_name}
-use Rattle.plant_restart.specs.Refused.{refused_from}
+use Rattle.plant_restart.proofs.Common.{saved_by_name, refused_from}
 use Rattle.plant_restart.proofs.refusing.refused_by_name.Given as goal
 
 abbrev pub invariant-loop-op : goal.invariant-loop-op

@@ -1,11 +1,6 @@
 use Rattle.std.proofs.Common.{ℕ, List, map, ap, ◌∙◌}
 use Rattle.std.proofs.lemmas.Result.{IfOk-weaker}
-use Rattle.plant.specs.declared.consts.ConstsFields.{ConstsFields}
-use Rattle.plant.specs.declared.operator_row.RowFields.{RowFields}
-use Rattle.operator_model.specs.State.{OperatorState}
-use Rattle.live_core.specs.LiveView.{live_view}
-use Rattle.plant_restart.specs.Saving.{saved_by_name}
-use Rattle.plant_restart.specs.Refused.{refused_from}
+use Rattle.plant_restart.proofs.Common.{ConstsFields, RowFields, OperatorState, live_view, saved_by_name, refused_from}
 use Rattle.plant_restart.proofs.SaveLemmas.{states_saved}
 use Rattle.plant_restart.proofs.refusing.refused_states.Goals as goal
 

@@ -1,15 +1,7 @@
 use Rattle.std.proofs.Common.{◌≡◌, ◌<◌, ◌∷◌, ℕ, length, map, take, drop, get_or, vec_len, refl, sym, ap, subst, ◌∙◌, arith}
-use Rattle.std.specs.Vec.Iter.{into_iter_items}
-use Rattle.std.proofs.lemmas.List.{length-map}
-use Rattle.std.proofs.lemmas.Option.{slice_get_read}
-use Rattle.plant.specs.declared.operator_row.RowFields.{RowFields}
-use Rattle.operator_book.specs.ViewOf.{policy_of}
+use Rattle.plant_restart.proofs.Common.{into_iter_items, length-map, slice_get_read, RowFields, policy_of, sound_of, operator_by_name, saved_by_name, IsRowsFault}
 use Rattle.live_core.proofs.FollowLemmas.{map_more}
-use Rattle.live_core.specs.LiveOperator.{sound_of}
 use Rattle.live_core.proofs.ResumeFaultLemmas.{handed_on}
-use Rattle.plant_restart.specs.ByName.{operator_by_name}
-use Rattle.plant_restart.specs.Saving.{saved_by_name}
-use Rattle.plant_restart.specs.Restarted.{IsRowsFault}
 use Rattle.plant_restart.proofs.RestartLemmas.{next_policy, of_row}
 use Rattle.plant_restart.proofs.restarting.machines_by_name.Goals as goal
 

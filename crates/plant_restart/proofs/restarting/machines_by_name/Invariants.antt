@@ -1,10 +1,5 @@
 use Rattle.std.proofs.Common.{◌≡◌, ◌+◌, length, take, drop, map, vec_len}
-use Rattle.std.specs.Vec.Iter.{into_iter_items, into_iter_len}
-use Rattle.operator_book.specs.ViewOf.{policy_of}
-use Rattle.live_core.specs.LiveOperator.{sound_of}
-use Rattle.plant.specs.declared.operator_row.RowFields.{RowFields}
-use Rattle.plant_restart.specs.ByName.{operator_by_name}
-use Rattle.plant_restart.specs.Saving.{saved_by_name}
+use Rattle.plant_restart.proofs.Common.{into_iter_items, into_iter_len, policy_of, sound_of, RowFields, operator_by_name, saved_by_name}
 use Rattle.plant_restart.proofs.restarting.machines_by_name.Given as goal
 
 abbrev pub invariant-loop-ranking : goal.invariant-loop-ranking

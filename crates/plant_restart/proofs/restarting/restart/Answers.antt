@@ -1,10 +1,5 @@
 use Rattle.std.proofs.Common.{List, map, ap₂, ◌∙◌}
-use Rattle.plant.specs.declared.consts.ConstsFields.{ConstsFields}
-use Rattle.plant.specs.declared.operator_row.RowFields.{RowFields}
-use Rattle.live_core.specs.LiveOperator.{sound_of}
-use Rattle.live_core.specs.LiveView.{live_view}
-use Rattle.plant_restart.specs.ByName.{operator_by_name}
-use Rattle.plant_restart.specs.Saving.{saved_by_name}
+use Rattle.plant_restart.proofs.Common.{ConstsFields, RowFields, sound_of, live_view, operator_by_name, saved_by_name}
 use Rattle.plant_restart.proofs.RestartLemmas.{rows_by_name, consts_by_name, restarts}
 use Rattle.plant_restart.proofs.restarting.restart.Goals as goal
 

@@ -1,6 +1,5 @@
 use Rattle.std.proofs.Common.{◌≡◌, map, drop}
-use Rattle.plant_restart.specs.ByName.{state_under}
-use Rattle.plant_restart.specs.Saving.{saved_by_name}
+use Rattle.plant_restart.proofs.Common.{state_under, saved_by_name}
 use Rattle.plant_restart.proofs.restarting.state_under.Given as goal
 
 abbrev pub invariant-loop-saved : goal.invariant-loop-saved

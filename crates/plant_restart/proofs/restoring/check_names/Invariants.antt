@@ -1,6 +1,5 @@
 use Rattle.std.proofs.Common.{map, take}
-use Rattle.snapshot_format.specs.declared.saved.SavedOperator.{SavedOperator}
-use Rattle.plant_restart.specs.Restarted.{HaveRows}
+use Rattle.plant_restart.proofs.Common.{SavedOperator, HaveRows}
 use Rattle.plant_restart.proofs.restoring.check_names.Given as goal
 
 abbrev pub invariant-loop-saved : goal.invariant-loop-saved

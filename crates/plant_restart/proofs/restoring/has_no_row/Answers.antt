@@ -1,7 +1,5 @@
 use Rattle.std.proofs.Common.{refl}
-use Rattle.std.specs.Prelude.{◌≢◌}
-use Rattle.plant.specs.declared.operator_row.RowFields.{RowFields}
-use Rattle.live_core.proofs.ResumeLemmas.{all_gone}
+use Rattle.plant_restart.proofs.Common.{◌≢◌, RowFields, all_gone}
 use Rattle.plant_restart.proofs.restoring.has_no_row.Goals as goal
 
 pub returns : goal.returns

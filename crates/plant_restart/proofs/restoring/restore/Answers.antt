@@ -1,11 +1,5 @@
 use Rattle.std.proofs.Common.{List, map, subst}
-use Rattle.std.specs.Prelude.{Contains}
-use Rattle.plant.specs.declared.operator_row.RowFields.{RowFields}
-use Rattle.operator_book.specs.ViewOf.{policy_of}
-use Rattle.live_core.specs.LiveView.{live_view}
-use Rattle.snapshot_format.specs.declared.saved.SavedOperator.{SavedOperator}
-use Rattle.plant_restart.specs.Saving.{saved_by_name}
-use Rattle.plant_restart.specs.Restarted.{HasNoRow, HaveRows, IsRestarted, IsRestartFault}
+use Rattle.plant_restart.proofs.Common.{Contains, RowFields, policy_of, live_view, SavedOperator, saved_by_name, HasNoRow, HaveRows, IsRestarted, IsRestartFault}
 use Rattle.plant_restart.proofs.RestoreLemmas.{have_rows, unknown, not_unknown, not_restored, restore_memory}
 use Rattle.plant_restart.proofs.restoring.restore.Goals as goal
 

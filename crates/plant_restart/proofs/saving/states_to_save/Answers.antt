@@ -1,6 +1,5 @@
 use Rattle.std.proofs.Common.{sym, ap, option_map, ◌∙◌}
-use Rattle.live_core.specs.LiveView.{live_view}
-use Rattle.live_core.specs.LiveOperator.{sound_of, book_by}
+use Rattle.plant_restart.proofs.Common.{live_view, sound_of, book_by}
 use Rattle.plant_restart.proofs.SaveLemmas.{saved_more}
 use Rattle.plant_restart.proofs.saving.states_to_save.Goals as goal
 

@@ -1,6 +1,5 @@
 use Rattle.std.proofs.Common.{◌≡◌, map, take}
-use Rattle.live_core.specs.LiveView.{live_view}
-use Rattle.plant_restart.specs.Saving.{saved_book}
+use Rattle.plant_restart.proofs.Common.{live_view, saved_book}
 use Rattle.plant_restart.proofs.saving.states_to_save.Given as goal
 
 abbrev pub invariant-loop-op : goal.invariant-loop-op

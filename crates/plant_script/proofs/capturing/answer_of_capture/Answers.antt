@@ -1,6 +1,5 @@
 use Rattle.std.proofs.Common.{ap}
-use Rattle.std.specs.Global.{Vec}
-use Rattle.plant_core.specs.CoreView.{core_view}
+use Rattle.plant_script.proofs.Common.{Vec, core_view}
 use Rattle.plant_script.proofs.CaptureRuns.{filed_run}
 use Rattle.plant_script.proofs.capturing.answer_of_capture.Goals as goal
 

@@ -1,8 +1,5 @@
 use Rattle.std.proofs.Common.{arith}
-use Rattle.plant_core.specs.CoreView.{core_view}
-use Rattle.live_core.specs.Faults.{step_fault}
-use Rattle.script_format.proofs.Outcomes.{if_ok}
-use Rattle.line_service.proofs.StepLemmas.{fault_is_told}
+use Rattle.plant_script.proofs.Common.{core_view, step_fault, if_ok, fault_is_told}
 use Rattle.plant_script.proofs.CaptureRuns.{none_captured, captured_more, all_captured, captured_refused}
 use Rattle.plant_script.proofs.capturing.run_captured.Goals as goal
 

@@ -1,6 +1,5 @@
 use Rattle.std.proofs.Common.{take}
-use Rattle.plant_core.specs.CoreView.{core_view}
-use Rattle.plant_script.specs.Done.{AreCaptured}
+use Rattle.plant_script.proofs.Common.{core_view, AreCaptured}
 use Rattle.plant_script.proofs.capturing.run_captured.Given as goal
 
 abbrev pub invariant-loop-line : goal.invariant-loop-line

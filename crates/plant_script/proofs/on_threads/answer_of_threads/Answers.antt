@@ -1,7 +1,5 @@
 use Rattle.std.proofs.Common.{map, ap, ◌∙◌}
-use Rattle.operator_book.specs.ViewOf.{view_of}
-use Rattle.script_format.specs.Script.{steps_without_numbers}
-use Rattle.script_format.proofs.Outcomes.{if_ok}
+use Rattle.plant_script.proofs.Common.{view_of, steps_without_numbers, if_ok}
 use Rattle.plant_script.proofs.ThreadedRuns.{settled_run, fault_run}
 use Rattle.plant_script.proofs.on_threads.answer_of_threads.Goals as goal
 

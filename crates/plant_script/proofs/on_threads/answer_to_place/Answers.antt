@@ -1,5 +1,4 @@
-use Rattle.script_format.proofs.Outcomes.{if_ok}
-use Rattle.plant_script.specs.Statuses.{status_code}
+use Rattle.plant_script.proofs.Common.{if_ok, status_code}
 use Rattle.plant_script.proofs.RefusedSteps.{place_reported}
 use Rattle.plant_script.proofs.on_threads.answer_to_place.Goals as goal
 

@@ -1,7 +1,5 @@
 use Rattle.std.proofs.Common.{◌++◌, ◌+◌, drop, map}
-use Rattle.operator_book.specs.ViewOf.{view_of}
-use Rattle.run_audit.specs.Outs.{outs_from}
-use Rattle.script_format.specs.Text.{outs_text}
+use Rattle.plant_script.proofs.Common.{view_of, outs_from, outs_text}
 use Rattle.plant_script.proofs.Telling.{books_more, map_left}
 use Rattle.plant_script.proofs.on_threads.put_books.Goals as goal
 

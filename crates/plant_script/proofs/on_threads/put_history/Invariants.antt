@@ -1,8 +1,5 @@
 use Rattle.std.proofs.Common.{◌≡◌, ◌++◌, drop}
-use Rattle.std.specs.Prelude.{slice_get}
-use Rattle.std.specs.List.{flat_map}
-use Rattle.run_receipts.specs.OwnParts.{history_outputs}
-use Rattle.script_format.specs.Text.{operator_name, output_line}
+use Rattle.plant_script.proofs.Common.{slice_get, flat_map, history_outputs, operator_name, output_line}
 use Rattle.plant_script.proofs.on_threads.put_history.Given as goal
 
 abbrev pub invariant-loop-entry : goal.invariant-loop-entry

@@ -1,6 +1,5 @@
 use Rattle.std.proofs.Common.{◌≡◌, ◌++◌, take}
-use Rattle.std.specs.List.{flat_map}
-use Rattle.script_format.specs.Text.{map_line}
+use Rattle.plant_script.proofs.Common.{flat_map, map_line}
 use Rattle.plant_script.proofs.on_threads.put_maps.Given as goal
 
 abbrev pub invariant-loop-made : goal.invariant-loop-made

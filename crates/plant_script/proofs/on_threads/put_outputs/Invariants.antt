@@ -1,7 +1,5 @@
 use Rattle.std.proofs.Common.{◌≡◌, ◌++◌, take}
-use Rattle.std.specs.Prelude.{slice_get}
-use Rattle.std.specs.List.{flat_map}
-use Rattle.script_format.specs.Text.{operator_name, output_line}
+use Rattle.plant_script.proofs.Common.{slice_get, flat_map, operator_name, output_line}
 use Rattle.plant_script.proofs.on_threads.put_outputs.Given as goal
 
 abbrev pub invariant-loop-output : goal.invariant-loop-output

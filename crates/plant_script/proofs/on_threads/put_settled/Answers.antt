@@ -1,6 +1,5 @@
 use Rattle.std.proofs.Common.{map, ap}
-use Rattle.operator_book.specs.ViewOf.{view_of}
-use Rattle.script_format.proofs.Outcomes.{if_ok}
+use Rattle.plant_script.proofs.Common.{view_of, if_ok}
 use Rattle.plant_script.proofs.Telling.{all_told}
 use Rattle.plant_script.proofs.on_threads.put_settled.Goals as goal
 

@@ -1,6 +1,4 @@
-use Rattle.script_format.proofs.Outcomes.{if_ok}
-use Rattle.plant_script.specs.OnThreads.{IsThreadedRunOf}
-use Rattle.plant_script.specs.Statuses.{status_code}
+use Rattle.plant_script.proofs.Common.{if_ok, IsThreadedRunOf, status_code}
 use Rattle.plant_script.proofs.Reached.{outcome_written}
 use Rattle.plant_script.proofs.on_threads.write_threaded_run.Goals as goal
 

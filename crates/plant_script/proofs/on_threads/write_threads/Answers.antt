@@ -1,7 +1,5 @@
 -- Out of memory is reported as such; else it is what the run writes.
-use Rattle.script_format.proofs.Outcomes.{if_ok}
-use Rattle.plant_script.specs.OnThreads.{IsThreadedRunOf}
-use Rattle.plant_script.specs.Statuses.{status_code}
+use Rattle.plant_script.proofs.Common.{if_ok, IsThreadedRunOf, status_code}
 use Rattle.plant_script.proofs.Reached.{memory_written}
 use Rattle.plant_script.proofs.on_threads.write_threads.Goals as goal
 

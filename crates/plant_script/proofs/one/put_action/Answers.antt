@@ -1,10 +1,6 @@
 use Rattle.std.proofs.Common.{◌≡◌, Option, Some, None, Err, ap, ap₂, ◌∙◌}
-use Rattle.plant.specs.declared.operator_row.RowFields.{RowFields}
+use Rattle.plant_script.proofs.Common.{RowFields, operator, stranger_of, unfit_of, operator_of_book, view_of}
 use Rattle.plant.specs.declared.consts.ConstsFields.{ConstsFields}
-use Rattle.operator_model.specs.State.{operator}
-use Rattle.operator_model.specs.Machine.{stranger_of, unfit_of}
-use Rattle.operator_model.specs.Replay.{operator_of_book}
-use Rattle.operator_book.specs.ViewOf.{view_of}
 use Rattle.plant_script.proofs.one.put_action.Goals as goal
 
 no_one : {A : Type 0} (o : Option A) (a : A) → o ≡ None → o ≡ Some a → ⊥

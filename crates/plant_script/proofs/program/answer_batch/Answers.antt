@@ -1,10 +1,5 @@
 use Rattle.std.proofs.Common.{ℕ, List, IfSome, subst}
-use Rattle.std.specs.Io.KnownBytes.{Appends}
-use Rattle.command_line.specs.Order.{batch_order}
-use Rattle.plant_script.specs.declared.task.InputOutcome.{InputOutcome}
-use Rattle.plant_script.specs.Statuses.{status_code}
-use Rattle.plant_script.specs.Task.{noted_script, RunsTo, IsWritten, Comes}
-use Rattle.plant_script.specs.Words.{AnswersWith}
+use Rattle.plant_script.proofs.Common.{Appends, batch_order, InputOutcome, status_code, noted_script, RunsTo, IsWritten, Comes, AnswersWith}
 use Rattle.plant_script.proofs.Reached.{task_ends}
 use Rattle.plant_script.proofs.program.answer_batch.Goals as goal
 

@@ -1,5 +1,4 @@
-use Rattle.clap.specs.Walk.{texts}
-use Rattle.script_format.proofs.Outcomes.{if_ok}
+use Rattle.plant_script.proofs.Common.{texts, if_ok}
 use Rattle.plant_script.proofs.Reached.{word_reaches}
 use Rattle.plant_script.proofs.program.answer_words.Goals as goal
 

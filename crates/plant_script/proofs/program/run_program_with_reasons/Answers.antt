@@ -1,9 +1,6 @@
 -- What was reached without threads is completed. The reasons are written elsewhere.
 use Rattle.std.proofs.Common.{◌≢◌, ℕ, sym, subst, ◌∙◌}
-use Rattle.std.specs.Io.KnownBytes.{Appends}
-use Rattle.clap.specs.Walk.{texts}
-use Rattle.plant_script.specs.Reaching.{AnswersWords}
-use Rattle.plant_script.specs.Statuses.{status_code}
+use Rattle.plant_script.proofs.Common.{Appends, texts, AnswersWords, status_code}
 use Rattle.plant_script.proofs.Reached.{words_completed}
 use Rattle.plant_script.proofs.program.run_program_with_reasons.Goals as goal
 

@@ -1,7 +1,5 @@
 use Rattle.std.proofs.Common.{subst}
-use Rattle.plant.specs.declared.plant.PlantFields.{PlantFields}
-use Rattle.plant_script.specs.Run.{IsCapturedRunOf}
-use Rattle.plant_script.specs.Statuses.{status_code}
+use Rattle.plant_script.proofs.Common.{PlantFields, IsCapturedRunOf, status_code}
 use Rattle.plant_script.proofs.running.answer_of_capture_run.Goals as goal
 
 pub returns : goal.returns

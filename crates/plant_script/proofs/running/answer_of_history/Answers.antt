@@ -1,9 +1,5 @@
 use Rattle.std.proofs.Common.{◌≡◌, ℕ, ◌++◌, List, subst, ap, ◌∙◌}
-use Rattle.std.specs.Prelude.{slice_get}
-use Rattle.plant_core.specs.CoreView.{core_view}
-use Rattle.script_format.proofs.Outcomes.{if_ok}
-use Rattle.plant_script.specs.Task.{IsEnded}
-use Rattle.plant_script.specs.Done.{book_text}
+use Rattle.plant_script.proofs.Common.{slice_get, core_view, if_ok, IsEnded, book_text}
 use Rattle.plant_script.proofs.StepRuns.{history_written}
 use Rattle.plant_script.proofs.running.answer_of_history.Goals as goal
 

@@ -1,9 +1,5 @@
 use Rattle.std.proofs.Common.{subst}
-use Rattle.std.specs.Prelude.{slice_get}
-use Rattle.plant.specs.declared.plant.PlantFields.{PlantFields}
-use Rattle.plant_script.specs.Run.{IsScriptRun}
-use Rattle.plant_script.specs.Task.{history_at}
-use Rattle.plant_script.specs.Statuses.{status_code}
+use Rattle.plant_script.proofs.Common.{slice_get, PlantFields, IsScriptRun, history_at, status_code}
 use Rattle.plant_script.proofs.running.answer_of_history_run.Goals as goal
 
 pub returns : goal.returns

@@ -1,13 +1,5 @@
 use Rattle.std.proofs.Common.{◌≡◌, ◌∷◌, [], sym, ◌∙◌}
-use Rattle.std.proofs.lemmas.List.{nil_from_length}
-use Rattle.std.specs.Vec.Iter.{into_iter_items, into_iter_len}
-use Rattle.std.specs.Global.{Vec}
-use Rattle.run_model.specs.declared.step.Out.{Out}
-use Rattle.plant_core.specs.CoreView.{core_view}
-use Rattle.live_core.specs.Faults.{step_fault}
-use Rattle.script_format.proofs.Outcomes.{if_ok}
-use Rattle.line_service.proofs.LeftLemmas.{count_next}
-use Rattle.line_service.proofs.StepLemmas.{fault_is_told}
+use Rattle.plant_script.proofs.Common.{nil_from_length, into_iter_items, into_iter_len, Vec, Out, core_view, step_fault, if_ok, count_next, fault_is_told}
 use Rattle.plant_script.proofs.StepRuns.{unheard_more, all_done, line_refused}
 use Rattle.plant_script.proofs.running.run_unheard.Goals as goal
 

@@ -1,6 +1,5 @@
 use Rattle.std.proofs.Common.{◌≡◌, [], length}
-use Rattle.std.specs.Vec.Iter.{into_iter_items, into_iter_len}
-use Rattle.plant_core.specs.CoreView.{core_view}
+use Rattle.plant_script.proofs.Common.{into_iter_items, into_iter_len, core_view}
 use Rattle.plant_script.proofs.HalfDone.{IsHalfDone}
 use Rattle.plant_script.proofs.running.run_unheard.Given as goal
 

@@ -1,7 +1,4 @@
-use Rattle.script_format.proofs.Outcomes.{if_ok}
-use Rattle.script_format.specs.Text.{outs_text}
-use Rattle.plant_script.specs.Run.{IsScriptRun}
-use Rattle.plant_script.specs.Statuses.{status_code}
+use Rattle.plant_script.proofs.Common.{if_ok, outs_text, IsScriptRun, status_code}
 use Rattle.plant_script.proofs.LiveRuns.{run_written}
 use Rattle.plant_script.proofs.Reached.{memory_written}
 use Rattle.plant_script.proofs.running.write_outputs_run.Goals as goal

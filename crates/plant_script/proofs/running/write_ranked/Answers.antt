@@ -1,7 +1,5 @@
 -- Out of memory is reported as such; else it is what the task's run writes.
-use Rattle.script_format.proofs.Outcomes.{if_ok}
-use Rattle.plant_script.specs.Task.{RunsTo}
-use Rattle.plant_script.specs.Statuses.{status_code}
+use Rattle.plant_script.proofs.Common.{if_ok, RunsTo, status_code}
 use Rattle.plant_script.proofs.Reached.{memory_written}
 use Rattle.plant_script.proofs.running.write_ranked.Goals as goal
 

@@ -1,8 +1,6 @@
 use Rattle.std.proofs.Common.{[]}
-use Rattle.std.proofs.KnownBytes.{Appends-kept}
-use Rattle.run_model.specs.Starts.{first_start}
+use Rattle.plant_script.proofs.Common.{Appends-kept, first_start, status_code}
 use Rattle.live_core.specs.LiveView.{live_view}
-use Rattle.plant_script.specs.Statuses.{status_code}
 use Rattle.plant_script.proofs.LiveRuns.{run_ends}
 use Rattle.plant_script.proofs.running.write_run.Goals as goal
 

@@ -1,6 +1,5 @@
 -- The plant file was read, and its plant is served.
-use Rattle.script_format.proofs.Outcomes.{if_ok}
-use Rattle.plant_script.specs.Statuses.{status_code}
+use Rattle.plant_script.proofs.Common.{if_ok, status_code}
 use Rattle.plant_script.proofs.Services.{service_ends}
 use Rattle.plant_script.proofs.serving.serve_words.Goals as goal
 

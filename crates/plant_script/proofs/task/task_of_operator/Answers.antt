@@ -1,9 +1,5 @@
 use Rattle.std.proofs.Common.{◌≡◌, ℕ, Option, Some, sym, subst}
-use Rattle.std.specs.List.{position_from}
-use Rattle.script_format.specs.Script.{is_named, steps_of}
-use Rattle.script_format.proofs.Outcomes.{if_ok}
-use Rattle.plant_script.specs.Task.{Comes}
-use Rattle.plant_script.specs.Words.{AnswersOperator}
+use Rattle.plant_script.proofs.Common.{position_from, is_named, steps_of, if_ok, Comes, AnswersOperator}
 use Rattle.plant_script.proofs.Tasks.{found_at, comes_of_operator}
 use Rattle.plant_script.proofs.task.task_of_operator.Goals as goal
 

@@ -1,6 +1,4 @@
-use Rattle.std.proofs.KnownBytes.{Appends-kept}
-use Rattle.plant_core.specs.CoreView.{core_view}
-use Rattle.plant_script.specs.Statuses.{status_code}
+use Rattle.plant_script.proofs.Common.{Appends-kept, core_view, status_code}
 use Rattle.plant_script.proofs.TracedRuns.{trace_ends}
 use Rattle.plant_script.proofs.tracing.write_traced.Goals as goal
 

@@ -1,11 +1,5 @@
 use Rattle.std.proofs.Common.{subst}
-use Rattle.std.specs.Io.KnownBytes.{Appends}
-use Rattle.script_format.proofs.Outcomes.{if_ok}
-use Rattle.plant.specs.declared.plant.PlantFields.{PlantFields}
-use Rattle.command_line.specs.declared.asked.RunReport.TheVariants.{Trace}
-use Rattle.plant_script.specs.Task.{RunsTo}
-use Rattle.plant_script.specs.Traced.{EndsTraced}
-use Rattle.plant_script.specs.Statuses.{status_code}
+use Rattle.plant_script.proofs.Common.{Appends, if_ok, PlantFields, Trace, RunsTo, EndsTraced, status_code}
 use Rattle.plant_script.proofs.Reached.{memory_written}
 use Rattle.plant_script.proofs.TracedRuns.{trace_written}
 use Rattle.plant_script.proofs.tracing.write_traced_run.Goals as goal

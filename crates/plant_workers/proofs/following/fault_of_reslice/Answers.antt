@@ -1,6 +1,5 @@
 use Rattle.std.proofs.Common.{length, map, ap, arith}
-use Rattle.std.proofs.lemmas.List.{length-map}
-use Rattle.cell_state.specs.HeldView.{cell_book}
+use Rattle.plant_workers.proofs.Common.{length-map, cell_book}
 use Rattle.plant_workers.proofs.following.fault_of_reslice.Goals as goal
 
 pub returns-in-None-clause-of_run : goal.returns-in-None-clause-of_run

@@ -1,11 +1,5 @@
 use Rattle.std.proofs.Common.{◌≡◌, Some, arith}
-use Rattle.std.specs.Prelude.{slice_get}
-use Rattle.std.proofs.lemmas.Option.{slice_get_within}
-use Rattle.plant.specs.declared.operator_row.RowFields.{RowFields}
-use Rattle.cell_state.specs.HeldView.{cell_book}
-use Rattle.run_model.specs.IsStateAfter.{IsBookAfter}
-use Rattle.run_model.proofs.Entries.{some_at}
-use Rattle.run_audit.proofs.Least.{next_place, map_there}
+use Rattle.plant_workers.proofs.Common.{slice_get, slice_get_within, RowFields, cell_book, IsBookAfter, some_at, next_place, map_there}
 use Rattle.plant_workers.proofs.following.first_stray.Goals as goal
 
 pub returns-in-Some : goal.returns-in-Some

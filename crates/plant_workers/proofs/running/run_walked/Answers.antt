@@ -1,8 +1,7 @@
 use Rattle.std.proofs.Common.{List, length, Err, sym, ap, ◌∙◌, subst}
-use Rattle.std.proofs.lemmas.Option.{none-some, same_Some, slice_get_within}
+use Rattle.plant_workers.proofs.Common.{none-some, same_Some, slice_get_within, CoreFault}
 use Rattle.run_model.specs.declared.step.Step.{Step}
 use Rattle.run_model.specs.declared.step.Step.TheVariants as steps
-use Rattle.live_core.specs.declared.core_fault.CoreFault.{CoreFault}
 use Rattle.run_receipts.specs.declared.run_fault.RunFault.TheVariants.{Core}
 use Rattle.run_plan.specs.Spending.{NoneSpentBefore, before_reslice}
 use Rattle.plant_workers.proofs.running.run_walked.Goals as goal

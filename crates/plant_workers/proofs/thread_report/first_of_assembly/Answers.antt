@@ -1,10 +1,5 @@
 use Rattle.std.proofs.Common.{◌≡◌, List, map, Option, None, sym, ◌∙◌, arith}
-use Rattle.std.proofs.lemmas.List.{length-map}
-use Rattle.std.proofs.lemmas.Option.{slice_get_within}
-use Rattle.run_audit.proofs.Least.{map_there}
-use Rattle.plant_workers.specs.declared.thread_report.EarlyEnd.{EarlyEnd}
-use Rattle.plant_workers.specs.declared.thread_report.ThreadReport.{ThreadReport}
-use Rattle.plant_workers.specs.Refusing.{of_assembly}
+use Rattle.plant_workers.proofs.Common.{length-map, slice_get_within, map_there, EarlyEnd, ThreadReport, of_assembly}
 use Rattle.plant_workers.proofs.LeastLemmas.{next}
 use Rattle.plant_workers.proofs.thread_report.first_of_assembly.Goals as goal
 

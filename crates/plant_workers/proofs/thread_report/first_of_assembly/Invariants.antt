@@ -1,7 +1,5 @@
 use Rattle.std.proofs.Common.{◌≡◌, ℕ, ◌<◌, map, Option, Some, None}
-use Rattle.std.specs.Prelude.{slice_get}
-use Rattle.plant_workers.specs.declared.thread_report.EarlyEnd.{EarlyEnd}
-use Rattle.plant_workers.specs.Refusing.{of_assembly}
+use Rattle.plant_workers.proofs.Common.{slice_get, EarlyEnd, of_assembly}
 use Rattle.plant_workers.proofs.thread_report.first_of_assembly.Given as goal
 
 abbrev pub invariant-loop-thread_report : goal.invariant-loop-thread_report

@@ -1,9 +1,5 @@
 use Rattle.std.proofs.Common.{◌+◌, List, map, Option, sym, ap, ◌∙◌, subst, arith}
-use Rattle.std.proofs.lemmas.List.{length-map}
-use Rattle.run_audit.proofs.Least.{map_there}
-use Rattle.plant_workers.specs.declared.thread_report.EarlyEnd.{EarlyEnd}
-use Rattle.plant_workers.specs.declared.thread_report.ThreadReport.{ThreadReport}
-use Rattle.plant_workers.specs.Refusing.{lesser_turn, IsLeastOf}
+use Rattle.plant_workers.proofs.Common.{length-map, map_there, EarlyEnd, ThreadReport, lesser_turn, IsLeastOf}
 use Rattle.plant_workers.proofs.LeastLemmas.{least_more, least_end}
 use Rattle.plant_workers.proofs.thread_report.least_turn.Goals as goal
 

@@ -1,6 +1,5 @@
 use Rattle.std.proofs.Common.{refl, arith, ◌∙◌, ap}
-use Rattle.std.proofs.lemmas.List.{map-append}
-use Rattle.clap.specs.Walk.{texts}
+use Rattle.program_options.proofs.Common.{map-append, texts}
 use Rattle.program_options.proofs.Steps.{other_taken, one_or_more}
 use Rattle.program_options.proofs.separating.keep.Goals as goal
 

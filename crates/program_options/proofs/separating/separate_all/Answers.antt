@@ -1,6 +1,5 @@
 use Rattle.std.proofs.Common.{subst, sym, arith}
-use Rattle.clap.specs.Walk.{texts}
-use Rattle.program_options.specs.Separating.{HasOptionsFault}
+use Rattle.program_options.proofs.Common.{texts, HasOptionsFault}
 use Rattle.program_options.proofs.Steps.{at_rest, handed_on, loop_part}
 use Rattle.program_options.proofs.separating.separate_all.Goals as goal
 

@@ -1,6 +1,5 @@
 use Rattle.std.proofs.Common.{◌≤◌, ◌-◌, length, drop}
-use Rattle.clap.specs.Walk.{texts}
-use Rattle.program_options.specs.Separating.{IsSoFar}
+use Rattle.program_options.proofs.Common.{texts, IsSoFar}
 use Rattle.program_options.proofs.separating.separate_all.Given as goal
 
 abbrev pub invariant-loop-at : goal.invariant-loop-at

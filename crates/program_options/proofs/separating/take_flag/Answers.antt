@@ -1,6 +1,5 @@
 use Rattle.std.proofs.Common.{sym, ◌∙◌, subst, arith}
-use Rattle.clap.specs.Walk.{texts}
-use Rattle.program_options.specs.Separating.{IsSoFar}
+use Rattle.program_options.proofs.Common.{texts, IsSoFar}
 use Rattle.program_options.proofs.Steps.{flag_taken, one_or_more}
 use Rattle.program_options.proofs.separating.take_flag.Goals as goal
 

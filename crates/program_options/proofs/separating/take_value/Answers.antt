@@ -1,6 +1,5 @@
 use Rattle.std.proofs.Common.{◌∷◌, drop, sym, ◌∙◌, subst, arith}
-use Rattle.clap.specs.Walk.{texts}
-use Rattle.program_options.specs.Separating.{IsSoFar}
+use Rattle.program_options.proofs.Common.{texts, IsSoFar}
 use Rattle.program_options.proofs.Steps.{value_taken, two_words}
 use Rattle.program_options.proofs.separating.take_value.Goals as goal
 

@@ -1,6 +1,5 @@
 use Rattle.std.proofs.Common.{List, ℕ, ◌+◌, sym, subst}
-use Rattle.line_service.specs.Bytes.{Takes, WhereKnown}
-use Rattle.program_runner.specs.Heads.{IsHeadRead}
+use Rattle.program_runner.proofs.Common.{Takes, WhereKnown, IsHeadRead}
 use Rattle.program_runner.proofs.HeadLemmas.{IsHeadUpTo, known_start, known_same, known_other, known_end, known_all}
 use Rattle.program_runner.proofs.head_reading.read_head.Goals as goal
 

@@ -1,7 +1,5 @@
 use Rattle.std.proofs.Common.{List, ℕ, Some, sym, ap, ◌∙◌}
-use Rattle.clap.specs.Walk.{texts}
-use Rattle.std.specs.Fmt.{option_append}
-use Rattle.resumed_service.specs.Beginning.{is_snapshot_head}
+use Rattle.program_runner.proofs.Common.{texts, option_append, is_snapshot_head}
 use Rattle.program_runner.proofs.RestoreLemmas.{run_performed}
 use Rattle.program_runner.proofs.WithoutOptions.{run_out_of_memory}
 use Rattle.program_runner.proofs.restoring.run_input.Goals as goal

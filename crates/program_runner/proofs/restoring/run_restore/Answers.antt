@@ -1,6 +1,5 @@
 use Rattle.std.proofs.Common.{List, ℕ, Some, sym, ap, ◌∙◌}
-use Rattle.std.specs.Fmt.{option_append}
-use Rattle.resumed_service.specs.Beginning.{is_snapshot_head}
+use Rattle.program_runner.proofs.Common.{option_append, is_snapshot_head}
 use Rattle.program_runner.proofs.RestoreLemmas.{restore_resumed}
 use Rattle.program_runner.proofs.restoring.run_restore.Goals as goal
 

@@ -1,12 +1,5 @@
 use Rattle.std.proofs.Common.{ℕ, List, IfOk, IfErr, sym, subst}
-use Rattle.std.specs.Io.KnownBytes.{Appends}
-use Rattle.live_core.specs.LiveView.{live_view}
-use Rattle.line_service.specs.Bytes.{WhereKnown}
-use Rattle.line_service.proofs.StepLemmas.{on_ok_map}
-use Rattle.plant_restart.specs.Changing.{IsChangeOf, IsChangeFault}
-use Rattle.resumed_service.specs.Items.{change_text}
-use Rattle.line_service.specs.Lines.{lines_left}
-use Rattle.resumed_service.specs.Served.{AreServedSoFar}
+use Rattle.resumed_service.proofs.Common.{Appends, live_view, WhereKnown, on_ok_map, IsChangeOf, IsChangeFault, change_text, lines_left, AreServedSoFar}
 use Rattle.resumed_service.proofs.ServedLemmas.{plant_changed, plant_kept}
 use Rattle.resumed_service.proofs.changing.answer_change.Goals as goal
 

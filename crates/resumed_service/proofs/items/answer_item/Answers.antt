@@ -1,6 +1,5 @@
 use Rattle.std.proofs.Common.{sym, ◌∙◌}
-use Rattle.live_core.specs.LiveView.{live_view}
-use Rattle.line_service.proofs.StepLemmas.{on_ok_map}
+use Rattle.resumed_service.proofs.Common.{live_view, on_ok_map}
 use Rattle.resumed_service.proofs.ItemLemmas.{line_answered, snapshot_answered}
 use Rattle.resumed_service.proofs.items.answer_item.Goals as goal
 

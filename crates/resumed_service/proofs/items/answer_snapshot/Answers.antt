@@ -1,9 +1,6 @@
 use Rattle.std.proofs.Common.{List, ℕ, inl, inr, refl, subst}
-use Rattle.std.specs.Io.KnownBytes.{Appends}
-use Rattle.std.proofs.KnownBytes.{Appends-kept}
+use Rattle.resumed_service.proofs.Common.{Appends, Appends-kept, end_text, on_ok}
 use Rattle.line_service.specs.declared.line_outcome.LineOutcome.TheVariants.{AtFault, NoMemory}
-use Rattle.line_service.specs.Service.{end_text}
-use Rattle.line_service.proofs.StepLemmas.{on_ok}
 use Rattle.resumed_service.proofs.items.answer_snapshot.Goals.{in-Ok+in_ok-write_all-in-Ok, in-Err-Unfinished+in_ok-write_end-in-Err-Unfinished, in-Err-NoMemory+in_ok-write_end-in-Err-NoMemory}
 use Rattle.resumed_service.proofs.items.answer_snapshot.Goals as goal
 

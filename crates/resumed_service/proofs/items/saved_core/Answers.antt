@@ -1,7 +1,5 @@
 use Rattle.std.proofs.Common.{List, ℕ, subst}
-use Rattle.live_core.specs.LiveView.{live_view}
-use Rattle.script_format.proofs.Outcomes.{if_ok}
-use Rattle.plant_restart.specs.Saving.{IsCoreSnapshot}
+use Rattle.resumed_service.proofs.Common.{live_view, if_ok, IsCoreSnapshot}
 use Rattle.resumed_service.proofs.ItemLemmas.{core_saved}
 use Rattle.resumed_service.proofs.items.saved_core.Goals as goal
 

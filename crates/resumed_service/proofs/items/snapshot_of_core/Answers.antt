@@ -1,6 +1,5 @@
 use Rattle.std.proofs.Common.{List, ℕ, ◌++◌, ap, ◌∙◌}
-use Rattle.live_core.specs.LiveView.{live_view}
-use Rattle.snapshot_format.specs.Text.{text_of_snapshot}
+use Rattle.resumed_service.proofs.Common.{live_view, text_of_snapshot}
 use Rattle.resumed_service.proofs.ItemLemmas.{core_text}
 use Rattle.resumed_service.proofs.items.snapshot_of_core.Goals as goal
 

@@ -1,7 +1,5 @@
 use Rattle.std.proofs.Common.{ap, ◌∙◌}
-use Rattle.plant.specs.declared.plant.PlantFields.{PlantFields}
-use Rattle.live_core.specs.LiveView.{live_view}
-use Rattle.resumed_service.specs.LastStates.{name_at}
+use Rattle.resumed_service.proofs.Common.{PlantFields, live_view, name_at}
 use Rattle.resumed_service.proofs.SavedLemmas.{restless}
 use Rattle.resumed_service.proofs.last_state.last_state.Goals as goal
 

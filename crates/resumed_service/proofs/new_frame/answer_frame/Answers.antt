@@ -1,8 +1,5 @@
 use Rattle.std.proofs.Common.{IfOk, IfErr, subst}
-use Rattle.live_core.specs.LiveView.{live_view}
-use Rattle.line_service.proofs.StepLemmas.{on_ok_map}
-use Rattle.snapshot_format.specs.States.{states_of}
-use Rattle.plant_restart.specs.Restarted.{IsRestarted, IsRestoreFault}
+use Rattle.resumed_service.proofs.Common.{live_view, on_ok_map, states_of, IsRestarted, IsRestoreFault}
 use Rattle.resumed_service.proofs.FrameLemmas.{frame_changed, frame_not_changed}
 use Rattle.resumed_service.proofs.new_frame.answer_frame.Goals as goal
 

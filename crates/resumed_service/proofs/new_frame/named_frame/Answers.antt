@@ -1,6 +1,5 @@
 use Rattle.std.proofs.Common.{◌≡◌, true, false, List, ℕ, sym, subst, ◌∙◌}
-use Rattle.std.specs.Str.Parse.{ParsesUnsigned}
-use Rattle.std.proofs.lemmas.Slice.Eq.{bytes_eq-Decides}
+use Rattle.resumed_service.proofs.Common.{ParsesUnsigned, bytes_eq-Decides}
 use Rattle.resumed_service.proofs.FrameLemmas.{no_text, other_number}
 use Rattle.resumed_service.proofs.new_frame.named_frame.Goals as goal
 

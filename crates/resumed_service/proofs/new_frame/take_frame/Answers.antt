@@ -1,6 +1,5 @@
 use Rattle.std.proofs.Common.{List, ℕ, subst}
-use Rattle.live_core.specs.LiveView.{live_view}
-use Rattle.resumed_service.specs.NewFrames.{NamesFrame, IsNewFrameFault}
+use Rattle.resumed_service.proofs.Common.{live_view, NamesFrame, IsNewFrameFault}
 use Rattle.resumed_service.proofs.FrameLemmas.{frame_awaits, frame_refused}
 use Rattle.resumed_service.proofs.new_frame.take_frame.Goals as goal
 

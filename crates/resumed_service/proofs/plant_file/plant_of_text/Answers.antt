@@ -1,6 +1,5 @@
 use Rattle.std.proofs.Common.{◌≡◌, List, ℕ, Ok, subst}
-use Rattle.toml.specs.Parse.{parse_document}
-use Rattle.slice_table.specs.ReadPlant.{text_plant}
+use Rattle.resumed_service.proofs.Common.{parse_document, text_plant}
 use Rattle.resumed_service.proofs.PlantFileLemmas.{valid_file}
 use Rattle.resumed_service.proofs.plant_file.plant_of_text.Goals as goal
 

@@ -1,5 +1,4 @@
-use Rattle.resumed_service.specs.PlantFiles.{IsReadingFile}
-use Rattle.line_service.proofs.ServiceLemmas.{known_same}
+use Rattle.resumed_service.proofs.Common.{IsReadingFile, known_same}
 use Rattle.resumed_service.proofs.PlantFileLemmas.{file_begun}
 use Rattle.resumed_service.proofs.plant_file.read_lines.Goals as goal
 

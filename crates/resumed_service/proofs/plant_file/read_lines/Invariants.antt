@@ -1,5 +1,4 @@
-use Rattle.line_service.specs.Bytes.{WhereKnown}
-use Rattle.resumed_service.specs.PlantFiles.{IsReadingFile}
+use Rattle.resumed_service.proofs.Common.{WhereKnown, IsReadingFile}
 use Rattle.resumed_service.proofs.plant_file.read_lines.Given as goal
 
 abbrev pub invariant-loop : goal.invariant-loop

@@ -1,9 +1,6 @@
 use Rattle.std.proofs.Common.{IfOk, IfSome, subst}
-use Rattle.script_format.proofs.Outcomes.{if_ok}
+use Rattle.resumed_service.proofs.Common.{if_ok, BegunEnd, IsBeginningRead, EndsBegun}
 use Rattle.resumed_service.specs.declared.last_state.AtEnd.TheVariants as asked
-use Rattle.resumed_service.specs.declared.last_state.BegunEnd.{BegunEnd}
-use Rattle.resumed_service.specs.Beginning.{IsBeginningRead}
-use Rattle.resumed_service.specs.LastStates.{EndsBegun}
 use Rattle.resumed_service.proofs.SavedLemmas.{saved_after}
 use Rattle.resumed_service.proofs.saving.snapshot_after.Goals as goal
 

@@ -1,8 +1,6 @@
 use Rattle.std.proofs.Common.{IfOk, IfSome, subst}
 use Rattle.resumed_service.specs.declared.last_state.AtEnd.TheVariants as asked
-use Rattle.resumed_service.specs.declared.last_state.BegunEnd.{BegunEnd}
-use Rattle.resumed_service.specs.Beginning.{IsBeginningRead}
-use Rattle.resumed_service.specs.LastStates.{EndsBegun}
+use Rattle.resumed_service.proofs.Common.{BegunEnd, IsBeginningRead, EndsBegun}
 use Rattle.resumed_service.proofs.ServedLemmas.{begun_served}
 use Rattle.resumed_service.proofs.serving.resume.Goals as goal
 

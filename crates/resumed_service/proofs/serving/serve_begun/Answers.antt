@@ -1,20 +1,7 @@
 use Rattle.std.proofs.Common.{◌≡◌, List, map, refl, sym, ap, subst, ◌∙◌, arith}
-use Rattle.std.proofs.lemmas.List.{take_all}
-use Rattle.grant_policy.specs.declared.policy.Policy.{Policy}
-use Rattle.plant.specs.declared.operator_row.RowFields.{RowFields}
-use Rattle.live_core.specs.After.{IsReachableFromStart}
-use Rattle.live_core.specs.LiveView.{live_view}
-use Rattle.line_service.specs.Bytes.{WhereKnown}
-use Rattle.script_format.proofs.Outcomes.{if_ok}
-use Rattle.snapshot_format.specs.States.{states_of}
-use Rattle.plant_restart.specs.Restarted.{IsRestoreFault}
-use Rattle.plant_restart.specs.Saving.{states_by_name}
-use Rattle.line_service.specs.declared.line_break.LineBreak.{LineBreak}
+use Rattle.resumed_service.proofs.Common.{take_all, Policy, RowFields, IsReachableFromStart, live_view, WhereKnown, if_ok, states_of, IsRestoreFault, states_by_name, LineBreak, lines_left, resumed_service, AreServedSoFar, AwaitsCore, IsAfterItem}
 use Rattle.resumed_service.specs.declared.new_plant.ItemOutcome.{ItemOutcome}
-use Rattle.line_service.specs.Lines.{lines_left}
-use Rattle.resumed_service.specs.Resumed.{resumed_service}
 use Rattle.resumed_service.specs.declared.new_plant.WaitingItem.{WaitingItem}
-use Rattle.resumed_service.specs.Served.{AreServedSoFar, AwaitsCore, IsAfterItem}
 use Rattle.resumed_service.proofs.RefusalLemmas.{restarted_is_reached}
 use Rattle.resumed_service.proofs.ServedLemmas.{service_begun, all_served}
 use Rattle.resumed_service.proofs.serving.serve_begun.Goals as goal

@@ -1,10 +1,5 @@
 use Rattle.std.proofs.Common.{◌≡◌, map, take}
-use Rattle.live_core.specs.After.{IsReachableFromStart}
-use Rattle.live_core.specs.LiveView.{live_view}
-use Rattle.line_service.specs.Bytes.{WhereKnown}
-use Rattle.line_service.specs.Lines.{lines_left}
-use Rattle.resumed_service.specs.Resumed.{resumed_service}
-use Rattle.resumed_service.specs.Served.{AreServedSoFar}
+use Rattle.resumed_service.proofs.Common.{IsReachableFromStart, live_view, WhereKnown, lines_left, resumed_service, AreServedSoFar}
 use Rattle.resumed_service.proofs.serving.serve_begun.Given as goal
 
 abbrev pub invariant-loop-row : goal.invariant-loop-row

@@ -1,6 +1,5 @@
 use Rattle.std.proofs.Common.{sym, ◌∙◌}
-use Rattle.live_core.specs.LiveView.{live_view}
-use Rattle.script_format.proofs.Outcomes.{if_ok}
+use Rattle.resumed_service.proofs.Common.{live_view, if_ok}
 use Rattle.resumed_service.proofs.ServedLemmas.{item_served, plant_begun, line_held}
 use Rattle.resumed_service.proofs.serving.serve_item.Goals as goal
 

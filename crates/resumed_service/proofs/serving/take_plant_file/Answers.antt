@@ -1,9 +1,5 @@
 use Rattle.std.proofs.Common.{sym, subst}
-use Rattle.live_core.specs.LiveView.{live_view}
-use Rattle.line_service.specs.Bytes.{WhereKnown}
-use Rattle.line_service.specs.declared.line_break.LineBreak.{LineBreak}
-use Rattle.line_service.specs.Lines.{lines_left}
-use Rattle.resumed_service.specs.Served.{AreServedSoFar, AwaitsPlant}
+use Rattle.resumed_service.proofs.Common.{live_view, WhereKnown, LineBreak, lines_left, AreServedSoFar, AwaitsPlant}
 use Rattle.resumed_service.proofs.ServedLemmas.{file_awaits, file_not_taken}
 use Rattle.resumed_service.proofs.serving.take_plant_file.Goals as goal
 

@@ -1,6 +1,5 @@
 use Rattle.std.proofs.Common.{length, map, refl, arith}
-use Rattle.std.proofs.lemmas.Option.{slice_get_read}
-use Rattle.operator_book.specs.ViewOf.{view_of}
+use Rattle.run_audit.proofs.Common.{slice_get_read, view_of}
 use Rattle.run_audit.proofs.Advanced.{none_advanced, one_advanced, all_advanced, moves_there}
 use Rattle.run_audit.proofs.Least.{map_there}
 use Rattle.run_audit.proofs.advancing.advance_all.Goals as goal

@@ -1,7 +1,5 @@
 use Rattle.std.proofs.Common.{length, map, get_or, refl, arith}
-use Rattle.std.proofs.lemmas.Option.{slice_get_read}
-use Rattle.operator_model.specs.Replay.{actions_of}
-use Rattle.operator_book.specs.ViewOf.{view_of}
+use Rattle.run_audit.proofs.Common.{slice_get_read, actions_of, view_of}
 use Rattle.run_audit.proofs.Advanced.{stranger_advanced, untaken_advanced, own_advanced, moves_there, taken_moves}
 use Rattle.run_audit.proofs.Least.{map_there}
 use Rattle.run_audit.proofs.advancing.advance_own.Goals as goal

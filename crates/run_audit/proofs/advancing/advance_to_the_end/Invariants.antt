@@ -1,6 +1,5 @@
 use Rattle.std.proofs.Common.{map, take}
-use Rattle.operator_book.specs.ViewOf.{view_of}
-use Rattle.run_audit.specs.Advancing.{HaveAdvanced}
+use Rattle.run_audit.proofs.Common.{view_of, HaveAdvanced}
 use Rattle.run_audit.proofs.advancing.advance_to_the_end.Given as goal
 
 abbrev pub invariant-loop-at : goal.invariant-loop-at

@@ -1,9 +1,5 @@
 use Rattle.std.proofs.Common.{◌≡◌, ℕ, Some, refl, arith, subst}
-use Rattle.std.specs.Prelude.{slice_get}
-use Rattle.std.proofs.lemmas.Option.{slice_get_within, get_or_from_slice_get}
-use Rattle.plant.specs.declared.operator_row.RowFields.{RowFields}
-use Rattle.operator_book.specs.ViewOf.{view_of}
-use Rattle.run_audit.specs.Advancing.{EndsAt}
+use Rattle.run_audit.proofs.Common.{slice_get, slice_get_within, get_or_from_slice_get, RowFields, view_of, EndsAt}
 use Rattle.run_audit.proofs.Least.{next_place, map_there}
 use Rattle.run_audit.proofs.advancing.all_end_at.Goals as goal
 

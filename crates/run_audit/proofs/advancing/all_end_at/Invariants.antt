@@ -1,9 +1,5 @@
 use Rattle.std.proofs.Common.{◌≡◌, ℕ, ◌<◌, map, Some}
-use Rattle.std.specs.Prelude.{slice_get}
-use Rattle.plant.specs.declared.operator_row.RowFields.{RowFields}
-use Rattle.operator_model.specs.Replay.{BookView}
-use Rattle.operator_book.specs.ViewOf.{view_of}
-use Rattle.run_audit.specs.Advancing.{EndsAt}
+use Rattle.run_audit.proofs.Common.{slice_get, RowFields, BookView, view_of, EndsAt}
 use Rattle.run_audit.proofs.advancing.all_end_at.Given as goal
 
 abbrev pub invariant-loop-op : goal.invariant-loop-op

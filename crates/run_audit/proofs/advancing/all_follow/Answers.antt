@@ -1,7 +1,5 @@
 use Rattle.std.proofs.Common.{List, [], length, take, replicate, map, refl, sym, subst}
-use Rattle.plant.specs.declared.operator_row.RowFields.{RowFields}
-use Rattle.operator_book.specs.ViewOf.{view_of}
-use Rattle.run_audit.specs.Advancing.{HaveAdvanced}
+use Rattle.run_audit.proofs.Common.{RowFields, view_of, HaveAdvanced}
 use Rattle.run_audit.proofs.Advanced.{none_yet, own_runs}
 use Rattle.run_audit.proofs.advancing.all_follow.Goals as goal
 

@@ -1,10 +1,5 @@
 use Rattle.std.proofs.Common.{◌≡◌, Some, arith}
-use Rattle.std.specs.Prelude.{slice_get}
-use Rattle.std.proofs.lemmas.Option.{slice_get_within}
-use Rattle.plant.specs.declared.operator_row.RowFields.{RowFields}
-use Rattle.operator_book.specs.ViewOf.{view_of}
-use Rattle.run_model.specs.IsStateAfter.{IsBookAfter}
-use Rattle.run_model.proofs.Entries.{some_at}
+use Rattle.run_audit.proofs.Common.{slice_get, slice_get_within, RowFields, view_of, IsBookAfter, some_at}
 use Rattle.run_audit.proofs.Least.{next_place, map_there}
 use Rattle.run_audit.proofs.advancing.first_stray.Goals as goal
 

@@ -1,7 +1,5 @@
 use Rattle.std.proofs.Common.{◌≡◌, Option, Result, Err, ap}
-use Rattle.map_assembly.specs.declared.map_bytes.MapBytes.{MapBytes}
-use Rattle.map_assembly.specs.declared.refused.Refused.{Refused}
-use Rattle.map_assembly.specs.declared.refused.GatherFault.{GatherFault}
+use Rattle.run_audit.proofs.Common.{MapBytes, Refused, GatherFault}
 use Rattle.run_audit.proofs.Placed.{fault_refused}
 use Rattle.run_audit.proofs.assembly.put_kept.Goals as goal
 

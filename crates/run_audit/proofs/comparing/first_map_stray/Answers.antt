@@ -1,10 +1,5 @@
 use Rattle.std.proofs.Common.{◌≡◌, List, map, sym, ◌∙◌, subst, refl, arith}
-use Rattle.std.specs.Prelude.{MatchOption}
-use Rattle.std.proofs.lemmas.List.{length-map}
-use Rattle.operator_book.specs.ViewOf.{view_of}
-use Rattle.run_audit.specs.declared.placing.Placing.{Placing}
-use Rattle.run_audit.specs.Straying.{ArePut, IsPutStray}
-use Rattle.run_audit.specs.Numbering.{AllAreNumbered}
+use Rattle.run_audit.proofs.Common.{MatchOption, length-map, view_of, Placing, ArePut, IsPutStray, AllAreNumbered}
 use Rattle.run_audit.proofs.Judging.{all_numbered, map_told}
 use Rattle.run_audit.proofs.comparing.first_map_stray.Goals as goal
 

@@ -1,6 +1,5 @@
 use Rattle.std.proofs.Common.{refl, ap, arith, below_more, length}
-use Rattle.std.proofs.lemmas.Bool.{false≢true}
-use Rattle.std.proofs.lemmas.List.{get_or-replicate}
+use Rattle.run_audit.proofs.Common.{false≢true, get_or-replicate}
 use Rattle.run_audit.proofs.counting.are_ticked.Goals as goal
 
 pub count_all_ticks-requires : goal.count_all_ticks-requires

@@ -1,6 +1,5 @@
 use Rattle.std.proofs.Common.{ℕ, ◌<◌, ◌≤◌}
-use Rattle.run_model.specs.OwnSteps.{collects_of}
-use Rattle.run_audit.specs.Outcome.{ticks_of}
+use Rattle.run_audit.proofs.Common.{collects_of, ticks_of}
 use Rattle.run_audit.proofs.counting.are_ticked.Given as goal
 
 abbrev pub invariant-loop-op : goal.invariant-loop-op

@@ -1,6 +1,5 @@
 use Rattle.std.proofs.Common.{take}
-use Rattle.run_model.specs.OwnSteps.{is_collect}
-use Rattle.run_audit.specs.Counting.{AreCountsOf}
+use Rattle.run_audit.proofs.Common.{is_collect, AreCountsOf}
 use Rattle.run_audit.proofs.counting.count_all_collects.Given as goal
 
 abbrev pub invariant-loop-at : goal.invariant-loop-at

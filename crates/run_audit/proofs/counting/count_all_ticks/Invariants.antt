@@ -1,6 +1,5 @@
 use Rattle.std.proofs.Common.{take}
-use Rattle.run_audit.specs.Outcome.{is_tick_of}
-use Rattle.run_audit.specs.Counting.{AreCountsOf}
+use Rattle.run_audit.proofs.Common.{is_tick_of, AreCountsOf}
 use Rattle.run_audit.proofs.counting.count_all_ticks.Given as goal
 
 abbrev pub invariant-loop-at : goal.invariant-loop-at

@@ -1,5 +1,4 @@
-use Rattle.plant_core.specs.Waiting.{frames_in, waiting_in}
-use Rattle.run_receipts.specs.Framing.{numbered_frame}
+use Rattle.run_audit.proofs.Common.{frames_in, waiting_in, numbered_frame}
 use Rattle.run_audit.proofs.Dues.{none_due, next_is}
 use Rattle.run_audit.proofs.due.next_due.Goals as goal
 

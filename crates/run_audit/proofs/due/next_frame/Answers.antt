@@ -1,11 +1,5 @@
 use Rattle.std.proofs.Common.{◌≡◌, ◌∙◌, sym, ap, get_or, None, Some, List}
-use Rattle.std.specs.Prelude.{slice_get}
-use Rattle.operator_model.specs.declared.action.Entry.{Entry}
-use Rattle.operator_model.specs.declared.output.Output.{Output}
-use Rattle.run_model.specs.IsStateAfter.{frames_of}
-use Rattle.plant_core.specs.Waiting.{waiting_in}
-use Rattle.plant_core.proofs.WaitingLemmas.{none_here, one_here}
-use Rattle.run_receipts.specs.Framing.{numbered_frame}
+use Rattle.run_audit.proofs.Common.{slice_get, Entry, Output, frames_of, waiting_in, none_here, one_here, numbered_frame}
 use Rattle.run_audit.proofs.due.next_frame.Goals as goal
 
 pub returns-in-Some : goal.returns-in-Some

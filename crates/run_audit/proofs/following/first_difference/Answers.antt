@@ -1,9 +1,5 @@
 use Rattle.std.proofs.Common.{◌≡◌, ℕ, ◌+◌, ◌++◌, ◌∙◌, take, drop, sym, ap, refl, arith}
-use Rattle.std.proofs.lemmas.Bool.{false≢true}
-use Rattle.std.proofs.lemmas.List.{length-map}
-use Rattle.operator_model.specs.declared.action.Entry.{Entry}
-use Rattle.operator_model.specs.Replay.{actions_of}
-use Rattle.run_model.specs.OwnSteps.{action_of, own_steps}
+use Rattle.run_audit.proofs.Common.{false≢true, length-map, Entry, actions_of, action_of, own_steps}
 use Rattle.run_audit.proofs.Differing.{walk_none, walk_here, walk_some, walk_end, differ_here, differ_end}
 use Rattle.run_audit.proofs.Whose.{own_action, no_action}
 use Rattle.run_audit.proofs.following.first_difference.Goals as goal

@@ -1,8 +1,5 @@
 use Rattle.std.proofs.Common.{◌≡◌, ◌≤◌, ◌++◌, take, drop, length, Some}
-use Rattle.std.specs.Prelude.{slice_get}
-use Rattle.plant.specs.declared.operator_row.RowFields.{RowFields}
-use Rattle.operator_model.specs.Replay.{actions_of}
-use Rattle.run_model.specs.OwnSteps.{own_steps}
+use Rattle.run_audit.proofs.Common.{slice_get, RowFields, actions_of, own_steps}
 use Rattle.run_audit.proofs.following.first_difference.Given as goal
 
 abbrev pub invariant-loop-step : goal.invariant-loop-step

@@ -1,12 +1,5 @@
 use Rattle.std.proofs.Common.{◌≡◌, List, sym, ap, ◌∙◌, subst, refl, get_or}
-use Rattle.std.specs.Prelude.{MatchOption}
-use Rattle.std.proofs.lemmas.Option.{get_or_from_slice_get}
-use Rattle.plant.specs.declared.operator_row.RowFields.{RowFields}
-use Rattle.operator_model.specs.declared.action.Entry.{Entry}
-use Rattle.operator_model.specs.Replay.{actions_of}
-use Rattle.operator_book.specs.ViewOf.{view_of}
-use Rattle.run_model.specs.OwnSteps.{own_steps}
-use Rattle.run_audit.specs.Straying.{DifferFirst}
+use Rattle.run_audit.proofs.Common.{MatchOption, get_or_from_slice_get, RowFields, Entry, actions_of, view_of, own_steps, DifferFirst}
 use Rattle.run_audit.proofs.Judging.{book_told}
 use Rattle.run_audit.proofs.following.stray_at.Goals as goal
 

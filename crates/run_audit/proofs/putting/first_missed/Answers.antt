@@ -1,9 +1,5 @@
 use Rattle.std.proofs.Common.{◌≡◌, ℕ, ◌+◌, ◌∙◌, take, drop, ◌++◌, List, sym, ap, arith}
-use Rattle.std.proofs.lemmas.Option.{slice_get_within}
-use Rattle.plant_core.specs.Waiting.{frames_in}
-use Rattle.run_model.proofs.Numbers.{Numbered}
-use Rattle.run_receipts.specs.Framing.{numbered_frame}
-use Rattle.run_audit.specs.Placings.{put_by, puts_of}
+use Rattle.run_audit.proofs.Common.{slice_get_within, frames_in, Numbered, numbered_frame, put_by, puts_of}
 use Rattle.run_audit.proofs.Differing.{walk_none, walk_here, walk_some, walk_end, same_end}
 use Rattle.run_audit.proofs.Numbered.{missed_here, missed_end}
 use Rattle.run_audit.proofs.Dues.{past_end}

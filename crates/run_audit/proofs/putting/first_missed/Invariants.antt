@@ -1,6 +1,5 @@
 use Rattle.std.proofs.Common.{◌≡◌, ◌≤◌, ◌++◌, take, drop, length}
-use Rattle.plant_core.specs.Waiting.{frames_in, waiting_in}
-use Rattle.run_audit.specs.Placings.{puts_of}
+use Rattle.run_audit.proofs.Common.{frames_in, waiting_in, puts_of}
 use Rattle.run_audit.proofs.putting.first_missed.Given as goal
 
 abbrev pub invariant-loop-placing : goal.invariant-loop-placing

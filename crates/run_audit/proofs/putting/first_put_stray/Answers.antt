@@ -1,11 +1,7 @@
 use Rattle.std.proofs.Common.{ℕ, List, take, All, sym, ◌∙◌, ap, subst, arith}
-use Rattle.operator_model.specs.declared.action.Entry.{Entry}
-use Rattle.operator_book.specs.ViewOf.{view_of}
-use Rattle.plant_core.specs.Waiting.{frames_in, IsOneFrame}
-use Rattle.plant_core.proofs.WaitingLemmas.{replay_one}
+use Rattle.run_audit.proofs.Common.{Entry, view_of, frames_in, IsOneFrame, replay_one, length-map, get_or-replicate}
 use Rattle.run_audit.proofs.Least.{first_more, first_of_all, map_there}
 use Rattle.run_audit.proofs.putting.first_put_stray.Goals as goal
-use Rattle.std.proofs.lemmas.List.{length-map, get_or-replicate}
 
 pub count_all_collects-requires : goal.count_all_collects-requires
 count_all_collects-requires g c i lt = get_or-replicate 32 i 0 0 lt

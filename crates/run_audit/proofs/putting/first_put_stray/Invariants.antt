@@ -1,6 +1,5 @@
 use Rattle.std.proofs.Common.{ℕ, map}
-use Rattle.operator_book.specs.ViewOf.{view_of}
-use Rattle.run_audit.specs.Numbering.{AllAreNumbered}
+use Rattle.run_audit.proofs.Common.{view_of, AllAreNumbered}
 use Rattle.run_audit.proofs.Least.{IsFirstOf}
 use Rattle.run_audit.proofs.putting.first_put_stray.Given as goal
 

@@ -1,6 +1,5 @@
 use Rattle.std.proofs.Common.{List, [], length, take, replicate, sym, subst}
-use Rattle.plant.specs.declared.operator_row.RowFields.{RowFields}
-use Rattle.run_plan.specs.Serving.{AreWaiting}
+use Rattle.run_plan.proofs.Common.{RowFields, AreWaiting}
 use Rattle.run_plan.proofs.Firsts.{served_iff, first_iff}
 use Rattle.run_plan.proofs.Waiting.{none_waits}
 use Rattle.run_plan.proofs.serving.first_unserved.Goals as goal

@@ -1,10 +1,5 @@
 use Rattle.std.proofs.Common.{◌≡◌, ◌+◌, List, take, refl, sym, subst, arith}
-use Rattle.std.specs.Prelude.{slice_index}
-use Rattle.std.proofs.lemmas.List.{take_all}
-use Rattle.run_model.specs.declared.step.Step.{Step}
-use Rattle.run_model.specs.OwnSteps.{collects_of}
-use Rattle.run_model.proofs.Entries.{some_at}
-use Rattle.run_audit.specs.Outcome.{ticks_of}
+use Rattle.run_plan.proofs.Common.{slice_index, take_all, Step, collects_of, some_at, ticks_of}
 use Rattle.run_plan.proofs.Firsts.{first_of, served_more}
 use Rattle.run_plan.proofs.serving.walk.Goals as goal
 

@@ -1,10 +1,6 @@
 use Rattle.std.proofs.Common.{ℕ, take, sym, ap, ◌∙◌, arith}
-use Rattle.std.specs.Prelude.{not}
-use Rattle.std.proofs.lemmas.List.{take_all}
-use Rattle.std.proofs.lemmas.List.Sums.{prefix_len_is}
-use Rattle.run_model.specs.declared.step.Step.{Step}
+use Rattle.run_plan.proofs.Common.{not, take_all, prefix_len_is, Step, is_reslice}
 use Rattle.run_model.specs.declared.step.Step.TheVariants as steps
-use Rattle.run_plan.specs.Spending.{is_reslice}
 use Rattle.run_plan.proofs.spending.before_reslice.Goals as goal
 
 pub returns-then-is_reslice : goal.returns-then-is_reslice

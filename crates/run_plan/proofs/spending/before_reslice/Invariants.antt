@@ -1,6 +1,5 @@
 use Rattle.std.proofs.Common.{◌≡◌, ℕ, ◌<◌, get_or, false}
-use Rattle.run_model.specs.declared.step.Step.{Step}
-use Rattle.run_plan.specs.Spending.{is_reslice}
+use Rattle.run_plan.proofs.Common.{Step, is_reslice}
 use Rattle.run_plan.proofs.spending.before_reslice.Given as goal
 
 abbrev pub invariant-loop-at : goal.invariant-loop-at

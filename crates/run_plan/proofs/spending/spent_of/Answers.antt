@@ -1,6 +1,5 @@
 use Rattle.std.proofs.Common.{◌≡◌, ℕ, ◌+◌, Some, refl, sym, ap, ◌∙◌, arith}
-use Rattle.std.specs.Prelude.{slice_get}
-use Rattle.run_audit.specs.Outcome.{is_tick_of}
+use Rattle.run_plan.proofs.Common.{slice_get, is_tick_of}
 use Rattle.run_plan.proofs.Counts.{one_more, no_more, stands_at}
 use Rattle.run_plan.proofs.Spent.{not_yet, other_step, spent_here, spent_nowhere, too_few}
 use Rattle.run_plan.proofs.spending.spent_of.Goals as goal

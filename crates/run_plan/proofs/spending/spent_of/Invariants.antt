@@ -1,6 +1,5 @@
 use Rattle.std.proofs.Common.{◌≡◌, ℕ, ◌<◌, ◌≤◌, ◌+◌, take}
-use Rattle.run_audit.specs.Outcome.{ticks_of}
-use Rattle.run_plan.specs.Spending.{IsSpentAt}
+use Rattle.run_plan.proofs.Common.{ticks_of, IsSpentAt}
 use Rattle.run_plan.proofs.spending.spent_of.Given as goal
 
 abbrev pub invariant-loop-at : goal.invariant-loop-at

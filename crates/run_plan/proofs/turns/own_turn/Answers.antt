@@ -1,7 +1,5 @@
 use Rattle.std.proofs.Common.{length, take, refl, subst, arith}
-use Rattle.std.proofs.lemmas.Option.{slice_get_read}
-use Rattle.run_model.proofs.Entries.{some_at}
-use Rattle.run_plan.specs.Courses.{IsCourse, IsOwnTurn}
+use Rattle.run_plan.proofs.Common.{slice_get_read, some_at, IsCourse, IsOwnTurn}
 use Rattle.run_plan.proofs.Turned.{stranger_passed, own_passed, own_is_turn}
 use Rattle.run_plan.proofs.turns.own_turn.Goals as goal
 

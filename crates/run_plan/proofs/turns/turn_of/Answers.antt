@@ -1,17 +1,11 @@
 use Rattle.std.proofs.Common.{ℕ, ◌+◌, take, length, Some, None, refl, sym, ap, ◌∙◌, subst, arith}
-use Rattle.std.specs.Prelude.{slice_get, unwrap_or, Option, List}
-use Rattle.std.proofs.lemmas.Bool.{eq-eqb, ne_eqb, false≢true}
-use Rattle.std.proofs.lemmas.Option.{none-some, same_Some, slice_get_past}
+use Rattle.run_plan.proofs.Common.{slice_get, unwrap_or, Option, List, eq-eqb, ne_eqb, false≢true, none-some, same_Some, slice_get_past, collects_of, resliced_by, some_at, IsCourse, IsOwnTurn, arrive_none}
 use Rattle.operator_model.specs.declared.action.SliceRow.{SliceRow}
 use Rattle.operator_model.specs.declared.action.Action.TheVariants as actions
 use Rattle.run_model.specs.declared.step.Step.TheVariants as steps
-use Rattle.run_model.specs.OwnSteps.{collects_of, resliced_by}
-use Rattle.run_model.proofs.Entries.{some_at}
 use Rattle.run_model.proofs.OwnActions.{work_at, tick_at, arrive_at}
-use Rattle.run_plan.specs.Courses.{IsCourse, IsOwnTurn}
 use Rattle.run_plan.proofs.Courses.{course_none, course_collects, course_acts, course_ticks, few_actions, few_collects}
 use Rattle.run_plan.proofs.Counts.{stands_at, at_place}
-use Rattle.run_audit.proofs.Whose.{arrive_none}
 use Rattle.run_plan.proofs.turns.turn_of.Goals as goal
 
 pub act-requires : goal.act-requires

@@ -1,6 +1,5 @@
 use Rattle.std.proofs.Common.{ℕ, ◌+◌, List, length, drop, sym, subst, arith}
-use Rattle.std.proofs.lemmas.List.{take_at}
-use Rattle.run_plan.specs.declared.turns.Course.{Course}
+use Rattle.run_plan.proofs.Common.{take_at, Course}
 use Rattle.run_plan.proofs.Turned.{HaveTurns, turn_more}
 use Rattle.run_plan.proofs.turns.turns_of.Goals as goal
 

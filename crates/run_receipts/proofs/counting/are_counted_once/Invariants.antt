@@ -1,6 +1,5 @@
 use Rattle.std.proofs.Common.{◌≡◌, ℕ, ◌<◌, take, get_or, vec_len}
-use Rattle.std.specs.Prelude.{min}
-use Rattle.run_receipts.specs.Merge.{times}
+use Rattle.run_receipts.proofs.Common.{min, times}
 use Rattle.run_receipts.proofs.counting.are_counted_once.Given as goal
 
 abbrev pub invariant-loop-receipts : goal.invariant-loop-receipts

@@ -1,6 +1,5 @@
 use Rattle.std.proofs.Common.{◌+◌, ◌<◌, length, get_or, eqb, count_by, arith}
-use Rattle.std.specs.Prelude.{min}
-use Rattle.run_receipts.specs.declared.receipt.Receipt.{Receipt}
+use Rattle.run_receipts.proofs.Common.{min, Receipt}
 use Rattle.run_receipts.proofs.MappingLemmas.{count_end}
 use Rattle.run_receipts.proofs.counting.count_receipts.Goals as goal
 

@@ -1,6 +1,5 @@
 use Rattle.std.proofs.Common.{◌≡◌, ℕ, ◌+◌, ◌<◌, length, drop, get_or, eqb, count_by}
-use Rattle.std.specs.Prelude.{min}
-use Rattle.run_receipts.specs.declared.receipt.Receipt.{Receipt}
+use Rattle.run_receipts.proofs.Common.{min, Receipt}
 use Rattle.run_receipts.proofs.counting.count_receipts.Given as goal
 
 abbrev pub invariant-loop-receipt : goal.invariant-loop-receipt

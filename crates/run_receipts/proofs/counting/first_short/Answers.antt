@@ -1,7 +1,5 @@
 use Rattle.std.proofs.Common.{length, map, refl, sym, ◌∙◌, arith}
-use Rattle.std.proofs.lemmas.Bool.{false≢true}
-use Rattle.std.proofs.lemmas.Option.{slice_get_read}
-use Rattle.operator_book.specs.ViewOf.{view_of}
+use Rattle.run_receipts.proofs.Common.{false≢true, slice_get_read, view_of}
 use Rattle.run_receipts.proofs.Lists.{map_here}
 use Rattle.run_receipts.proofs.SettleLemmas.{first_short_is, short_more, none_short}
 use Rattle.run_receipts.proofs.counting.first_short.Goals as goal

@@ -1,6 +1,5 @@
 use Rattle.std.proofs.Common.{ℕ, ◌<◌, map}
-use Rattle.operator_book.specs.ViewOf.{view_of}
-use Rattle.run_receipts.specs.Settling.{IsShort}
+use Rattle.run_receipts.proofs.Common.{view_of, IsShort}
 use Rattle.run_receipts.proofs.counting.first_short.Given as goal
 
 abbrev pub invariant-loop-op : goal.invariant-loop-op

@@ -1,6 +1,5 @@
 use Rattle.std.proofs.Common.{◌≡◌, take}
-use Rattle.std.specs.Prelude.{min}
-use Rattle.run_receipts.specs.Merge.{times}
+use Rattle.run_receipts.proofs.Common.{min, times}
 use Rattle.run_receipts.proofs.counting.is_told_once.Given as goal
 
 abbrev pub invariant-loop-receipts : goal.invariant-loop-receipts

@@ -1,7 +1,5 @@
 use Rattle.std.proofs.Common.{refl, sym, ◌∙◌}
-use Rattle.std.proofs.lemmas.Bool.{false≢true}
-use Rattle.run_receipts.specs.OwnParts.{IsFramePart}
-use Rattle.run_receipts.specs.Framing.{AreFramesOf}
+use Rattle.run_receipts.proofs.Common.{false≢true, IsFramePart, AreFramesOf}
 use Rattle.run_receipts.proofs.Lists.{zip_some, all_more, all_end, all_not}
 use Rattle.run_receipts.proofs.mapping.are_own_parts.Goals as goal
 

@@ -1,9 +1,5 @@
 use Rattle.std.proofs.Common.{List, take}
-use Rattle.std.specs.Prelude.{All}
-use Rattle.std.specs.List.{AllZip}
-use Rattle.operator_model.specs.Replay.{BookView}
-use Rattle.run_receipts.specs.OwnParts.{IsFramePart}
-use Rattle.run_receipts.specs.Framing.{AreFramesOf}
+use Rattle.run_receipts.proofs.Common.{All, AllZip, BookView, IsFramePart, AreFramesOf}
 use Rattle.run_receipts.proofs.mapping.are_own_parts.Given as goal
 
 abbrev pub invariant-loop-own : goal.invariant-loop-own

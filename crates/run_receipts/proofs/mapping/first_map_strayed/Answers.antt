@@ -1,9 +1,5 @@
 use Rattle.std.proofs.Common.{◌+◌, ◌∙◌, sym, refl, subst, map, take, drop}
-use Rattle.std.proofs.lemmas.Bool.{false≢true}
-use Rattle.std.specs.List.{AllZip}
-use Rattle.operator_book.specs.ViewOf.{view_of}
-use Rattle.run_receipts.specs.OwnParts.{HasOwnParts}
-use Rattle.run_receipts.specs.Framing.{AreFramesOf}
+use Rattle.run_receipts.proofs.Common.{false≢true, AllZip, view_of, HasOwnParts, AreFramesOf}
 use Rattle.run_receipts.proofs.Lists.{all_past, all_next, split_here}
 use Rattle.run_receipts.proofs.mapping.first_map_strayed.Goals as goal
 

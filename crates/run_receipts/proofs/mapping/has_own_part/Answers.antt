@@ -1,8 +1,5 @@
 use Rattle.std.proofs.Common.{Bool, ap, sym, ◌∙◌, subst, List}
-use Rattle.run_receipts.specs.declared.own_frames.Frame.{Frame}
-use Rattle.run_receipts.specs.Framing.{frames_with_numbers}
-use Rattle.run_model.specs.IsStateAfter.{AreNumbered}
-use Rattle.run_receipts.specs.OwnParts.{history_outputs}
+use Rattle.run_receipts.proofs.Common.{Frame, frames_with_numbers, AreNumbered, history_outputs}
 use Rattle.run_receipts.proofs.MappingLemmas.{if_ok, own_is, own_not}
 use Rattle.run_receipts.proofs.mapping.has_own_part.Goals as goal
 

@@ -1,7 +1,5 @@
 use Rattle.std.proofs.Common.{◌≡◌, ◌++◌, drop}
-use Rattle.run_model.specs.IsStateAfter.{frames_of}
-use Rattle.run_receipts.specs.OwnParts.{history_outputs}
-use Rattle.run_receipts.specs.Framing.{frames_with_numbers}
+use Rattle.run_receipts.proofs.Common.{frames_of, history_outputs, frames_with_numbers}
 use Rattle.run_receipts.proofs.own_frames.frames_in.Given as goal
 
 abbrev pub invariant-loop-entry : goal.invariant-loop-entry

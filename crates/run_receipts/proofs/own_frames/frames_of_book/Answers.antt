@@ -1,11 +1,5 @@
 use Rattle.std.proofs.Common.{◌≡◌, List, ap, ◌∙◌, count_by}
-use Rattle.operator_model.specs.State.{operator, opened_state}
-use Rattle.operator_model.specs.Frames.{frame_numbers, is_tick}
-use Rattle.operator_model.specs.Replay.{actions_of}
-use Rattle.operator_model.specs.declared.action.Entry.{Entry}
-use Rattle.run_model.specs.IsStateAfter.{frames_of}
-use Rattle.run_receipts.specs.OwnParts.{history_outputs}
-use Rattle.run_receipts.specs.Framing.{frames_with_numbers}
+use Rattle.run_receipts.proofs.Common.{operator, opened_state, frame_numbers, is_tick, actions_of, Entry, frames_of, history_outputs, frames_with_numbers}
 use Rattle.run_receipts.proofs.FrameLemmas.{told_outputs, run_in_order}
 use Rattle.run_receipts.proofs.own_frames.frames_of_book.Goals as goal
 

@@ -1,5 +1,4 @@
-use Rattle.operator_book.specs.ViewOf.{view_of}
-use Rattle.run_receipts.specs.Framing.{AreFramesOf}
+use Rattle.run_receipts.proofs.Common.{view_of, AreFramesOf}
 use Rattle.run_receipts.proofs.Lists.{zip_more}
 use Rattle.run_receipts.proofs.own_frames.frames_of_books.Goals as goal
 

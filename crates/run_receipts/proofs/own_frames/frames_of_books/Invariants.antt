@@ -1,7 +1,5 @@
 use Rattle.std.proofs.Common.{take, map}
-use Rattle.std.specs.List.{AllZip}
-use Rattle.operator_book.specs.ViewOf.{view_of}
-use Rattle.run_receipts.specs.Framing.{AreFramesOf}
+use Rattle.run_receipts.proofs.Common.{AllZip, view_of, AreFramesOf}
 use Rattle.run_receipts.proofs.own_frames.frames_of_books.Given as goal
 
 abbrev pub invariant-loop-book : goal.invariant-loop-book

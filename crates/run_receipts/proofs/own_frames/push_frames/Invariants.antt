@@ -1,6 +1,5 @@
 use Rattle.std.proofs.Common.{◌≡◌, ◌++◌, drop}
-use Rattle.run_model.specs.IsStateAfter.{frames_of}
-use Rattle.run_receipts.specs.Framing.{frames_with_numbers}
+use Rattle.run_receipts.proofs.Common.{frames_of, frames_with_numbers}
 use Rattle.run_receipts.proofs.own_frames.push_frames.Given as goal
 
 abbrev pub invariant-loop-output : goal.invariant-loop-output

@@ -1,8 +1,6 @@
 use Rattle.std.proofs.Common.{rules}
 use Rattle.std.proofs.Common.{◌≡◌}
-use Rattle.std.specs.Bool.{Decides}
-use Rattle.std.proofs.lemmas.Slice.Eq.{slice_eq-Decides}
-use Rattle.map_assembly.specs.declared.view.MapSpan.{MapSpan}
+use Rattle.run_receipts.proofs.Common.{Decides, slice_eq-Decides, MapSpan}
 use Rattle.map_assembly.specs.contracts.view.MapSpanPartialEq.TheImpl.{eq-value}
 use Rattle.run_receipts.proofs.own_part.are_same_spans.Goals as goal
 

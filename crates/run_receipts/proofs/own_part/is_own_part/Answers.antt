@@ -1,8 +1,6 @@
 use Rattle.std.proofs.Common.{ℕ, List, map, filter, not, eqb, ap, ◌∙◌}
-use Rattle.std.proofs.lemmas.Slice.Eq.{slice_eq-Decides}
+use Rattle.run_receipts.proofs.Common.{slice_eq-Decides, Span, MapSpan}
 use Rattle.std.proofs.lemmas.Bool.Decides.{Decides-eqb}
-use Rattle.slice_scheduler.specs.declared.span.Span.{Span}
-use Rattle.map_assembly.specs.declared.view.MapSpan.{MapSpan}
 use Rattle.map_assembly.specs.Map.{map_span}
 use Rattle.map_assembly.specs.Part.{is_within}
 use Rattle.run_receipts.proofs.MappingLemmas.{both_are, both_not, at_lists}

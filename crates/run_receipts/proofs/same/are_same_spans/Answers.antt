@@ -1,7 +1,5 @@
 use Rattle.std.proofs.Common.{◌≡◌, rules}
-use Rattle.std.specs.Bool.{Decides}
-use Rattle.std.proofs.lemmas.Slice.Eq.{slice_eq-Decides}
-use Rattle.slice_scheduler.specs.declared.span.Span.{Span}
+use Rattle.run_receipts.proofs.Common.{Decides, slice_eq-Decides, Span}
 use Rattle.slice_scheduler.specs.contracts.span.SpanPartialEq.TheImpl.{eq-value}
 use Rattle.run_receipts.proofs.same.are_same_spans.Goals as goal
 

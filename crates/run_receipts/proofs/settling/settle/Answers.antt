@@ -1,8 +1,6 @@
 use Rattle.std.proofs.Common.{map, All}
-use Rattle.operator_book.specs.ViewOf.{view_of}
+use Rattle.run_receipts.proofs.Common.{view_of, HasOwnParts, EachStands, NoneIsShort, IsFirstStrayed, IsFirstShort, IsFirstMapStrayed}
 use Rattle.run_receipts.specs.declared.run_fault.RunFault.TheVariants.{Strayed, Short, MapStrayed}
-use Rattle.run_receipts.specs.OwnParts.{HasOwnParts}
-use Rattle.run_receipts.specs.Settling.{EachStands, NoneIsShort, IsFirstStrayed, IsFirstShort, IsFirstMapStrayed}
 use Rattle.run_receipts.proofs.SettleLemmas.{none_strays_at, settled, not_settled, strayed_iff, strayed_not, short_iff, short_not, moved, only_memory, only_memory_short, at_some, at_none}
 use Rattle.run_receipts.proofs.settling.settle.Goals as goal
 

@@ -1,6 +1,5 @@
 use Rattle.std.proofs.Common.{length, map, refl, arith}
-use Rattle.std.proofs.lemmas.Option.{slice_get_read}
-use Rattle.operator_book.specs.ViewOf.{view_of}
+use Rattle.run_receipts.proofs.Common.{slice_get_read, view_of}
 use Rattle.run_receipts.proofs.Lists.{map_here}
 use Rattle.run_receipts.proofs.SettleLemmas.{first_strayed_is, stand_below_more, each_stands}
 use Rattle.run_receipts.proofs.straying.first_strayed.Goals as goal

@@ -1,9 +1,5 @@
 use Rattle.std.proofs.Common.{◌≡◌, ℕ, ◌<◌, List, map, Some}
-use Rattle.std.specs.Prelude.{slice_get}
-use Rattle.operator_model.specs.Replay.{BookView}
-use Rattle.operator_book.specs.ViewOf.{view_of}
-use Rattle.run_receipts.specs.declared.receipt.Receipt.{Receipt}
-use Rattle.run_receipts.specs.Straying.{AllStand}
+use Rattle.run_receipts.proofs.Common.{slice_get, BookView, view_of, Receipt, AllStand}
 use Rattle.run_receipts.proofs.straying.first_strayed.Given as goal
 
 abbrev pub invariant-loop-op : goal.invariant-loop-op

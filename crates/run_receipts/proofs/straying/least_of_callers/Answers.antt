@@ -1,6 +1,5 @@
 use Rattle.std.proofs.Common.{None, Option, List, ℕ, sym, subst}
-use Rattle.run_receipts.specs.declared.receipt.Receipt.{Receipt}
-use Rattle.run_receipts.specs.Straying.{lesser, IsLeastOr, StraysBehind, StandBehind, Strays, AllStand}
+use Rattle.run_receipts.proofs.Common.{Receipt, lesser, IsLeastOr, StraysBehind, StandBehind, Strays, AllStand}
 use Rattle.run_receipts.proofs.LeastLemmas.{lesser-none}
 use Rattle.run_receipts.proofs.StrayLemmas.{callers_more, callers_end}
 use Rattle.run_receipts.proofs.straying.least_of_callers.Goals as goal

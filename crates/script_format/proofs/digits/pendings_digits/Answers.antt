@@ -1,7 +1,5 @@
 use Rattle.std.proofs.Common.{ℕ, length, ap, sym, ◌∙◌, arith}
-use Rattle.std.specs.List.{flat_map}
-use Rattle.std.proofs.lemmas.List.{drop_all}
-use Rattle.script_format.specs.Text.{after_space, pending_text}
+use Rattle.script_format.proofs.Common.{flat_map, drop_all, after_space, pending_text}
 use Rattle.script_format.proofs.digits.pendings_digits.Goals as goal
 
 pub loop-left-init : goal.loop-left-init

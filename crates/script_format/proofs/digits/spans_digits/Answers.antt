@@ -1,8 +1,5 @@
 use Rattle.std.proofs.Common.{length, ap, sym, ◌∙◌, arith}
-use Rattle.std.specs.List.{flat_map}
-use Rattle.std.proofs.lemmas.List.{drop_all}
-use Rattle.slice_scheduler.specs.declared.span.Span.{Span}
-use Rattle.script_format.specs.Text.{after_space, span_text}
+use Rattle.script_format.proofs.Common.{flat_map, drop_all, Span, after_space, span_text}
 use Rattle.script_format.proofs.digits.spans_digits.Goals as goal
 
 pub loop-left-init : goal.loop-left-init

@@ -1,6 +1,5 @@
 use Rattle.std.proofs.Common.{◌≡◌, ◌*◌, ◌≤◌, length, drop}
-use Rattle.std.specs.List.{flat_map}
-use Rattle.script_format.specs.Text.{after_space, span_text}
+use Rattle.script_format.proofs.Common.{flat_map, after_space, span_text}
 use Rattle.script_format.proofs.digits.spans_digits.Given as goal
 
 -- the spans from a place on are written, and the others have room before them

@@ -1,7 +1,5 @@
 use Rattle.std.proofs.Common.{◌≡◌, ℕ, ◌+◌, ◌*◌, ◌-◌, ◌<◌, ◌≤◌, le-leb, true, List, length, get_or, drop, Option, sym, ap, ◌∙◌}
-use Rattle.std.specs.Char.{is_ascii_digit}
-use Rattle.std.proofs.lemmas.List.{drop_more}
-use Rattle.script_format.specs.Fields.{number_after}
+use Rattle.script_format.proofs.Common.{is_ascii_digit, drop_more, number_after}
 use Rattle.script_format.proofs.fields.decimal_in.Goals as goal
 
 -- one digit more, where the number stays at most so great

@@ -1,6 +1,5 @@
 use Rattle.std.proofs.Common.{arith}
-use Rattle.hex.specs.Hex.{upper_digits}
-use Rattle.hex.proofs.Pairs.{encode_step}
+use Rattle.script_format.proofs.Common.{upper_digits, encode_step}
 use Rattle.script_format.proofs.Encoded.{encode_all}
 use Rattle.script_format.proofs.hexadecimal.fill.Goals as goal
 

@@ -1,6 +1,5 @@
 use Rattle.std.proofs.Common.{◌≤◌, ◌-◌, length, take}
-use Rattle.std.specs.Io.KnownBytes.{Appends}
-use Rattle.hex.specs.Hex.{encode_upper}
+use Rattle.script_format.proofs.Common.{Appends, encode_upper}
 use Rattle.script_format.proofs.hexadecimal.write_hex_line.Given as goal
 
 abbrev pub invariant-loop-place : goal.invariant-loop-place

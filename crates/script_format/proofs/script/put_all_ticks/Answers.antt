@@ -1,6 +1,5 @@
 use Rattle.std.proofs.Common.{◌≡◌, ◌+◌, List, ◌++◌, drop, sym, ap, ◌∙◌, append_assoc}
-use Rattle.script_format.specs.declared.script.LineStep.{LineStep}
-use Rattle.script_format.specs.Script.{tick_steps, all_ticks}
+use Rattle.script_format.proofs.Common.{LineStep, tick_steps, all_ticks}
 use Rattle.script_format.proofs.Scripts.{same_steps, ticks_at}
 use Rattle.script_format.proofs.script.put_all_ticks.Goals as goal
 

@@ -1,6 +1,5 @@
 use Rattle.std.proofs.Common.{Err, ap, sym, ◌∙◌}
-use Rattle.std.specs.Str.{bytes_eq}
-use Rattle.script_format.specs.Fields.{behind}
+use Rattle.script_format.proofs.Common.{bytes_eq, behind}
 use Rattle.script_format.proofs.Scripts.{alone, alone_ticks}
 use Rattle.script_format.proofs.script.put_alone.Goals as goal
 

@@ -1,6 +1,5 @@
 use Rattle.std.proofs.Common.{ap}
-use Rattle.script_format.specs.Fields.{behind}
-use Rattle.script_format.specs.Lines.{line_fields}
+use Rattle.script_format.proofs.Common.{behind, line_fields}
 use Rattle.script_format.proofs.Scripts.{ticked_more}
 use Rattle.script_format.proofs.script.put_ticked.Goals as goal
 

@@ -1,7 +1,5 @@
 use Rattle.std.proofs.Common.{ℕ, ◌+◌, List, [], map, drop, get_or, sym, ap, ◌∙◌}
-use Rattle.std.specs.Borrow.{Bor}
-use Rattle.operator_model.specs.declared.action.SliceRow.{SliceRow}
-use Rattle.script_format.specs.Script.{shares_after}
+use Rattle.script_format.proofs.Common.{Bor, SliceRow, shares_after}
 use Rattle.script_format.proofs.Splits.{line_at}
 use Rattle.script_format.proofs.Scripts.{shares_more, shares_stop}
 use Rattle.script_format.proofs.script.shares_of.Goals as goal

@@ -1,10 +1,5 @@
 use Rattle.std.proofs.Common.{◌≡◌, ℕ, ◌+◌, List, [], map, drop, get_or, refl, sym, ap, subst, ◌∙◌, arith}
-use Rattle.std.specs.Borrow.{Bor}
-use Rattle.script_format.specs.declared.fields.FieldFault.{FieldFault}
-use Rattle.script_format.specs.declared.fields.FieldFault.TheVariants.{Invalid}
-use Rattle.lists.specs.Results.{Fails}
-use Rattle.script_format.specs.Fields.{field_cause, behind}
-use Rattle.script_format.specs.Script.{line_steps, steps_after}
+use Rattle.script_format.proofs.Common.{Bor, FieldFault, Invalid, Fails, field_cause, behind, line_steps, steps_after}
 use Rattle.script_format.proofs.Splits.{line_at}
 use Rattle.script_format.proofs.Scripts.{steps_more, steps_fail}
 use Rattle.script_format.proofs.script.steps_of_lines.Goals as goal

@@ -1,7 +1,6 @@
 use Rattle.std.proofs.Common.{take}
-use Rattle.std.specs.Io.KnownBytes.{Appends}
+use Rattle.script_format.proofs.Common.{Appends, actions_text}
 use Rattle.operator_model.specs.Replay.{actions_of}
-use Rattle.script_format.specs.Text.{actions_text}
 use Rattle.script_format.proofs.writing.write_actions.Given as goal
 
 abbrev pub invariant-loop-entry : goal.invariant-loop-entry

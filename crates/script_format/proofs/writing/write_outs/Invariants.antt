@@ -1,6 +1,5 @@
 use Rattle.std.proofs.Common.{take}
-use Rattle.std.specs.Io.KnownBytes.{Appends}
-use Rattle.script_format.specs.Text.{outs_text}
+use Rattle.script_format.proofs.Common.{Appends, outs_text}
 use Rattle.script_format.proofs.writing.write_outs.Given as goal
 
 abbrev pub invariant-loop-out : goal.invariant-loop-out

@@ -1,7 +1,5 @@
 use Rattle.std.proofs.Common.{◌-◌, ◌≤◌, length, take}
-use Rattle.std.specs.Io.KnownBytes.{Appends}
-use Rattle.std.specs.List.{flat_map}
-use Rattle.script_format.specs.Text.{after_space, pending_text}
+use Rattle.script_format.proofs.Common.{Appends, flat_map, after_space, pending_text}
 use Rattle.script_format.proofs.writing.write_pending.Given as goal
 
 abbrev pub invariant-loop-place : goal.invariant-loop-place

@@ -1,7 +1,5 @@
 use Rattle.std.proofs.Common.{ℕ, List, ◌++◌, codes, subst}
-use Rattle.std.specs.Io.KnownBytes.{Appends}
-use Rattle.std.proofs.KnownBytes.{Appends-trans}
-use Rattle.script_format.specs.Text.{address}
+use Rattle.script_format.proofs.Common.{Appends, Appends-trans, address}
 use Rattle.script_format.proofs.Outcomes.{if_ok}
 use Rattle.script_format.proofs.writing.write_reply.Goals as goal
 

@@ -1,8 +1,5 @@
 use Rattle.std.proofs.Common.{List, ℕ, arith}
-use Rattle.std.specs.List.{flat_map}
-use Rattle.std.proofs.KnownBytes.{Appends-nil}
-use Rattle.slice_scheduler.specs.declared.span.Span.{Span}
-use Rattle.script_format.specs.Text.{after_space, span_text}
+use Rattle.script_format.proofs.Common.{flat_map, Appends-nil, Span, after_space, span_text}
 use Rattle.script_format.proofs.Encoded.{flat_more, write_part, write_last}
 use Rattle.script_format.proofs.Outcomes.{if_ok}
 use Rattle.script_format.proofs.writing.write_spans.Goals as goal

@@ -1,11 +1,5 @@
 use Rattle.std.proofs.Common.{◌≤◌, ◌∙◌, ap, arith, subst, All, List, ◌++◌, ◌∷◌, [], sum_by}
-use Rattle.std.proofs.lemmas.List.{take_all}
-use Rattle.std.proofs.lemmas.List.Elements.{All-push}
-use Rattle.slice_scheduler.specs.declared.claim.Claim.{Claim}
-use Rattle.slice_scheduler.specs.declared.flowing.Flowing.{Flowing}
-use Rattle.slice_scheduler.specs.Claims.{claims_of, taken_of}
-use Rattle.slice_scheduler.specs.Servable.{need_at}
-use Rattle.slice_scheduler.specs.Wanted.{IsClaim, asking}
+use Rattle.slice_scheduler.proofs.Common.{take_all, All-push, Claim, Flowing, claims_of, taken_of, need_at, IsClaim, asking}
 use Rattle.slice_scheduler.proofs.MoreLemmas.{sum_by-more}
 use Rattle.slice_scheduler.proofs.AskingLemmas.{claims-more, claims-same, sound-more}
 use Rattle.slice_scheduler.proofs.claiming.claims.Goals as goal

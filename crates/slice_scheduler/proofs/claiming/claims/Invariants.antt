@@ -1,7 +1,5 @@
 use Rattle.std.proofs.Common.{◌≡◌, ◌≤◌, All, sum_by, take}
-use Rattle.slice_scheduler.specs.Claims.{claims_of, taken_of}
-use Rattle.slice_scheduler.specs.Servable.{need_at}
-use Rattle.slice_scheduler.specs.Wanted.{IsClaim, asking}
+use Rattle.slice_scheduler.proofs.Common.{claims_of, taken_of, need_at, IsClaim, asking}
 use Rattle.slice_scheduler.proofs.claiming.claims.Given as goal
 
 abbrev pub invariant-loop-flow : goal.invariant-loop-flow

@@ -1,6 +1,5 @@
 use Rattle.std.proofs.Common.{◌∙◌}
-use Rattle.slice_scheduler.specs.Due.{due_pieces}
-use Rattle.slice_scheduler.specs.Wanted.{HasMinislots}
+use Rattle.slice_scheduler.proofs.Common.{due_pieces, HasMinislots}
 use Rattle.slice_scheduler.proofs.MoreLemmas.{flat_map-more, All-joined}
 use Rattle.slice_scheduler.proofs.due.all_due.Goals as goal
 

@@ -1,7 +1,5 @@
 use Rattle.std.proofs.Common.{◌≡◌, All, take}
-use Rattle.std.specs.List.{flat_map}
-use Rattle.slice_scheduler.specs.Due.{due_pieces}
-use Rattle.slice_scheduler.specs.Wanted.{HasMinislots}
+use Rattle.slice_scheduler.proofs.Common.{flat_map, due_pieces, HasMinislots}
 use Rattle.slice_scheduler.proofs.due.all_due.Given as goal
 
 abbrev pub invariant-loop-flow : goal.invariant-loop-flow

@@ -1,6 +1,5 @@
 use Rattle.std.proofs.Common.{List, ◌∷◌, [], ◌++◌, ap, ◌∙◌, append_assoc}
-use Rattle.std.proofs.lemmas.List.{replicate_more}
-use Rattle.slice_scheduler.specs.declared.piece.Piece.{Piece}
+use Rattle.slice_scheduler.proofs.Common.{replicate_more, Piece}
 use Rattle.slice_scheduler.proofs.due.push_many.Goals as goal
 
 pub loop-time-preserved : goal.loop-time-preserved

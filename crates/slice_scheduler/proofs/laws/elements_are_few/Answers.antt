@@ -1,5 +1,4 @@
-use Rattle.std.proofs.lemmas.List.Elements.{recursion_from_All}
-use Rattle.slice_scheduler.specs.Servable.{AsksWhereItMay}
+use Rattle.slice_scheduler.proofs.Common.{recursion_from_All, AsksWhereItMay}
 use Rattle.slice_scheduler.proofs.FewLemmas.{elements-few}
 use Rattle.slice_scheduler.proofs.laws.elements_are_few.Goals as goal
 

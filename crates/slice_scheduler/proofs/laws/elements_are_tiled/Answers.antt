@@ -1,5 +1,4 @@
-use Rattle.std.proofs.lemmas.List.Elements.{recursion_from_All}
-use Rattle.slice_scheduler.specs.Servable.{IsOfItsKind}
+use Rattle.slice_scheduler.proofs.Common.{recursion_from_All, IsOfItsKind}
 use Rattle.slice_scheduler.proofs.TiledLemmas.{elements-tiled}
 use Rattle.slice_scheduler.proofs.laws.elements_are_tiled.Goals as goal
 

@@ -1,6 +1,5 @@
 use Rattle.std.proofs.Common.{◌∙◌, arith}
-use Rattle.std.proofs.lemmas.List.Elements.{recursion_from_All}
-use Rattle.slice_scheduler.specs.Wanted.{HasMinislots}
+use Rattle.slice_scheduler.proofs.Common.{recursion_from_All, HasMinislots}
 use Rattle.slice_scheduler.proofs.PackedLemmas.{packed-more, start-more, packed-rest, packed-no_rest, packed_whole}
 use Rattle.slice_scheduler.proofs.packing.pack.Goals as goal
 use Rattle.slice_scheduler.proofs.packing.pack.Goals.{then-start-end+in_ok-push-2, else-start-end}

@@ -1,13 +1,6 @@
 use Rattle.std.proofs.Common.{List, ◌∷◌, [], ◌++◌, refl, ap, sym, ◌∙◌, arith, get_or, take, cond, Bool, append_assoc}
-use Rattle.std.specs.List.{flat_map}
-use Rattle.std.proofs.lemmas.Bool.{ne_eqb}
-use Rattle.std.proofs.lemmas.List.Elements.{All-push}
-use Rattle.slice_scheduler.specs.declared.award.Award.{Award}
-use Rattle.slice_scheduler.specs.declared.piece.Piece.{Piece}
+use Rattle.slice_scheduler.proofs.Common.{flat_map, ne_eqb, All-push, Award, Piece, iuc_of, award_pieces, HasMinislots}
 use Rattle.slice_scheduler.specs.declared.span.Iuc.{Iuc}
-use Rattle.slice_scheduler.specs.Due.{iuc_of}
-use Rattle.slice_scheduler.specs.Schedule.{award_pieces}
-use Rattle.slice_scheduler.specs.Wanted.{HasMinislots}
 use Rattle.slice_scheduler.proofs.MoreLemmas.{flat_map-more}
 use Rattle.slice_scheduler.proofs.packing.push_awards.Goals as goal
 

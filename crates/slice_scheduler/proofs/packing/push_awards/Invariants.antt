@@ -1,7 +1,5 @@
 use Rattle.std.proofs.Common.{◌≡◌, ◌++◌, All, take}
-use Rattle.std.specs.List.{flat_map}
-use Rattle.slice_scheduler.specs.Schedule.{award_pieces}
-use Rattle.slice_scheduler.specs.Wanted.{HasMinislots}
+use Rattle.slice_scheduler.proofs.Common.{flat_map, award_pieces, HasMinislots}
 use Rattle.slice_scheduler.proofs.packing.push_awards.Given as goal
 
 abbrev pub invariant-loop-award : goal.invariant-loop-award

@@ -1,7 +1,5 @@
 use Rattle.std.proofs.Common.{refl, get_or}
-use Rattle.std.specs.Prelude.{nat_lt}
-use Rattle.std.proofs.lemmas.Bool.{lt-ltb, le-ltb}
-use Rattle.slice_scheduler.specs.declared.award.Award.{Award}
+use Rattle.slice_scheduler.proofs.Common.{nat_lt, lt-ltb, le-ltb, Award}
 use Rattle.slice_scheduler.proofs.MoreLemmas.{map-kept, map-left}
 use Rattle.slice_scheduler.proofs.planning.pending.Goals as goal
 use Rattle.slice_scheduler.proofs.planning.pending.Goals.{then-award+in_ok-push, else-award}

@@ -1,17 +1,6 @@
 use Rattle.std.proofs.Common.{◌≡◌, ◌≤◌, ◌-◌, ℕ, ◌++◌, List, map, filter, ap, ◌∙◌, subst, sym, arith}
-use Rattle.std.specs.Prelude.{nat_lt}
-use Rattle.std.specs.List.{flat_map}
-use Rattle.slice_scheduler.specs.declared.claim.Claim.{Claim}
-use Rattle.slice_scheduler.specs.declared.award.Award.{Award}
-use Rattle.slice_scheduler.specs.declared.piece.Piece.{Piece}
+use Rattle.slice_scheduler.proofs.Common.{nat_lt, flat_map, Claim, Award, Piece, due_pieces, claims_of, room_of, award_of, awards_of, by_rank, award_pieces, pieces_of, minislots_in, spans_of, pending_of, spans_from, idle, Span, asking, Flowing}
 use Rattle.slice_scheduler.specs.Minislots.{Minislots}
-use Rattle.slice_scheduler.specs.Due.{due_pieces}
-use Rattle.slice_scheduler.specs.Claims.{claims_of, room_of}
-use Rattle.slice_scheduler.specs.Awards.{award_of, awards_of}
-use Rattle.slice_scheduler.specs.Schedule.{by_rank, award_pieces, pieces_of, minislots_in, spans_of, pending_of, spans_from, idle}
-use Rattle.slice_scheduler.specs.declared.span.Span.{Span}
-use Rattle.slice_scheduler.specs.Wanted.{asking}
-use Rattle.slice_scheduler.specs.declared.flowing.Flowing.{Flowing}
 use Rattle.slice_scheduler.proofs.RankLemmas.{Ascends-filter}
 use Rattle.slice_scheduler.proofs.AskingLemmas.{counts, asking-awards, asking-pieces, asking-pending, asking-granted}
 use Rattle.slice_scheduler.proofs.RoomLemmas.{room-fits, room-is}

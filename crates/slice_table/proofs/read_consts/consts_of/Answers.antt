@@ -1,6 +1,5 @@
 use Rattle.std.proofs.Common.{codes}
-use Rattle.toml.specs.Data.{get_member}
-use Rattle.toml.specs.View.{table_view}
+use Rattle.slice_table.proofs.Common.{get_member, table_view}
 use Rattle.slice_table.proofs.ClassReading.{classes_read}
 use Rattle.slice_table.proofs.read_consts.consts_of.Goals as goal
 

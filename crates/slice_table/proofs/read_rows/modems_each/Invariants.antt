@@ -1,7 +1,5 @@
 use Rattle.std.proofs.Common.{◌≡◌, [], drop}
-use Rattle.toml.specs.View.{items_view}
-use Rattle.slice_table.specs.Tree.{each}
-use Rattle.slice_table.specs.ReadRows.{modem_read}
+use Rattle.slice_table.proofs.Common.{items_view, each, modem_read}
 use Rattle.slice_table.proofs.read_rows.modems_each.Given as goal
 
 abbrev pub invariant-loop-value : goal.invariant-loop-value

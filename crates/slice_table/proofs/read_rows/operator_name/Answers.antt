@@ -1,7 +1,5 @@
 use Rattle.std.proofs.Common.{◌≡◌, ℕ, ◌↔◌, ◌&&◌, nat_le, le-leb, true, false, List, length, Option, Some, None, if◌then◌else◌, IsSome, IfSome, refl, ap}
-use Rattle.std.specs.Char.{is_ascii_alphanumeric}
-use Rattle.std.specs.List.{list_all}
-use Rattle.std.proofs.lemmas.Bool.{and_parts, false≢true, false_from_ne_true}
+use Rattle.slice_table.proofs.Common.{is_ascii_alphanumeric, list_all, and_parts, false≢true, false_from_ne_true}
 use Rattle.plant.specs.Name.{IsOperatorName, is_operator_name}
 use Rattle.slice_table.proofs.Values.{at_most}
 use Rattle.slice_table.proofs.read_rows.operator_name.Goals as goal

@@ -1,11 +1,6 @@
 use Rattle.std.proofs.Common.{◌≡◌, ◌≤◌, None, Ok, List, length, subst, sym, ap}
-use Rattle.toml.specs.View.{table_view}
-use Rattle.plant.specs.declared.operator_row.RowFields.{RowFields}
-use Rattle.plant.specs.declared.consts.ConstsFields.{ConstsFields}
-use Rattle.plant.specs.Consts.{AreConsts}
-use Rattle.plant.specs.Plant.{IsPlant}
+use Rattle.slice_table.proofs.Common.{table_view, RowFields, ConstsFields, AreConsts, IsPlant, rows_fault, unless}
 use Rattle.slice_table.specs.ReadPlant.{plant_of}
-use Rattle.slice_table.specs.Checks.{rows_fault, unless}
 use Rattle.slice_table.proofs.RowReading.{rows_read}
 use Rattle.slice_table.proofs.PlantReading.{valid, no_fault}
 use Rattle.slice_table.proofs.reading.plant_of.Goals as goal

@@ -1,11 +1,7 @@
 use Rattle.std.proofs.Common.{◌≡◌, Option, Some, None, Ok, Err, IfOk, refl, ap, subst, ◌∙◌}
-use Rattle.toml.specs.Data.{Members}
+use Rattle.slice_table.proofs.Common.{Members, PlantFields, Gives, PlantResult, plant_cause, SaysPlant}
 use Rattle.toml.specs.Parse.{parse_document}
-use Rattle.plant.specs.declared.plant.PlantFields.{PlantFields}
-use Rattle.lists.specs.Results.{Gives}
-use Rattle.slice_table.specs.Tree.{PlantResult, plant_cause}
 use Rattle.slice_table.specs.ReadPlant.{text_plant}
-use Rattle.slice_table.specs.Says.{SaysPlant}
 use Rattle.slice_table.proofs.SaidPlant.{plant_is}
 use Rattle.slice_table.proofs.reading.read_plant.Goals as goal
 

@@ -1,7 +1,5 @@
 use Rattle.std.proofs.Common.{◌≡◌, ◌∙◌, [], get_or, take, is_some, None, sym, ap}
-use Rattle.std.proofs.lemmas.List.{take_more}
-use Rattle.dsx_messages.specs.declared.modem.Modem.{Modem}
-use Rattle.plant.specs.Roster.{place_of}
+use Rattle.slice_table.proofs.Common.{take_more, Modem, place_of}
 use Rattle.slice_table.proofs.Places.{copied_none, adds_one, lists_added, again_more}
 use Rattle.slice_table.proofs.roster.add_modems.Goals as goal
 

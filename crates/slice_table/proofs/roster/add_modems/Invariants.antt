@@ -1,7 +1,5 @@
 use Rattle.std.proofs.Common.{◌≡◌, ◌++◌, List, take, drop}
-use Rattle.dsx_messages.specs.declared.modem.Modem.{Modem}
-use Rattle.plant.specs.Roster.{Adds, Lists}
-use Rattle.slice_table.specs.Checks.{first_again}
+use Rattle.slice_table.proofs.Common.{Modem, Adds, Lists, first_again}
 use Rattle.slice_table.proofs.roster.add_modems.Given as goal
 
 abbrev pub invariant-loop-modem : goal.invariant-loop-modem

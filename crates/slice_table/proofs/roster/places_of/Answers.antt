@@ -1,10 +1,6 @@
 use Rattle.std.proofs.Common.{◌≡◌, ◌∙◌, ◌+◌, List, [], get_or, take, drop, Option, None, sym, ap, subst}
-use Rattle.std.specs.Option.{option_or}
+use Rattle.slice_table.proofs.Common.{option_or, Modem, RowFields, all_modems, Adds}
 use Rattle.std.proofs.lemmas.Result.{err_from_is_err_and}
-use Rattle.dsx_messages.specs.declared.modem.Modem.{Modem}
-use Rattle.plant.specs.declared.operator_row.RowFields.{RowFields}
-use Rattle.plant.specs.Plant.{all_modems}
-use Rattle.plant.specs.Roster.{Adds}
 use Rattle.slice_table.specs.Checks.{first_again, twice_fault}
 use Rattle.slice_table.proofs.Places.{again_row, finds_more, lists_found, none_again, fault_kept}
 use Rattle.slice_table.proofs.roster.places_of.Goals as goal

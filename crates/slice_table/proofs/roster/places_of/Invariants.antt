@@ -1,7 +1,5 @@
 use Rattle.std.proofs.Common.{◌≡◌, [], take, drop}
-use Rattle.plant.specs.Plant.{all_modems}
-use Rattle.plant.specs.Roster.{Finds}
-use Rattle.slice_table.specs.Checks.{first_again}
+use Rattle.slice_table.proofs.Common.{all_modems, Finds, first_again}
 use Rattle.slice_table.proofs.roster.places_of.Given as goal
 
 abbrev pub invariant-loop-place : goal.invariant-loop-place

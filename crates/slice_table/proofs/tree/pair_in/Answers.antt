@@ -1,7 +1,5 @@
 use Rattle.std.proofs.Common.{◌≡◌, ◌≢◌, List, [], ◌∷◌, length, None, arith, refl, sym}
-use Rattle.toml.specs.View.{items_view}
-use Rattle.toml.specs.declared.value.Value.{Value}
-use Rattle.slice_table.specs.Tree.{pair_in}
+use Rattle.slice_table.proofs.Common.{items_view, Value, pair_in}
 use Rattle.slice_table.proofs.tree.pair_in.Goals as goal
 
 not_two : (vs : List Value) → length vs ≢ 2 → pair_in (items_view vs) ≡ None

@@ -1,8 +1,5 @@
 use Rattle.std.proofs.Common.{◌≡◌, ℕ, ◌+◌, ◌-◌, ◌==◌, List, length, take, drop, Some, None, Ok, refl}
-use Rattle.std.specs.List.{position}
-use Rattle.std.proofs.lemmas.List.{take_rest}
-use Rattle.snapshot_format.specs.declared.fault.Wrong.TheVariants.{Cut}
-use Rattle.snapshot_format.specs.Reading.{stop_at}
+use Rattle.snapshot_format.proofs.Common.{position, take_rest, Cut, stop_at}
 use Rattle.snapshot_format.specs.Fields.{take_field}
 use Rattle.snapshot_format.proofs.fields.take_field.Goals as goal
 

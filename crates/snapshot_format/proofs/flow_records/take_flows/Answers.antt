@@ -1,6 +1,5 @@
 use Rattle.std.proofs.Common.{◌≡◌, ◌-◌, Bool, true, false, List, [], length, slice_get, sym, ◌∙◌, arith, rules}
-use Rattle.snapshot_format.specs.declared.saved.SavedFlow.{SavedFlow}
-use Rattle.snapshot_format.specs.Reading.{take_items}
+use Rattle.snapshot_format.proofs.Common.{SavedFlow, take_items}
 use Rattle.snapshot_format.specs.Records.{take_flow, flow_follows, take_flows, can_follow}
 use Rattle.snapshot_format.proofs.Loop.{goes_on, repeats, ends}
 use Rattle.snapshot_format.proofs.flow_records.take_flows.Goals as goal

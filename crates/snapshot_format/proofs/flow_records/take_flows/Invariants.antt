@@ -1,6 +1,5 @@
 use Rattle.std.proofs.Common.{◌≡◌, ◌-◌, []}
-use Rattle.snapshot_format.specs.Reading.{take_items}
-use Rattle.snapshot_format.specs.Records.{take_flow, flow_follows}
+use Rattle.snapshot_format.proofs.Common.{take_items, take_flow, flow_follows}
 use Rattle.snapshot_format.proofs.flow_records.take_flows.Given as goal
 
 abbrev pub invariant-loop : goal.invariant-loop

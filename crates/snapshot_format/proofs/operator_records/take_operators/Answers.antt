@@ -1,9 +1,5 @@
 use Rattle.std.proofs.Common.{◌≡◌, Bool, true, false, not, List, [], ap, sym, ◌∙◌, arith, rules}
-use Rattle.std.proofs.lemmas.Result.{err_from_is_err_and}
-use Rattle.std.specs.List.{list_any}
-use Rattle.std.specs.Str.{bytes_eq}
-use Rattle.snapshot_format.specs.declared.saved.SavedOperator.{SavedOperator}
-use Rattle.snapshot_format.specs.Reading.{take_items}
+use Rattle.snapshot_format.proofs.Common.{err_from_is_err_and, list_any, bytes_eq, SavedOperator, take_items}
 use Rattle.snapshot_format.specs.Records.{take_operator, operator_follows, take_operators}
 use Rattle.snapshot_format.proofs.Loop.{goes_on, repeats, ends}
 use Rattle.snapshot_format.proofs.operator_records.take_operators.Goals as goal

@@ -1,6 +1,5 @@
 use Rattle.std.proofs.Common.{◌≡◌, ◌-◌, []}
-use Rattle.snapshot_format.specs.Reading.{take_items}
-use Rattle.snapshot_format.specs.Records.{take_operator, operator_follows}
+use Rattle.snapshot_format.proofs.Common.{take_items, take_operator, operator_follows}
 use Rattle.snapshot_format.proofs.operator_records.take_operators.Given as goal
 
 abbrev pub invariant-loop : goal.invariant-loop

@@ -1,7 +1,5 @@
 use Rattle.std.proofs.Common.{◌≡◌, ◌++◌, take}
-use Rattle.std.specs.List.{flat_map}
-use Rattle.std.specs.String.{string_bytes}
-use Rattle.snapshot_format.specs.Text.{operator_text}
+use Rattle.snapshot_format.proofs.Common.{flat_map, string_bytes, operator_text}
 use Rattle.snapshot_format.proofs.operator_text.put_operators.Given as goal
 
 abbrev pub invariant-loop-operator : goal.invariant-loop-operator

@@ -1,6 +1,5 @@
 use Rattle.std.proofs.Common.{[], refl, arith}
-use Rattle.std.proofs.lemmas.Result.{err_from_is_err_and}
-use Rattle.snapshot_format.specs.Reading.{take_items}
+use Rattle.snapshot_format.proofs.Common.{err_from_is_err_and, take_items}
 use Rattle.snapshot_format.specs.Records.{take_arrival, arrival_follows, take_arrivals}
 use Rattle.snapshot_format.proofs.Loop.{goes_on, ends}
 use Rattle.snapshot_format.proofs.response_records.take_arrivals.Goals as goal

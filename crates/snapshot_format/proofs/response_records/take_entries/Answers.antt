@@ -1,9 +1,5 @@
 use Rattle.std.proofs.Common.{◌≡◌, Bool, true, false, not, List, [], ap, sym, ◌∙◌, arith, rules}
-use Rattle.std.proofs.lemmas.Result.{err_from_is_err_and}
-use Rattle.std.specs.List.{list_any}
-use Rattle.transactions.specs.declared.entry.KeptEntry.{KeptEntry}
-use Rattle.transactions.specs.Entry.{is_of}
-use Rattle.snapshot_format.specs.Reading.{take_items}
+use Rattle.snapshot_format.proofs.Common.{err_from_is_err_and, list_any, KeptEntry, is_of, take_items}
 use Rattle.snapshot_format.specs.Records.{take_entry, entry_follows, take_entries}
 use Rattle.snapshot_format.proofs.Loop.{goes_on, repeats, ends}
 use Rattle.snapshot_format.proofs.response_records.take_entries.Goals as goal

@@ -1,6 +1,5 @@
 use Rattle.std.proofs.Common.{◌≡◌, ◌-◌, []}
-use Rattle.snapshot_format.specs.Reading.{take_items}
-use Rattle.snapshot_format.specs.Records.{take_entry, entry_follows}
+use Rattle.snapshot_format.proofs.Common.{take_items, take_entry, entry_follows}
 use Rattle.snapshot_format.proofs.response_records.take_entries.Given as goal
 
 abbrev pub invariant-loop : goal.invariant-loop

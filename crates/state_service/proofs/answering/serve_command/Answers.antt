@@ -1,12 +1,6 @@
 use Rattle.std.proofs.Common.{◌≡◌, ◌∷◌, [], List, ℕ, Vec, refl, subst, ap, ◌∙◌}
-use Rattle.std.specs.declared.alloc.Global.{Global}
-use Rattle.live_core.specs.LiveView.{live_view}
-use Rattle.line_journal.specs.Found.{texts}
+use Rattle.state_service.proofs.Common.{Global, live_view, texts, IsOutcomeOf, IsCommandDue, IsCommandRefusedFor, journal_content, with_lines, Open, Command, IsLeftFrom}
 use Rattle.state_service.specs.declared.performing.CommandOutcome.{CommandOutcome}
-use Rattle.state_service.specs.Commands.{IsOutcomeOf, IsCommandDue, IsCommandRefusedFor}
-use Rattle.line_journal.specs.Journal.{journal_content, with_lines}
-use Rattle.state_service.specs.declared.reading.BatchEnd.TheVariants.{Open, Command}
-use Rattle.state_service.specs.Crashes.{IsLeftFrom}
 use Rattle.state_service.proofs.KeepLemmas.{unchanged, put_moments}
 use Rattle.state_service.proofs.CrashLemmas.{journal_left, command_more}
 use Rattle.state_service.proofs.ServeLemmas.{command_due_where, command_refused_where}

@@ -1,8 +1,5 @@
 use Rattle.std.proofs.Common.{rules, ◌≡◌, inl, inr, ⊎_elim, List, ℕ, [], ap, subst, sym, ◌∙◌}
-use Rattle.std.proofs.lemmas.List.{nil_from_length}
-use Rattle.line_journal.specs.Journal.{journal_content}
-use Rattle.durable_service.specs.Durable.{IsBegunWith}
-use Rattle.state_service.specs.Beginning.{IsLeftByOpening}
+use Rattle.state_service.proofs.Common.{nil_from_length, journal_content, IsBegunWith, IsLeftByOpening}
 use Rattle.state_service.proofs.KeepLemmas.{weaker, joined, none_added}
 use Rattle.state_service.proofs.beginning.open_state.Goals as goal
 

@@ -1,9 +1,5 @@
 use Rattle.std.proofs.Common.{◌≡◌, ℕ, List, Option, IfSome, refl, ap, subst, ◌∙◌, le_refl}
-use Rattle.std.specs.Io.Buffered.{reader_remaining}
-use Rattle.script_format.proofs.Outcomes.{if_ok}
-use Rattle.line_journal.specs.Device.{LeavesOnly}
-use Rattle.line_journal.specs.Journal.{journal_content}
-use Rattle.state_service.specs.Beginning.{IsFoundIn, IsServiceOn, IsUnharmed, IsLeftUnder, IsLeftByOpening}
+use Rattle.state_service.proofs.Common.{reader_remaining, if_ok, LeavesOnly, journal_content, IsFoundIn, IsServiceOn, IsUnharmed, IsLeftUnder, IsLeftByOpening}
 use Rattle.state_service.proofs.BeginLemmas.{given_serves, unharmed_from, unread_same, opening_unharmed, still_named, opening_named, service_named}
 use Rattle.state_service.proofs.KeepLemmas.{weaker, joined, unchanged}
 use Rattle.state_service.proofs.ServiceFaultLemmas.{if_err, start_fault}

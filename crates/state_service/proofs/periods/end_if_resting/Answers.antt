@@ -1,8 +1,6 @@
 use Rattle.std.proofs.Common.{List, ℕ, Option, subst}
-use Rattle.live_core.specs.LiveView.{live_view}
+use Rattle.state_service.proofs.Common.{live_view, IsKeptState, IsKeptOf}
 use Rattle.durable_service.specs.declared.saving.KeptState.{KeptState}
-use Rattle.durable_service.specs.Durable.{IsKeptState}
-use Rattle.state_service.specs.Periods.{IsKeptOf}
 use Rattle.state_service.proofs.ServeLemmas.{state_due_where}
 use Rattle.state_service.proofs.periods.end_if_resting.Goals as goal
 

@@ -1,14 +1,5 @@
 use Rattle.std.proofs.Common.{rules, ◌≡◌, ◌++◌, List, Vec, ℕ, length, refl, sym, ap, subst}
-use Rattle.std.specs.declared.alloc.Global.{Global}
-use Rattle.std.proofs.lemmas.List.{nil_from_length}
-use Rattle.line_service.specs.Bytes.{WhereKnown}
-use Rattle.live_core.specs.LiveView.{live_view}
-use Rattle.line_journal.specs.Found.{texts}
-use Rattle.state_service.specs.Taking.{IsAfterBatch}
-use Rattle.state_service.specs.Commands.{AreNoCommands}
-use Rattle.line_journal.specs.Journal.{journal_content, with_lines}
-use Rattle.state_service.specs.declared.reading.BatchEnd.TheVariants.{Open}
-use Rattle.state_service.specs.Crashes.{IsLeftFrom}
+use Rattle.state_service.proofs.Common.{Global, nil_from_length, WhereKnown, live_view, texts, IsAfterBatch, AreNoCommands, journal_content, with_lines, Open, IsLeftFrom}
 use Rattle.state_service.proofs.ServeLemmas.{none_served, batch_served}
 use Rattle.state_service.proofs.KeepLemmas.{unchanged, put_moments}
 use Rattle.state_service.proofs.CrashLemmas.{journal_left, batch_more, batch_none}

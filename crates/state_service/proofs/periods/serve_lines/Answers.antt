@@ -1,11 +1,5 @@
 use Rattle.std.proofs.Common.{◌∙◌, subst, arith}
-use Rattle.live_core.specs.LiveView.{live_view}
-use Rattle.line_service.specs.Bytes.{WhereKnown}
-use Rattle.line_journal.specs.Journal.{journal_content}
-use Rattle.script_format.proofs.Outcomes.{if_ok}
-use Rattle.state_service.specs.declared.reading.BatchEnd.{BatchEnd}
-use Rattle.state_service.specs.Periods.{IsAfterLines}
-use Rattle.state_service.specs.Crashes.{IsJournalOf, IsLeftFrom}
+use Rattle.state_service.proofs.Common.{live_view, WhereKnown, journal_content, if_ok, BatchEnd, IsAfterLines, IsJournalOf, IsLeftFrom}
 use Rattle.state_service.proofs.KeepLemmas.{joined}
 use Rattle.state_service.proofs.CrashLemmas.{journal_left}
 use Rattle.state_service.proofs.periods.serve_lines.Goals as goal

@@ -1,15 +1,8 @@
 use Rattle.std.proofs.Common.{rules, Option, IfErr, refl, subst, ◌∙◌, arith, le_trans, le_refl}
-use Rattle.live_core.specs.LiveView.{live_view}
-use Rattle.line_service.specs.Bytes.{WhereKnown}
-use Rattle.line_journal.specs.Journal.{journal_content}
-use Rattle.state_service.specs.declared.period_end.PeriodEnd.{PeriodEnd}
-use Rattle.state_service.specs.Periods.{IsInPeriod, LeadsUnlessDue}
-use Rattle.state_service.specs.declared.reading.BatchEnd.TheVariants.{Open}
-use Rattle.state_service.specs.Crashes.{IsJournalInPeriod, IsLeftFrom}
+use Rattle.state_service.proofs.Common.{live_view, WhereKnown, journal_content, PeriodEnd, IsInPeriod, LeadsUnlessDue, Open, IsJournalInPeriod, IsLeftFrom, IsServingFault}
 use Rattle.state_service.proofs.KeepLemmas.{unchanged, joined}
 use Rattle.state_service.proofs.ServeLemmas.{none_if}
 use Rattle.state_service.proofs.CrashLemmas.{journal_left}
-use Rattle.state_service.specs.Faults.{IsServingFault}
 use Rattle.state_service.proofs.ServiceFaultLemmas.{if_err, later_fault}
 use Rattle.state_service.proofs.periods.serve_period.Goals as goal
 

@@ -1,13 +1,6 @@
 use Rattle.std.proofs.Common.{◌≡◌, ℕ, ◌≤◌, Option, List}
 use Rattle.live_core.specs.After.{IsReachableFromStart}
-use Rattle.live_core.specs.LiveView.{live_view}
-use Rattle.run_model.specs.IsStateAfter.{CoreView}
-use Rattle.line_service.specs.Bytes.{WhereKnown}
-use Rattle.line_journal.specs.Device.{LeavesOnly}
-use Rattle.line_journal.specs.Journal.{journal_content, IsJournalSettled}
-use Rattle.state_service.specs.declared.reading.BatchEnd.TheVariants.{Open}
-use Rattle.state_service.specs.Serving.{IsServing, LeadsHere}
-use Rattle.state_service.specs.Crashes.{ServiceOrigin, IsJournalOf, IsLeftFrom}
+use Rattle.state_service.proofs.Common.{live_view, CoreView, WhereKnown, LeavesOnly, journal_content, IsJournalSettled, Open, IsServing, LeadsHere, ServiceOrigin, IsJournalOf, IsLeftFrom}
 use Rattle.state_service.proofs.periods.serve_period.Given as goal
 
 abbrev pub invariant-loop : goal.invariant-loop

@@ -1,8 +1,5 @@
 use Rattle.std.proofs.Common.{rules, ◌≡◌, ◌≢◌, ◌++◌, [], List, Vec, ℕ, IfSome, ap, subst, sym, ◌∙◌, append-nil}
-use Rattle.std.specs.declared.alloc.Global.{Global}
-use Rattle.std.specs.Io.BufRead.{FillKeeps}
-use Rattle.line_journal.specs.Found.{texts}
-use Rattle.state_service.specs.Taking.{AreTaken, IsAfterBatch, line_if_any}
+use Rattle.state_service.proofs.Common.{Global, FillKeeps, texts, AreTaken, IsAfterBatch, line_if_any}
 use Rattle.state_service.proofs.ReadLemmas.{batch_taken, end_read, known_turned}
 use Rattle.state_service.proofs.reading.read_batch.Goals as goal
 

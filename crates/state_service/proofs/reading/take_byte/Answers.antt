@@ -1,6 +1,5 @@
 use Rattle.std.proofs.Common.{◌≡◌, ◌++◌, ◌∷◌, [], List, ℕ, ap, sym, subst, ◌∙◌, append_assoc, append-nil}
-use Rattle.line_journal.specs.Found.{texts}
-use Rattle.state_service.specs.Taking.{AreTaken}
+use Rattle.state_service.proofs.Common.{texts, AreTaken}
 use Rattle.state_service.proofs.ReadLemmas.{texts_more, line_ended}
 use Rattle.state_service.proofs.reading.take_byte.Goals as goal
 

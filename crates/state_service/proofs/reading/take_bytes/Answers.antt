@@ -1,8 +1,5 @@
 use Rattle.std.proofs.Common.{rules, ◌++◌, ◌+◌, ◌<◌, ℕ, List, Vec, Option, drop, length, subst, append-nil}
-use Rattle.std.specs.declared.alloc.Global.{Global}
-use Rattle.std.proofs.lemmas.List.{drop_more}
-use Rattle.line_journal.specs.Found.{texts}
-use Rattle.state_service.specs.Taking.{AreTaken, line_if_any}
+use Rattle.state_service.proofs.Common.{Global, drop_more, texts, AreTaken, line_if_any}
 use Rattle.state_service.proofs.reading.take_bytes.Goals as goal
 
 pub returns-in-Some-clause-taken : goal.returns-in-Some-clause-taken

@@ -1,7 +1,5 @@
 use Rattle.std.proofs.Common.{ℕ, List, ◌++◌, drop}
-use Rattle.line_journal.specs.Found.{texts}
-use Rattle.state_service.specs.Commands.{AreNoCommands}
-use Rattle.state_service.specs.Taking.{AreTaken}
+use Rattle.state_service.proofs.Common.{texts, AreNoCommands, AreTaken}
 use Rattle.state_service.proofs.reading.take_bytes.Given as goal
 
 abbrev pub invariant-loop-place : goal.invariant-loop-place

@@ -1,7 +1,5 @@
 use Rattle.std.proofs.Common.{rules, ◌≡◌, ◌≢◌, ◌++◌, ◌∷◌, [], List, Vec, ℕ, inr, refl, ap, sym, subst, ◌∙◌, append-nil}
-use Rattle.std.specs.declared.alloc.Global.{Global}
-use Rattle.line_journal.specs.Found.{texts}
-use Rattle.state_service.specs.Taking.{AreAllTaken}
+use Rattle.state_service.proofs.Common.{Global, texts, AreAllTaken}
 use Rattle.state_service.proofs.ReadLemmas.{texts_more, ended_line}
 use Rattle.state_service.proofs.reading.take_end.Goals as goal
 

@@ -1,9 +1,5 @@
 use Rattle.std.proofs.Common.{inl, ℕ, ◌+◌, ◌≤◌, List, Vec, length, subst}
-use Rattle.std.specs.declared.alloc.Global.{Global}
-use Rattle.live_core.specs.LiveView.{live_view}
-use Rattle.line_journal.specs.Journal.{journal_content}
-use Rattle.state_service.specs.Serving.{HasNoFewer}
-use Rattle.state_service.specs.Beginning.{IsLeftUnder}
+use Rattle.state_service.proofs.Common.{Global, live_view, journal_content, HasNoFewer, IsLeftUnder}
 use Rattle.state_service.proofs.KeepLemmas.{unchanged, stands_has}
 use Rattle.state_service.proofs.CrashLemmas.{found_left}
 use Rattle.state_service.proofs.serving.serve_first.Goals as goal

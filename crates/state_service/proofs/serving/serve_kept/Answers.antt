@@ -1,11 +1,5 @@
 use Rattle.std.proofs.Common.{ℕ, List, refl, subst, None, ◌∙◌, arith}
-use Rattle.std.specs.Io.KnownBytes.{Appends}
-use Rattle.std.proofs.KnownBytes.{Appends-kept}
-use Rattle.live_core.specs.LiveView.{live_view}
-use Rattle.line_journal.specs.Journal.{journal_content, fresh}
-use Rattle.durable_service.proofs.LeadLemmas.{restarted_reached}
-use Rattle.state_service.specs.declared.period_end.PeriodEnd.TheVariants.{Due}
-use Rattle.state_service.specs.Beginning.{IsLeftUnder}
+use Rattle.state_service.proofs.Common.{Appends, Appends-kept, live_view, journal_content, fresh, restarted_reached, Due, IsLeftUnder}
 use Rattle.state_service.proofs.BeginLemmas.{more_served}
 use Rattle.state_service.proofs.ServeLemmas.{saved_where}
 use Rattle.state_service.proofs.KeepLemmas.{unchanged, put_moments, joined}

@@ -1,9 +1,6 @@
 use Rattle.std.proofs.Common.{rules, IfErr, subst, le_trans, le_refl}
-use Rattle.line_journal.specs.Journal.{journal_content}
-use Rattle.state_service.specs.declared.period_end.PeriodEnd.{PeriodEnd}
-use Rattle.state_service.specs.Beginning.{IsServedUpTo, IsLeftUnder}
+use Rattle.state_service.proofs.Common.{journal_content, PeriodEnd, IsServedUpTo, IsLeftUnder, IsServingFault}
 use Rattle.state_service.proofs.BeginLemmas.{all_served, ended_leads}
-use Rattle.state_service.specs.Faults.{IsServingFault}
 use Rattle.state_service.proofs.KeepLemmas.{joined}
 use Rattle.state_service.proofs.ServiceFaultLemmas.{if_err, later_fault, serving_start}
 use Rattle.state_service.proofs.serving.serve_restored.Goals as goal

@@ -1,7 +1,5 @@
 use Rattle.std.proofs.Common.{◌≤◌}
-use Rattle.line_journal.specs.Device.{LeavesOnly}
-use Rattle.line_journal.specs.Journal.{journal_content, IsJournalSettled}
-use Rattle.state_service.specs.Beginning.{IsServedUpTo, IsLeftUnder}
+use Rattle.state_service.proofs.Common.{LeavesOnly, journal_content, IsJournalSettled, IsServedUpTo, IsLeftUnder}
 use Rattle.state_service.proofs.serving.serve_restored.Given as goal
 
 abbrev pub invariant-loop : goal.invariant-loop

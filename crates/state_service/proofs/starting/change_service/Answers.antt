@@ -1,6 +1,5 @@
 use Rattle.std.proofs.Common.{inl, List, ℕ, refl, [], subst}
-use Rattle.live_core.specs.LiveView.{live_view}
-use Rattle.durable_service.specs.Durable.{IsKeptState}
+use Rattle.state_service.proofs.Common.{live_view, IsKeptState}
 use Rattle.state_service.proofs.BeginLemmas.{none_read, plant_changes}
 use Rattle.state_service.proofs.ServeLemmas.{state_due}
 use Rattle.state_service.proofs.starting.change_service.Goals as goal

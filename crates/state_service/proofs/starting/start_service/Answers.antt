@@ -1,10 +1,6 @@
 use Rattle.std.proofs.Common.{rules, ◌≡◌, ◌≢◌, ◌∙◌, ℕ, ◌+◌, List, length, sym, subst, arith}
-use Rattle.live_core.specs.LiveView.{live_view}
-use Rattle.script_format.proofs.Outcomes.{if_ok}
+use Rattle.state_service.proofs.Common.{live_view, if_ok, journal_content, HasNoFewer, IsServiceSoFar, IsLeftUnder}
 use Rattle.line_service.proofs.ServiceLemmas.{known_same}
-use Rattle.line_journal.specs.Journal.{journal_content}
-use Rattle.state_service.specs.Serving.{HasNoFewer}
-use Rattle.state_service.specs.Beginning.{IsServiceSoFar, IsLeftUnder}
 use Rattle.state_service.proofs.BeginLemmas.{none_read_where, first_served, restored_leads, restored_saved, saved_first, begun_left, begun_leaves, on_ok}
 use Rattle.state_service.proofs.KeepLemmas.{unchanged, stands_has}
 use Rattle.state_service.proofs.CrashLemmas.{found_left}

@@ -1,9 +1,5 @@
 use Rattle.std.proofs.Common.{◌≡◌, ℕ, ◌<◌, ◌≤◌, ◌⊎◌, inl, inr, Bool, cond, List, length, Some, None, refl, sym, ap}
-use Rattle.std.specs.Prelude.{is_some}
-use Rattle.std.proofs.lemmas.Bool.{lt-ltb, le-ltb}
-use Rattle.tlv24.specs.declared.tlv.Tlv.{Tlv}
-use Rattle.tlv24.specs.declared.tlv.TlvFault.TheVariants.{WrongLength, Twice, Range}
-use Rattle.tlv24.specs.Tlv.{tlv}
+use Rattle.tlv24.proofs.Common.{is_some, lt-ltb, le-ltb, Tlv, WrongLength, Twice, Range, tlv}
 use Rattle.tlv24.specs.Flow.{lengths_of, value_of, in_range, fault_of}
 use Rattle.tlv24.proofs.read.fault_of.Goals as goal
 

@@ -1,7 +1,5 @@
 use Rattle.std.proofs.Common.{◌≡◌, ◌≢◌, ℕ, false, nat_eq, refl, sym, ap, ◌∙◌, arith}
-use Rattle.std.proofs.lemmas.Bool.Decides.{nat_tests}
-use Rattle.std.specs.Option.{option_map}
-use Rattle.tlv24.specs.Flow.{word, long, byte, low_bits, name_of, errored_of}
+use Rattle.tlv24.proofs.Common.{nat_tests, option_map, word, long, byte, low_bits, name_of, errored_of}
 use Rattle.tlv24.proofs.Values.{one_lem, other_lem, named, IsNameAtRight}
 use Rattle.tlv24.proofs.read.set_field.Goals as goal
 

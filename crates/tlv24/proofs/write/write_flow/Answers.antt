@@ -1,10 +1,5 @@
 use Rattle.std.proofs.Common.{ℕ, List, subst, sym}
-use Rattle.std.specs.Option.{option_map}
-use Rattle.std.specs.Int.{w16, w32, to_be_bytes}
-use Rattle.tlv24.specs.declared.fields.FlowFields.{FlowFields}
-use Rattle.tlv24.specs.Tlv.{spelled}
-use Rattle.tlv24.specs.Flow.{IsFlowEncoding}
-use Rattle.tlv24.specs.Spelling.{single, terminated_name, spelled_error, under, tlvs_of}
+use Rattle.tlv24.proofs.Common.{option_map, w16, w32, to_be_bytes, FlowFields, spelled, IsFlowEncoding, single, terminated_name, spelled_error, under, tlvs_of}
 use Rattle.tlv24.proofs.Written.{at_first, and_then, all_spelled, FitTheirBytes, written_says}
 use Rattle.tlv24.proofs.write.write_flow.Goals as goal
 

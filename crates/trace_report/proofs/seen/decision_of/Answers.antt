@@ -2,8 +2,7 @@ use Rattle.std.proofs.Common.{◌∙◌}
 use Rattle.std.proofs.lemmas.Result.{IfOk-weaker, on_err_weaker}
 use Rattle.live_core.specs.LiveView.{live_view}
 use Rattle.live_core.proofs.FaultLemmas.{same_step_fault}
-use Rattle.plant_core.specs.CoreView.{core_view}
-use Rattle.trace_report.specs.Decision.{IsDecision}
+use Rattle.trace_report.proofs.Common.{core_view, IsDecision}
 use Rattle.trace_report.proofs.DecisionLemmas.{same_decision}
 use Rattle.trace_report.proofs.seen.decision_of.Goals as goal
 

@@ -1,5 +1,4 @@
-use Rattle.std.proofs.KnownBytes.{Appends-trans}
-use Rattle.trace_report.specs.Remarks.{no_words_line}
+use Rattle.trace_report.proofs.Common.{Appends-trans, no_words_line}
 use Rattle.trace_report.proofs.trace.write_done.Goals as goal
 
 -- the words stand after the decision's text

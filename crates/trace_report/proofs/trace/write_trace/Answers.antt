@@ -1,14 +1,8 @@
 use Rattle.std.proofs.Common.{◌≡◌, max, Bool, true, false, ℕ, None, [], ◌∷◌, length, ap, sym, subst, ◌∙◌}
-use Rattle.std.specs.Vec.Iter.{into_iter_items, into_iter_len}
-use Rattle.std.proofs.lemmas.List.{nil_from_length}
-use Rattle.plant_core.specs.CoreView.{core_view}
-use Rattle.line_service.proofs.LeftLemmas.{count_next}
-use Rattle.trace_report.specs.Quotes.{IsRestAfter}
-use Rattle.trace_report.specs.Told.{HasToldStep}
+use Rattle.trace_report.proofs.Common.{into_iter_items, into_iter_len, nil_from_length, core_view, count_next, IsRestAfter, HasToldStep, on_err_of}
 use Rattle.trace_report.proofs.LineLemmas.{all_left}
 use Rattle.trace_report.proofs.TracedSoFar.{IsTracedSoFar}
 use Rattle.trace_report.proofs.TraceLemmas.{none_traced, line_traced, step_traced, words_fail, all_traced, memory_wants, step_not_done}
-use Rattle.line_service.proofs.StepLemmas.{on_err_of}
 use Rattle.trace_report.proofs.trace.write_trace.Goals as goal
 
 pub loop-number-init : goal.loop-number-init

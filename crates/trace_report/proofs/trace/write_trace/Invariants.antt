@@ -1,7 +1,5 @@
 use Rattle.std.proofs.Common.{◌≡◌, None, length}
-use Rattle.std.specs.Vec.Iter.{into_iter_items, into_iter_len}
-use Rattle.plant_core.specs.CoreView.{core_view}
-use Rattle.trace_report.specs.Quotes.{IsRestAfter}
+use Rattle.trace_report.proofs.Common.{into_iter_items, into_iter_len, core_view, IsRestAfter}
 use Rattle.trace_report.proofs.TracedSoFar.{IsTracedSoFar}
 use Rattle.trace_report.proofs.trace.write_trace.Given as goal
 

@@ -1,6 +1,5 @@
 use Rattle.std.proofs.Common.{not, rules}
-use Rattle.transactions.specs.declared.entry.KeptEntry.{KeptEntry}
-use Rattle.transactions.specs.Timers.{is_forgotten, entry_after_tick}
+use Rattle.transactions.proofs.Common.{KeptEntry, is_forgotten, entry_after_tick}
 use Rattle.transactions.proofs.ListLemmas.{retained}
 use Rattle.transactions.proofs.tick.count_down.Goals as goal
 

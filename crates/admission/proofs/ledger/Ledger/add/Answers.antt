@@ -1,6 +1,5 @@
 use Rattle.std.proofs.Common.{◌<◌, length, ap, arith}
-use Rattle.std.proofs.lemmas.Bool.{iff_false}
-use Rattle.admission.specs.Ledger.{LedgerView}
+use Rattle.admission.proofs.Common.{iff_false, LedgerView}
 use Rattle.admission.proofs.LedgerLemmas.{CanReplace-gap, IsLedger-add}
 use Rattle.admission.proofs.ledger.Ledger.add.Goals as goal
 

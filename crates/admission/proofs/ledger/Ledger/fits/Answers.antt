@@ -1,6 +1,5 @@
 use Rattle.std.proofs.Common.{◌≡◌, nat_cmp, ap}
-use Rattle.std.specs.BTreeMap.{insert_entry}
-use Rattle.admission.specs.Ledger.{LedgerView, total_minislots, total_elements}
+use Rattle.admission.proofs.Common.{insert_entry, LedgerView, total_minislots, total_elements}
 use Rattle.admission.proofs.LedgerLemmas.{CanReplace-budget_at, minislots-insert_entry, elements-insert_entry}
 use Rattle.admission.proofs.ledger.Ledger.fits.Goals as goal
 

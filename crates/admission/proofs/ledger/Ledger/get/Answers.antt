@@ -1,6 +1,5 @@
 use Rattle.std.proofs.Common.{ℕ, Some, get_or, ap, sym, ◌∙◌}
-use Rattle.admission.specs.declared.budget.Budget.{Budget}
-use Rattle.admission.specs.Ledger.{LedgerView}
+use Rattle.admission.proofs.Common.{Budget, LedgerView}
 use Rattle.admission.proofs.ledger.Ledger.get.Goals as goal
 
 pub returns-in-Ok : goal.returns-in-Ok

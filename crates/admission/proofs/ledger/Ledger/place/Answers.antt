@@ -1,6 +1,5 @@
 use Rattle.std.proofs.Common.{IfOk, IfErr, rules}
-use Rattle.std.proofs.lemmas.List.Sorted.{answers_always}
-use Rattle.admission.specs.Place.{StandsAt, IsGap}
+use Rattle.admission.proofs.Common.{answers_always, StandsAt, IsGap}
 use Rattle.admission.proofs.RowLemmas.{searched, there_from_found, free_from_absent}
 use Rattle.admission.proofs.ledger.Ledger.place.Goals as goal
 

@@ -1,7 +1,5 @@
 use Rattle.std.proofs.Common.{ap, ◌∙◌}
-use Rattle.operator_model.specs.Replay.{BookView}
-use Rattle.plant_core.specs.Waiting.{waiting_in}
-use Rattle.plant_core.proofs.WaitingLemmas.{waiting_acted}
+use Rattle.cell_state.proofs.Common.{BookView, waiting_in, waiting_acted}
 use Rattle.cell_state.proofs.held.Held.act.Goals as goal
 
 pub returns-in-Ok-act-clause-waiting : goal.returns-in-Ok-act-clause-waiting

@@ -1,5 +1,4 @@
-use Rattle.plant_core.specs.Waiting.{waiting_in}
-use Rattle.plant_core.proofs.WaitingLemmas.{replay_one}
+use Rattle.cell_state.proofs.Common.{waiting_in, replay_one}
 use Rattle.cell_state.proofs.TakeLemmas.{oldest_front}
 use Rattle.cell_state.proofs.held.Held.collect.Goals as goal
 

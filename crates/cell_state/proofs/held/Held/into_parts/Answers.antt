@@ -1,8 +1,5 @@
 use Rattle.std.proofs.Common.{ap, take, ◌∙◌, List}
-use Rattle.std.specs.Prelude.{count_by}
-use Rattle.operator_model.specs.declared.action.Entry.{Entry}
-use Rattle.plant_core.proofs.WaitingLemmas.{replay_one}
-use Rattle.cell_state.specs.Taking.{has_frame}
+use Rattle.cell_state.proofs.Common.{count_by, Entry, replay_one, has_frame}
 use Rattle.cell_state.proofs.TakeLemmas.{collected}
 use Rattle.cell_state.proofs.held.Held.into_parts.Goals as goal
 

@@ -1,6 +1,5 @@
 use Rattle.std.proofs.Common.{◌∙◌, Some, ap, sym}
-use Rattle.check_table.specs.Said.{said_by}
-use Rattle.check_table.specs.declared.check.Check.{Check}
+use Rattle.check_explainer.proofs.Common.{said_by, Check}
 use Rattle.check_explainer.proofs.FirstLemmas.{found_at_last}
 use Rattle.check_explainer.proofs.operator_snapshot.OperatorSnapshot.first_that_holds.Goals as goal
 

@@ -1,5 +1,4 @@
-use Rattle.flow_table.specs.Flow.{flow_after_ack}
-use Rattle.flow_table.specs.Index.{flows_of}
+use Rattle.flow_table.proofs.Common.{flow_after_ack, flows_of}
 use Rattle.flow_table.proofs.MovedLemmas.{told_room, told_table}
 use Rattle.flow_table.proofs.StandLemmas.{acknowledged_keeps}
 use Rattle.flow_table.proofs.flows.Flows.acknowledge.Goals as goal

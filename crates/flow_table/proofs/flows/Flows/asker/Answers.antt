@@ -1,9 +1,6 @@
 use Rattle.std.proofs.Common.{◌≡◌, ℕ, List, Option, Some, IfSome, ap, sym, subst, ◌∙◌}
 use Rattle.std.specs.Option.{option_copied}
-use Rattle.flow_table.specs.declared.flow.Flow.{Flow}
-use Rattle.flow_table.specs.Table.{flow_at}
-use Rattle.flow_table.specs.Index.{flows_of}
-use Rattle.flow_table.specs.Moved.{asker_of}
+use Rattle.flow_table.proofs.Common.{Flow, flow_at, flows_of, asker_of}
 use Rattle.flow_table.proofs.IndexLemmas.{with_sid_none, with_sid_some, with_sid_there}
 use Rattle.flow_table.proofs.flows.Flows.asker.Goals as goal
 

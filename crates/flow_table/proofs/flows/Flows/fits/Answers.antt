@@ -1,7 +1,5 @@
 use Rattle.std.proofs.Common.{◌≡◌, nat_cmp}
-use Rattle.std.specs.BTreeMap.{insert_entry}
-use Rattle.admission.specs.Ledger.{total_minislots, total_elements}
-use Rattle.flow_table.specs.Table.{with_flow, committed_minislots, committed_elements}
+use Rattle.flow_table.proofs.Common.{insert_entry, total_minislots, total_elements, with_flow, committed_minislots, committed_elements}
 use Rattle.flow_table.proofs.IndexLemmas.{minislots_after, elements_after}
 use Rattle.flow_table.proofs.flows.Flows.fits.Goals as goal
 

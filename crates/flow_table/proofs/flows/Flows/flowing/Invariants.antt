@@ -1,7 +1,6 @@
 use Rattle.std.proofs.Common.{◌≡◌, ◌+◌, ◌≤◌, ◌++◌, length}
 use Rattle.std.specs.Prelude.{vec_len, vec_capacity}
-use Rattle.flow_table.specs.Table.{flowing_in}
-use Rattle.flow_table.specs.Index.{flows_of}
+use Rattle.flow_table.proofs.Common.{flowing_in, flows_of}
 use Rattle.flow_table.proofs.flows.Flows.flowing.Given as goal
 
 abbrev pub invariant-loop-sfid : goal.invariant-loop-sfid

@@ -1,8 +1,5 @@
 use Rattle.std.proofs.Common.{◌≡◌, sym, ap, ◌∙◌}
-use Rattle.admission.specs.Free.{least_free_of}
-use Rattle.admission.proofs.FreeLemmas.{least_free_found}
-use Rattle.flow_table.specs.Table.{sfids_of}
-use Rattle.flow_table.specs.Index.{flows_of}
+use Rattle.flow_table.proofs.Common.{least_free_of, least_free_found, sfids_of, flows_of}
 use Rattle.flow_table.proofs.BoxedLemmas.{boxed_ascend, boxed_keys}
 use Rattle.flow_table.proofs.flows.Flows.free_sfid.Goals as goal
 

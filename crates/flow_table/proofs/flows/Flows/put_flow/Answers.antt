@@ -1,5 +1,4 @@
-use Rattle.flow_table.specs.Table.{FlowTable, HasRoomFor}
-use Rattle.flow_table.specs.Index.{flows_of}
+use Rattle.flow_table.proofs.Common.{FlowTable, HasRoomFor, flows_of}
 use Rattle.flow_table.proofs.IndexLemmas.{row_room, table_put, index_put}
 use Rattle.flow_table.proofs.flows.Flows.put_flow.Goals as goal
 

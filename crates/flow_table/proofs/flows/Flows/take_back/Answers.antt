@@ -1,5 +1,4 @@
-use Rattle.flow_table.specs.Flow.{taken_back}
-use Rattle.flow_table.specs.Index.{flows_of}
+use Rattle.flow_table.proofs.Common.{taken_back, flows_of}
 use Rattle.flow_table.proofs.MovedLemmas.{told_room, told_table}
 use Rattle.flow_table.proofs.StandLemmas.{taken_back_keeps}
 use Rattle.flow_table.proofs.flows.Flows.take_back.Goals as goal

@@ -1,8 +1,5 @@
 use Rattle.std.proofs.Common.{rules, arith, ◌≡◌, ◌<◌, ◌∙◌, ap, sym, length}
-use Rattle.std.specs.Prelude.{slice_index_or, Option}
-use Rattle.line_journal.specs.Journal.{JournalContent, IsBeforeOrAfter}
-use Rattle.line_journal.specs.Run.{content_after, IsAfterSome}
-use Rattle.line_journal.specs.declared.run.JournalChange.{JournalChange}
+use Rattle.line_journal.proofs.Common.{slice_index_or, Option, JournalContent, IsBeforeOrAfter, content_after, IsAfterSome, JournalChange}
 use Rattle.line_journal.proofs.RunLaws.{one_more, some_made, joined}
 use Rattle.line_journal.proofs.journal.Journal.apply_all.Goals as goal
 

@@ -1,7 +1,5 @@
 use Rattle.std.proofs.Common.{◌≡◌, ◌≤◌, take}
-use Rattle.line_journal.specs.Device.{LeavesOnly}
-use Rattle.line_journal.specs.Journal.{journal_content, IsJournalSettled}
-use Rattle.line_journal.specs.Run.{after_all, IsAfterSome}
+use Rattle.line_journal.proofs.Common.{LeavesOnly, journal_content, IsJournalSettled, after_all, IsAfterSome}
 use Rattle.line_journal.proofs.journal.Journal.apply_all.Given as goal
 
 -- so many changes are made, and a crash since the start leaves what the first of them made

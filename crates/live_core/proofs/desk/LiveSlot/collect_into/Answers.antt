@@ -1,6 +1,5 @@
 use Rattle.std.proofs.Common.{List, ◌++◌, ap, ◌∙◌}
-use Rattle.run_model.specs.declared.step.Out.{Out}
-use Rattle.run_model.specs.Steps.{told_map}
+use Rattle.live_core.proofs.Common.{Out, told_map}
 use Rattle.live_core.proofs.StepLemmas.{waits_in_front}
 use Rattle.live_core.proofs.DeskLemmas.{some_wait, waits_at_all}
 use Rattle.live_core.proofs.desk.LiveSlot.collect_into.Goals as goal

@@ -1,6 +1,5 @@
 use Rattle.std.proofs.Common.{◌∙◌, refl, sym, ap, Option}
-use Rattle.operator_model.specs.declared.action.Unfit.{Unfit}
-use Rattle.live_core.specs.Reslicing.{is_unfit}
+use Rattle.live_core.proofs.Common.{Unfit, is_unfit}
 use Rattle.live_core.proofs.OfferLemmas.{taken}
 use Rattle.live_core.proofs.desk.LiveSlot.refuses.Goals as goal
 

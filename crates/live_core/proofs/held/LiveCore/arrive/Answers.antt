@@ -1,6 +1,5 @@
 use Rattle.std.proofs.Common.{ap}
-use Rattle.std.proofs.lemmas.Result.{on_ok_weaker}
-use Rattle.run_model.specs.IsStateAfter.{CoreView}
+use Rattle.live_core.proofs.Common.{on_ok_weaker, CoreView}
 use Rattle.live_core.proofs.PartLemmas.{arrive_on}
 use Rattle.live_core.proofs.ReachLemmas.{arrives}
 use Rattle.live_core.proofs.held.LiveCore.arrive.Goals as goal

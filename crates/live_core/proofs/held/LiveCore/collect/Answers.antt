@@ -1,10 +1,8 @@
 use Rattle.std.proofs.Common.{◌∙◌, refl, ap, Err}
 use Rattle.run_model.specs.declared.step.Step.TheVariants as steps
-use Rattle.run_model.specs.Steps.{told_map}
-use Rattle.live_core.specs.Faults.{collect_fault}
+use Rattle.live_core.proofs.Common.{told_map, collect_fault, slot_book, slot_waiting}
 use Rattle.live_core.proofs.PlaceLemmas.{seen_at}
 use Rattle.live_core.proofs.StepLemmas.{collect_told}
-use Rattle.live_core.specs.DeskView.{slot_book, slot_waiting}
 use Rattle.live_core.proofs.GoLemmas.{desk_collects, oldest_fits, stepped_on}
 use Rattle.live_core.proofs.PartLemmas.{desk_same, reached_again, same_begun}
 use Rattle.live_core.proofs.held.LiveCore.collect.Goals as goal

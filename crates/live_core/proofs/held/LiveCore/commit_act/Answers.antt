@@ -1,7 +1,5 @@
 use Rattle.std.proofs.Common.{refl, ap}
-use Rattle.std.proofs.lemmas.Result.{on_ok_weaker}
-use Rattle.live_core.specs.DeskView.{book_of, slot_book, slot_waiting}
-use Rattle.live_core.specs.LiveView.{live_view}
+use Rattle.live_core.proofs.Common.{on_ok_weaker, book_of, slot_book, slot_waiting, live_view}
 use Rattle.live_core.proofs.DeskPlaces.{acts_one}
 use Rattle.live_core.proofs.PlaceLemmas.{seen_at}
 use Rattle.live_core.proofs.StepLemmas.{same_if}

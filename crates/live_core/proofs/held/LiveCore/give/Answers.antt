@@ -1,12 +1,8 @@
 use Rattle.std.proofs.Common.{[], List, refl, sym, subst}
-use Rattle.slice_scheduler.specs.Minislots.{Minislots}
-use Rattle.map_assembly.specs.Gathering.{Gathering, MayReslice, gathering_after_reslice}
-use Rattle.map_assembly.specs.LettingGo.{GoesOnAlike}
+use Rattle.live_core.proofs.Common.{Minislots, Gathering, MayReslice, gathering_after_reslice, GoesOnAlike, Reslices, slot_book}
 use Rattle.run_model.specs.declared.step.Step.TheVariants as steps
 use Rattle.live_core.proofs.FreeLemmas.{are_free}
 use Rattle.live_core.proofs.ResliceLemmas.{are_slices}
-use Rattle.run_model.specs.Steps.{Reslices}
-use Rattle.live_core.specs.DeskView.{slot_book}
 use Rattle.live_core.proofs.GoLemmas.{bare_seen, performed, may_take, reslices_on, stepped_on}
 use Rattle.live_core.proofs.PartLemmas.{same_begun, same_gathering}
 use Rattle.live_core.proofs.held.LiveCore.give.Goals as goal

@@ -1,7 +1,6 @@
 use Rattle.std.proofs.Common.{refl, ◌∙◌, arith}
-use Rattle.std.proofs.lemmas.Option.{slice_get-get_or}
+use Rattle.live_core.proofs.Common.{slice_get-get_or, slot_book}
 use Rattle.live_core.proofs.PlaceLemmas.{seen_at}
-use Rattle.live_core.specs.DeskView.{slot_book}
 use Rattle.live_core.proofs.JudgeLemmas.{is_here, is_later, is_nowhere}
 use Rattle.live_core.proofs.held.LiveCore.least_unfit.Goals as goal
 

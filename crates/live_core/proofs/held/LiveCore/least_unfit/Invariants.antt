@@ -1,6 +1,5 @@
 use Rattle.std.proofs.Common.{◌≡◌, drop, map}
-use Rattle.live_core.specs.Reslicing.{least_unfit}
-use Rattle.live_core.specs.DeskView.{slot_book}
+use Rattle.live_core.proofs.Common.{least_unfit, slot_book}
 use Rattle.live_core.proofs.held.LiveCore.least_unfit.Given as goal
 
 abbrev pub invariant-loop-op : goal.invariant-loop-op

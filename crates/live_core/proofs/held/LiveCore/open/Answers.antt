@@ -1,10 +1,5 @@
 use Rattle.std.proofs.Common.{ℕ, List, map, ap, ap₂, ◌∙◌}
-use Rattle.plant.specs.declared.consts.ConstsFields.{ConstsFields}
-use Rattle.plant.specs.declared.operator_row.RowFields.{RowFields}
-use Rattle.run_model.specs.Opened.{started_core}
-use Rattle.live_core.specs.LiveOperator.{sound_of}
-use Rattle.live_core.specs.LiveView.{live_view}
-use Rattle.live_core.specs.Resumed.{start_with}
+use Rattle.live_core.proofs.Common.{ConstsFields, RowFields, started_core, sound_of, live_view, start_with}
 use Rattle.live_core.proofs.OpenLemmas.{as_opened, opened_view, opened_is_after, rows_seen, consts_seen}
 use Rattle.live_core.proofs.held.LiveCore.open.Goals as goal
 

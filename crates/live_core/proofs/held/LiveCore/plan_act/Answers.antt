@@ -1,6 +1,5 @@
 use Rattle.std.proofs.Common.{◌∙◌}
-use Rattle.live_core.specs.DeskView.{slot_book}
-use Rattle.live_core.specs.LiveView.{live_view}
+use Rattle.live_core.proofs.Common.{slot_book, live_view}
 use Rattle.live_core.proofs.PlaceLemmas.{seen_at}
 use Rattle.live_core.proofs.StepLemmas.{told_at}
 use Rattle.live_core.proofs.PartLemmas.{acts_as_its_own}

@@ -1,6 +1,5 @@
 use Rattle.std.proofs.Common.{Ok, refl, ap, ◌∙◌, arith}
-use Rattle.live_core.specs.DeskView.{slot_book, slot_waiting}
-use Rattle.live_core.specs.LiveView.{live_view}
+use Rattle.live_core.proofs.Common.{slot_book, slot_waiting, live_view}
 use Rattle.live_core.proofs.RestFaultLemmas.{desk_has_fault, desk_rests_more, first_seen_at, no_fault}
 use Rattle.live_core.proofs.held.LiveCore.resting_frame.Goals as goal
 

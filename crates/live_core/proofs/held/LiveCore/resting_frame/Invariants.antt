@@ -1,7 +1,5 @@
 use Rattle.std.proofs.Common.{map, take}
-use Rattle.live_core.specs.Reachable.{core_of}
-use Rattle.live_core.specs.DeskView.{slot_book, slot_waiting}
-use Rattle.live_core.specs.Resting.{Rests}
+use Rattle.live_core.proofs.Common.{core_of, slot_book, slot_waiting, Rests}
 use Rattle.live_core.proofs.held.LiveCore.resting_frame.Given as goal
 
 -- the operators so far rest before the first one's frame

@@ -1,7 +1,6 @@
 use Rattle.std.proofs.Common.{map, refl, sym, ap, ◌∙◌, subst}
-use Rattle.live_core.specs.LiveOperator.{sound_of}
+use Rattle.live_core.proofs.Common.{sound_of, first_from, IsResumeFault}
 use Rattle.live_core.proofs.ResumeLemmas.{seen_may_same, alike_same, gathers_same, resumed_view, resumed_after, resumed_reaches, resumed_fresh}
-use Rattle.live_core.specs.Resumed.{first_from, IsResumeFault}
 use Rattle.live_core.proofs.ResumeFaultLemmas.{handed_on, together, odd_fault, memory_fault}
 use Rattle.live_core.proofs.held.LiveCore.resume.Goals as goal
 

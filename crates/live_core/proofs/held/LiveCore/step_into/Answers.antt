@@ -1,10 +1,6 @@
 use Rattle.std.proofs.Common.{[], List, append-nil, refl, sym, subst}
-use Rattle.std.proofs.lemmas.Result.{on_ok_weaker}
-use Rattle.operator_model.specs.declared.action.SliceRow.{SliceRow}
+use Rattle.live_core.proofs.Common.{on_ok_weaker, SliceRow, Reslices, Performs, live_view}
 use Rattle.run_model.specs.declared.step.Step.TheVariants as steps
-use Rattle.run_model.specs.Steps.{Reslices}
-use Rattle.live_core.specs.Performing.{Performs}
-use Rattle.live_core.specs.LiveView.{live_view}
 use Rattle.live_core.proofs.PartLemmas.{step_is}
 use Rattle.live_core.proofs.held.LiveCore.step_into.Goals as goal
 

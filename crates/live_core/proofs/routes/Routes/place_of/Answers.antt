@@ -1,7 +1,5 @@
 use Rattle.std.proofs.Common.{sym, ◌∙◌, ap}
-use Rattle.plant.specs.declared.plant.PlantFields.{PlantFields}
-use Rattle.plant.specs.Row.{same_modem}
-use Rattle.plant.specs.Roster.{holder}
+use Rattle.live_core.proofs.Common.{PlantFields, same_modem, holder}
 use Rattle.live_core.proofs.CachedLemmas.{promoted_right, lookup_right}
 use Rattle.live_core.proofs.routes.Routes.place_of.Goals as goal
 

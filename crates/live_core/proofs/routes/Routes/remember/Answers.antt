@@ -1,6 +1,5 @@
 use Rattle.std.proofs.Common.{◌∙◌, ap}
-use Rattle.plant.specs.declared.plant.PlantFields.{PlantFields}
-use Rattle.plant.specs.Roster.{holder}
+use Rattle.live_core.proofs.Common.{PlantFields, holder}
 use Rattle.live_core.proofs.CachedLemmas.{after_put_right}
 use Rattle.live_core.proofs.routes.Routes.remember.Goals as goal
 

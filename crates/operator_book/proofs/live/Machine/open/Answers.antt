@@ -1,6 +1,5 @@
 use Rattle.std.proofs.Common.{◌≡◌, ap, subst, IfOk}
-use Rattle.plant.specs.declared.consts.ConstsFields.{ConstsFields}
-use Rattle.operator_model.specs.State.{OperatorState, operator, opened_state, opened_before}
+use Rattle.operator_book.proofs.Common.{ConstsFields, OperatorState, operator, opened_state, opened_before}
 use Rattle.operator_book.proofs.live.Machine.open.Goals as goal
 
 -- a machine that is opened before the plant's first frame is the machine that is opened

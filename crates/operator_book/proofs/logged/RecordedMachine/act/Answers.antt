@@ -1,7 +1,5 @@
 use Rattle.std.proofs.Common.{sym, ap, subst, ◌∙◌}
-use Rattle.operator_model.specs.Machine.{IsAllowed}
-use Rattle.operator_model.specs.Replay.{BookView, operator_of_book}
-use Rattle.operator_book.specs.Kept.{HeldBook}
+use Rattle.operator_book.proofs.Common.{IsAllowed, BookView, operator_of_book, HeldBook}
 use Rattle.operator_book.proofs.Replays.{replay_push}
 use Rattle.operator_book.proofs.logged.RecordedMachine.act.Goals as goal
 

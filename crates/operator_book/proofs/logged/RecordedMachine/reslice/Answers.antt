@@ -1,9 +1,6 @@
 use Rattle.std.proofs.Common.{sym, ap, subst, ◌∙◌}
 use Rattle.operator_model.specs.declared.action.Action.TheVariants as actions
-use Rattle.operator_model.specs.Machine.{IsAllowed}
-use Rattle.operator_model.specs.Handle.{StepResult}
-use Rattle.operator_model.specs.Replay.{BookView, operator_of_book}
-use Rattle.operator_book.specs.Kept.{HeldBook}
+use Rattle.operator_book.proofs.Common.{IsAllowed, StepResult, BookView, operator_of_book, HeldBook}
 use Rattle.operator_book.proofs.Replays.{replay_push, resliced_is, reslice_allowed}
 use Rattle.operator_book.proofs.logged.RecordedMachine.reslice.Goals as goal
 

@@ -1,6 +1,5 @@
 use Rattle.std.proofs.Common.{rules}
-use Rattle.operator_model.specs.Verdict.{changed_flow}
-use Rattle.std.specs.Prelude.{Some, true, false}
+use Rattle.operator_book.proofs.Common.{changed_flow, Some, true, false}
 use Rattle.operator_book.specs.Held.{flow_table_of}
 use Rattle.operator_book.proofs.Room.{same_may_stand, given_may_stand}
 use Rattle.operator_book.proofs.machine.MachineState.change_within_limit.Goals as goal

@@ -1,7 +1,6 @@
 use Rattle.std.proofs.Common.{◌≡◌, rules, sym, ap, ◌∙◌}
 use Rattle.slice_scheduler.specs.declared.flowing.AtFields.{AtFields}
-use Rattle.flow_table.specs.Table.{flowing_in}
-use Rattle.operator_model.specs.Frame.{at_frame, flows_left}
+use Rattle.operator_book.proofs.Common.{flowing_in, at_frame, flows_left}
 use Rattle.operator_book.proofs.Serving.{same_elements, same_grants}
 use Rattle.operator_book.proofs.machine.MachineState.frame_schedule.Goals as goal
 

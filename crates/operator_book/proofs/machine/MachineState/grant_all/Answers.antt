@@ -1,7 +1,5 @@
-use Rattle.operator_model.specs.State.{Operator}
+use Rattle.operator_book.proofs.Common.{Operator, at_drop_more, all_granted}
 use Rattle.std.proofs.Common.{ℕ, ◌+◌, List, drop, ap, sym, ◌∙◌}
-use Rattle.std.proofs.lemmas.List.{at_drop_more}
-use Rattle.operator_model.specs.Frame.{all_granted}
 use Rattle.operator_book.proofs.machine.MachineState.grant_all.Goals as goal
 
 abbrev after : ℕ → List (ℕ × ℕ) → Operator → Operator

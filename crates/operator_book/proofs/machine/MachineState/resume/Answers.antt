@@ -1,6 +1,5 @@
 use Rattle.std.proofs.Common.{ℕ, List, subst}
-use Rattle.flow_table.specs.declared.flow.Flow.{Flow}
-use Rattle.flow_table.specs.Table.{HaveOwnSids}
+use Rattle.operator_book.proofs.Common.{Flow, HaveOwnSids}
 use Rattle.operator_book.proofs.machine.MachineState.resume.Goals as goal
 
 -- the flows of the table are those of the state

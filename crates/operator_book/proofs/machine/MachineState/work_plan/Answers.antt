@@ -1,9 +1,6 @@
 use Rattle.std.proofs.Common.{◌≡◌, rules, refl, subst, IfOk}
-use Rattle.std.specs.Prelude.{Some, length, slice_get}
-use Rattle.std.proofs.lemmas.Option.{slice_get_read}
-use Rattle.dsx_messages.specs.Reading.{message_of}
+use Rattle.operator_book.proofs.Common.{Some, length, slice_get, slice_get_read, message_of, StepResult}
 use Rattle.operator_model.specs.declared.heard.Heard.TheVariants as heards
-use Rattle.operator_model.specs.Handle.{StepResult}
 use Rattle.operator_book.specs.Planned.{IsPlanFor}
 use Rattle.operator_book.proofs.Inbox.{worked_is}
 use Rattle.operator_book.proofs.machine.MachineState.work_plan.Goals as goal

@@ -1,10 +1,6 @@
-use Rattle.std.specs.Prelude.{List}
+use Rattle.pcap_capture.proofs.Common.{List, Packet, file_of, CaptureView, AreRead}
 use Rattle.std.proofs.Common.{ap, subst, ◌∙◌}
 use Rattle.std.proofs.lemmas.Result.{IfOk-weaker}
-use Rattle.pcap_capture.specs.declared.packet.Packet.{Packet}
-use Rattle.pcap_capture.specs.File.{file_of}
-use Rattle.pcap_capture.specs.Capture.{CaptureView}
-use Rattle.pcap_capture.specs.Laws.{AreRead}
 use Rattle.pcap_capture.proofs.AddressLemmas.{are_read}
 use Rattle.pcap_capture.proofs.capture.Capture.to_bytes.Goals as goal
 

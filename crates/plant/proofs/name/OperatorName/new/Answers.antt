@@ -1,8 +1,6 @@
 use Rattle.std.proofs.Common.{ℕ, rules, length-append, ◌≡◌, ◌-◌, ◌≤◌, true, List, ◌++◌, length, take, drop, arith, ap, ◌∙◌}
-use Rattle.std.specs.Prelude.{replicate}
+use Rattle.plant.proofs.Common.{replicate, list_all, take_at, drop-replicate, length-replicate}
 use Rattle.std.specs.Char.{is_ascii_alphanumeric}
-use Rattle.std.specs.List.{list_all}
-use Rattle.std.proofs.lemmas.List.{take_at, drop-replicate, length-replicate}
 use Rattle.lists.specs.Padding.{IsPaddedName}
 use Rattle.plant.specs.Name.{IsOperatorName}
 use Rattle.plant.proofs.name.OperatorName.new.Goals as goal

@@ -1,8 +1,5 @@
 use Rattle.std.proofs.Common.{sym, subst, ◌∙◌}
-use Rattle.operator_model.specs.declared.action.Action.{Action}
-use Rattle.live_core.specs.LiveView.{live_view}
-use Rattle.live_core.specs.Planning.{IsActPlan}
-use Rattle.plant_core.specs.RecordView.{record_view}
+use Rattle.plant_core.proofs.Common.{Action, live_view, IsActPlan, record_view}
 use Rattle.plant_core.proofs.RecordLemmas.{is_of}
 use Rattle.plant_core.proofs.StepLemmas.{plan_behind, same_act_fault}
 use Rattle.plant_core.proofs.recorded.RecordedCore.act_if.Goals as goal

@@ -1,8 +1,5 @@
 use Rattle.std.proofs.Common.{ap}
-use Rattle.run_model.specs.IsStateAfter.{CoreView}
-use Rattle.live_core.specs.LiveView.{live_view}
-use Rattle.live_core.proofs.ReachLemmas.{arrives}
-use Rattle.plant_core.specs.RecordView.{record_view}
+use Rattle.plant_core.proofs.Common.{CoreView, live_view, arrives, record_view}
 use Rattle.plant_core.proofs.RecordLemmas.{is_of}
 use Rattle.plant_core.proofs.StepLemmas.{none_refuses}
 use Rattle.plant_core.proofs.recorded.RecordedCore.arrive.Goals as goal

@@ -1,6 +1,5 @@
 use Rattle.std.proofs.Common.{map, refl, ◌∙◌}
-use Rattle.operator_book.specs.Kept.{HeldHistory}
-use Rattle.live_core.specs.LiveView.{live_view}
+use Rattle.plant_core.proofs.Common.{HeldHistory, live_view}
 use Rattle.plant_core.proofs.RecordLemmas.{is_of, still_belongs, same_view, has_history, alike_at, act_recorded}
 use Rattle.plant_core.proofs.StepLemmas.{plan_at_live}
 use Rattle.plant_core.proofs.WaitingLemmas.{on_err}

@@ -1,6 +1,5 @@
 use Rattle.std.proofs.Common.{map}
-use Rattle.operator_book.specs.Kept.{HeldHistory}
-use Rattle.live_core.specs.LiveView.{live_view}
+use Rattle.plant_core.proofs.Common.{HeldHistory, live_view}
 use Rattle.plant_core.proofs.RecordLemmas.{collected_belongs, collected}
 use Rattle.plant_core.proofs.recorded.RecordedCore.collect.Goals as goal
 

@@ -1,13 +1,5 @@
 use Rattle.std.proofs.Common.{List, [], ◌∷◌, ◌++◌, sym, ap, ap₂, subst, ◌∙◌}
-use Rattle.operator_model.specs.declared.action.SliceRow.{SliceRow}
-use Rattle.operator_model.specs.declared.action.Entry.{Entry}
-use Rattle.run_model.specs.Steps.{Reslices}
-use Rattle.live_core.specs.Performing.{Performs}
-use Rattle.live_core.specs.LiveView.{live_view}
-use Rattle.live_core.specs.Reslicing.{reslice_fault}
-use Rattle.plant_core.specs.declared.slice_change.SliceChange.{SliceChange}
-use Rattle.plant_core.specs.Recorded.{histories_after_reslice}
-use Rattle.plant_core.specs.RecordView.{record_view}
+use Rattle.plant_core.proofs.Common.{SliceRow, Entry, Reslices, Performs, live_view, reslice_fault, SliceChange, histories_after_reslice, record_view}
 use Rattle.plant_core.proofs.RecordLemmas.{is_of, reslices_recorded}
 use Rattle.plant_core.proofs.StepLemmas.{same_reslice_fault}
 use Rattle.plant_core.proofs.recorded.RecordedCore.give.Goals as goal

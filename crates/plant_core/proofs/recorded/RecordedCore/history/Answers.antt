@@ -1,7 +1,5 @@
 use Rattle.std.proofs.Common.{option_map, List, Some, ap, sym, ◌∙◌, arith}
-use Rattle.std.proofs.lemmas.Option.{slice_get_read, slice_get_past}
-use Rattle.operator_model.specs.declared.action.Entry.{Entry}
-use Rattle.operator_book.specs.Kept.{HeldHistory}
+use Rattle.plant_core.proofs.Common.{slice_get_read, slice_get_past, Entry, HeldHistory}
 use Rattle.plant_core.proofs.RecordLemmas.{history_at}
 use Rattle.plant_core.proofs.recorded.RecordedCore.history.Goals as goal
 

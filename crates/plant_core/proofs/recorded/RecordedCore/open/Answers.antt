@@ -1,8 +1,5 @@
 use Rattle.std.proofs.Common.{List, [], length, ap, ◌∙◌}
-use Rattle.std.specs.Prelude.{replicate}
-use Rattle.plant.specs.declared.operator_row.RowFields.{RowFields}
-use Rattle.plant.specs.declared.plant.PlantFields.{PlantFields}
-use Rattle.run_model.specs.IsStateAfter.{CoreView}
+use Rattle.plant_core.proofs.Common.{replicate, RowFields, PlantFields, CoreView}
 use Rattle.plant_core.proofs.OpenLemmas.{opened_belongs, opened_view}
 use Rattle.plant_core.proofs.recorded.RecordedCore.open.Goals as goal
 

@@ -1,6 +1,5 @@
 use Rattle.std.proofs.Common.{arith, ◌≡◌, ◌≤◌, length, Some, sym, ap, ◌∙◌}
-use Rattle.operator_book.specs.ViewOf.{policy_of}
-use Rattle.plant_passes.specs.Runs.{origin_of}
+use Rattle.plant_passes.proofs.Common.{policy_of, origin_of}
 use Rattle.plant_passes.specs.ViewOf.{cell_of, pass_of}
 use Rattle.plant_passes.proofs.Logs.{at_one}
 use Rattle.plant_passes.proofs.Cells.{popped_are_of, the_book}

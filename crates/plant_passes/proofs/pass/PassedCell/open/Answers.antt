@@ -1,6 +1,5 @@
 use Rattle.std.proofs.Common.{sym, ap, ◌∙◌}
-use Rattle.plant_passes.specs.Runs.{origin_of}
-use Rattle.plant_passes.specs.Passes.{pass_view}
+use Rattle.plant_passes.proofs.Common.{origin_of, pass_view}
 use Rattle.plant_passes.proofs.Cells.{first_are_of}
 use Rattle.plant_passes.proofs.pass.PassedCell.open.Goals as goal
 

@@ -1,8 +1,6 @@
 use Rattle.std.proofs.Common.{List, length, sym, ap, ◌∙◌, subst, map}
-use Rattle.operator_model.specs.Replay.{BookView}
+use Rattle.plant_workers.proofs.Common.{BookView, cell_book, IsResliceTold, IsOfReslice}
 use Rattle.live_core.specs.Reslicing.{reslice_fault}
-use Rattle.cell_state.specs.HeldView.{cell_book}
-use Rattle.plant_workers.specs.Faulting.{IsResliceTold, IsOfReslice}
 use Rattle.plant_workers.proofs.FaultLemmas.{told_of, is_told}
 use Rattle.plant_workers.proofs.run_state.RunState.reslice.Goals as goal
 

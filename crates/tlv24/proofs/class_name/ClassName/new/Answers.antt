@@ -1,9 +1,6 @@
 use Rattle.std.proofs.Common.{ℕ, rules, length-append, ◌≡◌, ◌-◌, ◌≤◌, ◌==◌, true, not, List, ◌++◌, length, take, drop, arith, ap, ◌∙◌}
-use Rattle.std.specs.Prelude.{replicate}
-use Rattle.std.specs.List.{list_all}
-use Rattle.std.proofs.lemmas.List.{take_at, drop-replicate, length-replicate}
+use Rattle.tlv24.proofs.Common.{replicate, list_all, take_at, drop-replicate, length-replicate, IsClassName}
 use Rattle.lists.specs.Padding.{IsPaddedName}
-use Rattle.tlv24.specs.Name.{IsClassName}
 use Rattle.tlv24.proofs.class_name.ClassName.new.Goals as goal
 
 padded_name : (name copied : List ℕ) → copied ≡ name → 1 ≤ length name → length name ≤ 15 → list_all (λ b. not (b == 0)) name ≡ true

@@ -1,7 +1,5 @@
 use Rattle.std.proofs.Common.{◌≡◌, ◌<◌, List, length, map, set, position, Some, ap, ◌∙◌, sym, subst}
-use Rattle.transactions.specs.declared.entry.KeptEntry.{KeptEntry}
-use Rattle.transactions.specs.Entry.{waits_for}
-use Rattle.transactions.specs.Keeping.{Keeping, entry_after_ack}
+use Rattle.transactions.proofs.Common.{KeptEntry, waits_for, Keeping, entry_after_ack}
 use Rattle.transactions.proofs.AckLemmas.{acknowledged_at, sfid_at, IsKept-hold}
 use Rattle.transactions.proofs.kept.Kept.acked_at.Goals as goal
 

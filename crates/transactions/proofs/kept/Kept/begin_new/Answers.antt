@@ -1,6 +1,5 @@
 use Rattle.std.proofs.Common.{◌≡◌, ◌<◌, length, find, None, ap, ◌∙◌, arith}
-use Rattle.transactions.specs.Entry.{is_of}
-use Rattle.transactions.specs.Keeping.{Keeping}
+use Rattle.transactions.proofs.Common.{is_of, Keeping}
 use Rattle.transactions.proofs.AckLemmas.{IsKept-begin, none_is}
 use Rattle.transactions.proofs.kept.Kept.begin_new.Goals as goal
 

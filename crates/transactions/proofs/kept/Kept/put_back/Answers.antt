@@ -1,6 +1,5 @@
 use Rattle.std.proofs.Common.{◌≡◌, ◌<◌, length, find, None, ap, ◌∙◌, arith}
-use Rattle.transactions.specs.Entry.{is_of}
-use Rattle.transactions.specs.Keeping.{Keeping}
+use Rattle.transactions.proofs.Common.{is_of, Keeping}
 use Rattle.transactions.proofs.AckLemmas.{IsKept-put_back, none_is}
 use Rattle.transactions.proofs.kept.Kept.put_back.Goals as goal
 

@@ -1,8 +1,5 @@
 use Rattle.std.proofs.Common.{count_by, filter, ap, ◌∙◌, sym}
-use Rattle.std.proofs.lemmas.List.{length-map}
-use Rattle.std.proofs.lemmas.List.Sums.{length-filter}
-use Rattle.transactions.specs.Timers.{is_resent, resend_of}
-use Rattle.transactions.specs.Keeping.{Keeping}
+use Rattle.transactions.proofs.Common.{length-map, length-filter, is_resent, resend_of, Keeping}
 use Rattle.transactions.proofs.kept.Kept.resend_count.Goals as goal
 
 pub returns-clause-value : goal.returns-clause-value

@@ -1,6 +1,5 @@
 use Rattle.std.proofs.Common.{◌≡◌, position, ap, ◌∙◌}
-use Rattle.transactions.specs.Entry.{waits_for}
-use Rattle.transactions.specs.Keeping.{Keeping}
+use Rattle.transactions.proofs.Common.{waits_for, Keeping}
 use Rattle.transactions.proofs.ListLemmas.{found_at}
 use Rattle.transactions.proofs.kept.Kept.waiting_place.Goals as goal
 
