@@ -13,10 +13,10 @@ An edit is a file in the folder must-fail of a crate. It has lines `file: PATH`,
 in the file once. Each pair is applied to the result of the pairs before it. If an edit changes no function, such as one of a constant, a
 line `function: PATH` names the function that must be refused.
 
-Edits of different functions are applied to one copy of the crate. In this copy the proof of every other function is left out, as a hole:
-the edited functions are proved over the contracts of what they call, as in any check, and nothing else is proved. If an edited function
-calls another edited one and no goal of its own is refused, it is tried again without that one. An edit that changes something outside of
-functions is tried alone.
+Edits of different functions are applied to one copy of the crate. In this copy the body and the proof of every other function are left
+out, and its contract stays: the edited functions are proved over the contracts of what they call, as in any check, and nothing else is
+proved. If an edited function calls another edited one and no goal of its own is refused, it is tried again without that one. An edit that
+changes something outside of functions is tried alone.
 
 Prints for each edit the function and the goals that the prover refused. Exits with 1 if an edit is not refused, cannot be applied or does
 not compile. --unedited tries the same functions as they are. Each must be proved: so what refuses an edit is the edit, and not the holes.

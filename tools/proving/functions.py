@@ -1,4 +1,4 @@
-"""The functions of a crate's source, as the prover names them, and the crate with the proofs of some of them left out."""
+"""The functions of a crate's source, as the prover names them, and the crate with bodies and proofs of some of them left out."""
 
 import dataclasses
 import pathlib
@@ -12,15 +12,22 @@ HIDDEN = re.compile(r'//[^\n]*|/\*.*?\*/|b?r?"(?:\\.|[^"\\])*"|b?\'(?:\\.[^\']*|
 BLOCK = re.compile(r"(?P<brace>[{}])|\b(?P<kind>fn|impl|mod|trait)\b")
 TYPE = re.compile(r"\b(?:struct|enum|union|trait)\s+(\w+)")
 TESTS = re.compile(r"(^|/)tests(\.rt$|/)")
+CONST = re.compile(r"\bconst\s+(?:unsafe\s+)?$")
+NO_BODY = "{ unreachable!() }"
 
 
 @dataclasses.dataclass(frozen=True)
 class Function:
-    """A function: its path below the crate, whether it is of a trait's impl, and where its text begins and ends in its file."""
+    """A function: its path below the crate, whether it is of a trait's impl, whether constants can be made by it, and places in its file.
+
+    They are where its text begins, where its body begins, and where both end.
+    """
 
     path: str
     of_trait: bool
+    is_const: bool
     start: int
+    body: int
     end: int
 
 
@@ -39,8 +46,8 @@ def end_of_block(text, at):
     raise ValueError("a block has no end")
 
 
-def end_of_function(text, at):
-    """Returns the place after the body of a function, which stands after its clauses, or nothing if it has no body."""
+def body_of_function(text, at):
+    """Returns where the body of a function begins and ends, which stands after its clauses, or nothing if it has no body."""
     while (brace := text.find("{", at)) >= 0:
         before = text[at:brace]
         is_clause = CLAUSE.search(before)
@@ -48,7 +55,7 @@ def end_of_function(text, at):
             return None
         at = end_of_block(text, brace)
         if not is_clause:
-            return at
+            return brace, at
     return None
 
 
@@ -116,12 +123,14 @@ def functions_of(text, file, types):
             at = end_of_block(text, block.start())
         elif block["kind"] == "fn":
             name = re.match(r"\s+(\w+)", text[at:])
-            end = end_of_function(text, at) if name else None
-            if end:
+            body = body_of_function(text, at) if name else None
+            if body:
                 names = [scope for scope, _ in scopes]
                 module = types.get(names[0], module_of(file)) if names else module_of(file)
-                found.append(Function("::".join([*module, *names, name[1]]), any(of_trait for _, of_trait in scopes), block.start(), end))
-                at = end
+                path = "::".join([*module, *names, name[1]])
+                is_const = bool(CONST.search(text[: block.start()]))
+                found.append(Function(path, any(of_trait for _, of_trait in scopes), is_const, block.start(), *body))
+                at = body[1]
         elif opened := re.compile(r"[^{;]*\{").match(text, at):
             of_trait = block["kind"] == "trait" or " for " in without_angles(opened[0])
             scopes.append((name_of_impl(opened[0]), of_trait))
@@ -147,18 +156,26 @@ def source_files(texts):
 
 
 def with_holes(crate, texts, kept):
-    """Returns the texts of a crate in which the proofs of all functions but those that are kept are left out."""
-    functions = functions_of_crate(texts)
-    texts = dict(texts)
-    for function in functions:
-        folder = f"proofs/{function.path.replace('::', '/')}"
-        files = [f"{folder}/{name}.antt" for name in PROOFS if f"{folder}/{name}.antt" in texts]
-        if function.path in kept or function.of_trait and not files:
-            continue
-        for file in files:
-            del texts[file]
-        texts[f"{folder}/Proof.antt"] = hole(crate, function.path)
-    return texts
+    """Returns the texts of a crate in which the bodies and the proofs of all functions but those that are kept are left out.
+
+    A function is proved over the contracts of what it calls. So the other bodies show nothing, but the prover would look at each of them,
+    and at what they call. What constants can be made by keeps its body.
+    """
+    types = modules_of_types(texts)
+    changed = dict(texts)
+    for file in source_files(texts):
+        # From the last one on, so that the places of those before it stay.
+        for function in reversed(functions_of(texts[file], file, types)):
+            folder = f"proofs/{function.path.replace('::', '/')}"
+            proofs = [f"{folder}/{name}.antt" for name in PROOFS if f"{folder}/{name}.antt" in texts]
+            if function.path in kept or function.of_trait and not proofs:
+                continue
+            for proof in proofs:
+                changed.pop(proof, None)
+            changed[f"{folder}/Proof.antt"] = hole(crate, function.path)
+            if not function.is_const:
+                changed[file] = changed[file][: function.body] + NO_BODY + changed[file][function.end :]
+    return changed
 
 
 def hole(crate, path):

@@ -154,6 +154,14 @@ class Holes(unittest.TestCase):
         left = {"src/held.rt", "src/tests.rt", "proofs/Lib.antt", "proofs/held/first/Answers.antt"}
         self.assertEqual(texts.keys() & changed.keys(), left)
 
+    def test_their_bodies_are_left_out_but_not_what_constants_are_made_by(self):
+        source = SOURCE.replace("    fn last() {}\n", "    fn last() {}\n    pub const fn most() -> usize { 4 }\n")
+        changed = with_holes("lists", {"src/held.rt": source, "proofs/held/Rule/twice/Answers.antt": "an answer\n"}, {"held::first"})
+        body = "{ unreachable!() }"
+        copy = "{\n        let done = |item: &T| { item.clone() };\n        done(self.items)\n    }"
+        expected = source.replace(copy, body).replace("u8 { 2 }", f"u8 {body}").replace("fn last() {}", f"fn last() {body}")
+        self.assertEqual(changed["src/held.rt"], expected)
+
 
 # What the prover prints, with the lines that say nothing of functions left out.
 PRINTED = """\
