@@ -159,7 +159,7 @@ def with_holes(crate, texts, kept):
     """Returns the texts of a crate in which the bodies and the proofs of all functions but those that are kept are left out.
 
     A function is proved over the contracts of what it calls. So the other bodies show nothing, but the prover would look at each of them,
-    and at what they call. What constants can be made by keeps its body.
+    and at what they call. What constants can be made by keeps its body, and a function of a trait that has no proof file stays as it is.
     """
     types = modules_of_types(texts)
     changed = dict(texts)
