@@ -15,7 +15,7 @@ use grant_policy::Ranking;
 use operator_model::{Output, given_up_have_no_grants, schedule_can_serve};
 use slice_scheduler::{At, AtFields, Elements, Served, schedule};
 use std::alloc::{AllocError, Global};
-use transactions::{GivenUp, Resends};
+use transactions::{GivenUp, Resends, Ticked};
 
 /// Returns the outputs of a tick: what is retransmitted, then the frame.
 fn frame_outputs(
@@ -116,10 +116,9 @@ impl MachineState {
         ensures { IfOk result (IsPlanFor self.now (tick_result self.now)) }
     {
         let Served { elements, granted } = self.frame_schedule(alloc, ranking)?;
-        let resends = self.kept.resends(alloc)?;
-        let given_up = self.kept.given_ups(alloc)?;
+        let Ticked { resend, given_up } = self.kept.due(alloc)?;
         Ok(Plan {
-            outputs: frame_outputs(alloc, resends, self.frame, elements)?,
+            outputs: frame_outputs(alloc, resend, self.frame, elements)?,
             effect: Effect::Ticked { granted, given_up },
         })
     }

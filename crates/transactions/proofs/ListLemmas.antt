@@ -1,5 +1,5 @@
 -- Lists that a pass takes from, changes, or writes to at one place.
-use Rattle.std.proofs.Common.{◌≡◌, ℕ, zero, suc, ◌+◌, ◌<◌, ◌≤◌, Bool, true, false, cond, List, [], ◌∷◌, ◌++◌, length, get_or, set, take, slice_get, nat_lt, map, filter, count_by, Option, Some, None, is_some, IsSome, IfSome, IfNone, All, refl, sym, ap, ◌∙◌, subst, arith}
+use Rattle.std.proofs.Common.{◌≡◌, ℕ, zero, suc, ◌+◌, ◌<◌, ◌≤◌, Bool, true, false, cond, List, [], ◌∷◌, ◌++◌, length, get_or, set, take, slice_get, nat_lt, map, filter, count_by, Option, Some, None, is_some, IsSome, IfSome, IfNone, Result, Ok, Err, OnErr, All, refl, sym, ap, ◌∙◌, subst, arith}
 use Rattle.std.specs.List.Retain.{RetainsInTurn}
 use Rattle.transactions.proofs.Common.{find, position, position_or_len, true≢false, ltb-false, append-nil, map-append, All-filter, filter_passes, filter_more, All-map, position-Some, sum_by-cons, sum_by_more_le, position_or_len_is}
 use Rattle.std.proofs.lemmas.Option.{none-some, slice_get-get_or, slice_get_past}
@@ -29,6 +29,11 @@ told_there {X} {Y} p f (x ∷ xs) (suc i) d lt passes none =
     step : (b : Bool) → map f (cond b (x ∷ filter p xs) (filter p xs)) ≡ [] → (map f (filter p xs) ≡ [] → ⊥) → ⊥
     step true some rest = cc
     step false rest_none rest = rest rest_none
+
+-- what is known of a failed call, whatever it returned
+pub on_err : {T E : Type 0} {P : Type 0} (r : Result T E) → P → OnErr r P
+on_err (Ok x) p = tt
+on_err (Err y) p = p
 
 -- one more element, and what a filter's image has then
 module _ {X Y : Type 0} (p : X → Bool) (f : X → Y) (xs : List X) (i : ℕ) (x : X) (lt : i < length xs) (is : x ≡ get_or xs i x) (ys : List Y) (eq : ys ≡ map f (filter p (take i xs))) where

@@ -8,7 +8,7 @@ ghost use Rattle.transactions.specs.Timers.{is_resent, resent_in, given_up_in, k
 ghost use Rattle.transactions.specs.Keeping.{begun_entry, entry_after_ack, OneEach, HasTicks, IsHeldUnsent};
 
 use crate::entry::KeptEntry;
-use crate::tick::{GivenUps, Resends, Ticked, count_down, given_ups_in, resends_in};
+use crate::tick::{Ticked, count_down, due_in};
 use crate::timers::Timers;
 use dsx_messages::{Kind, Modem};
 use std::alloc::{AllocError, Global};
@@ -45,8 +45,8 @@ impl Model for Kept {
 }
 
 impl Kept {
-    /// Returns no entries, and room for `capacity` of them. Of the other calls only `tick`, `resends`
-    /// and `given_ups` take memory.
+    /// Returns no entries, and room for `capacity` of them. Of the other calls only `tick` and `due`
+    /// take memory.
     pub fn new(alloc: Global, capacity: u32, timers: Timers) -> Result<Kept, AllocError>
         ensures { IfOk result (λ kept. kept ≡ record { capacity = capacity; waits = timers; entries = [] }) }
     {
@@ -190,30 +190,22 @@ impl Kept {
         ensures quiet { resent_in self.old.entries ≡ [] → given_up_in self.old.entries ≡ [] → IsOk result }
         ensures err { OnErr result (self.new ≡ self.old) }
     {
-        let resend = self.resends(alloc)?;
-        let given_up = self.given_ups(alloc)?;
+        let ticked = self.due(alloc)?;
         self.count_down();
-        Ok(Ticked { resend, given_up })
+        Ok(ticked)
     }
 
-    /// Returns what the next tick retransmits: copies, for a caller that wants them before the tick
-    /// changes anything. Takes no memory if there is nothing.
-    pub fn resends(&self, alloc: Global) -> Result<Resends, AllocError>
-        ensures ok { IfOk result (λ resend. resend ≡ resent_in self.now.entries) }
-        ensures err { OnErr result (resent_in self.now.entries ≢ []) }
+    /// Returns what `tick` would report, for a caller that wants it before anything changes. Takes no
+    /// memory if a tick sends nothing again and gives nothing up.
+    pub fn due(&self, alloc: Global) -> Result<Ticked, AllocError>
+        ensures resend { IfOk result (λ told. told.resend ≡ resent_in self.now.entries) }
+        ensures given_up { IfOk result (λ told. told.given_up ≡ given_up_in self.now.entries) }
+        ensures quiet { resent_in self.now.entries ≡ [] → given_up_in self.now.entries ≡ [] → IsOk result }
     {
-        resends_in(alloc, self.entries.as_slice())
+        due_in(alloc, self.entries.as_slice())
     }
 
-    /// Returns what the next tick abandons. Takes no memory if there is nothing.
-    pub fn given_ups(&self, alloc: Global) -> Result<GivenUps, AllocError>
-        ensures ok { IfOk result (λ given_up. given_up ≡ given_up_in self.now.entries) }
-        ensures err { OnErr result (given_up_in self.now.entries ≢ []) }
-    {
-        given_ups_in(alloc, self.entries.as_slice())
-    }
-
-    /// Counts one tick, for a caller that has `resends` and `given_ups` already. Takes no memory.
+    /// Counts one tick, for a caller that has what `due` returns. Takes no memory.
     pub fn count_down(&mut self)
         ensures { self.new ≡ record self.old { entries = kept_after self.old.waits self.old.entries } }
     {

@@ -44,13 +44,15 @@ pub struct Ticked {
     pub given_up: GivenUps,
 }
 
-/// Copies of the responses that the next tick retransmits. Takes no memory where there are none.
+/// Returns what the next tick retransmits, as copies, and what it abandons, in one walk. Takes no memory where there is neither.
 #[tactic(auto, using(crate::proofs::ListLemmas::told_there))]
-pub(crate) fn resends_in(alloc: Global, entries: &[KeptEntry]) -> Result<Resends, AllocError>
-    ensures ok { IfOk result (λ resend. resend ≡ resent_in entries.now) }
-    ensures err { OnErr result (resent_in entries.now ≢ []) }
+pub(crate) fn due_in(alloc: Global, entries: &[KeptEntry]) -> Result<Ticked, AllocError>
+    ensures resend { IfOk result (λ told. told.resend ≡ resent_in entries.now) }
+    ensures given_up { IfOk result (λ told. told.given_up ≡ given_up_in entries.now) }
+    ensures err { OnErr result (resent_in entries.now ≡ [] → given_up_in entries.now ≢ []) }
 {
     let mut resends = Vec::new(alloc);
+    let mut given_ups = Vec::new(alloc);
     for entry in entries {
         if entry.is_resent() {
             let reply = entry.reply.copy(alloc)?;
@@ -59,18 +61,6 @@ pub(crate) fn resends_in(alloc: Global, entries: &[KeptEntry]) -> Result<Resends
                 reply,
             })?;
         }
-    }
-    Ok(Listed::from_vec(resends))
-}
-
-/// Returns the transactions that the next tick abandons. Takes no memory where there are none.
-#[tactic(auto, using(crate::proofs::ListLemmas::told_there))]
-pub(crate) fn given_ups_in(alloc: Global, entries: &[KeptEntry]) -> Result<GivenUps, AllocError>
-    ensures ok { IfOk result (λ given_up. given_up ≡ given_up_in entries.now) }
-    ensures err { OnErr result (given_up_in entries.now ≢ []) }
-{
-    let mut given_ups = Vec::new(alloc);
-    for entry in entries {
         if entry.is_given_up() {
             given_ups.push(GivenUp {
                 kind: entry.kind,
@@ -78,7 +68,10 @@ pub(crate) fn given_ups_in(alloc: Global, entries: &[KeptEntry]) -> Result<Given
             })?;
         }
     }
-    Ok(Listed::from_vec(given_ups))
+    Ok(Ticked {
+        resend: Listed::from_vec(resends),
+        given_up: Listed::from_vec(given_ups),
+    })
 }
 
 /// Forgets entries whose time ends, and counts the others one tick down.

@@ -74,8 +74,8 @@ fn run_out(alloc: Global, kept: &mut Kept) -> bool {
 
 /// Returns whether a tick would send two responses again.
 fn two_would_be_sent(alloc: Global, kept: &Kept) -> bool {
-    match &again!(kept.resends(alloc)) {
-        Ok(resends) => resends.as_slice().len() == 2,
+    match &again!(kept.due(alloc)) {
+        Ok(due) => due.resend.as_slice().len() == 2,
         Err(_) => false,
     }
 }
