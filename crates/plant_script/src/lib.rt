@@ -16,6 +16,7 @@ mod one;
 mod operator_a;
 mod program;
 mod progress;
+mod rankings;
 mod running;
 mod serving;
 mod status;

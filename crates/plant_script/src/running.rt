@@ -17,11 +17,12 @@ use crate::answer::Answer;
 use crate::capturing::answer_of_capture;
 use crate::ending::{Ending, put_away, refused_line, write_end, write_fault, write_outcome};
 use crate::input::AnswerFault;
+use crate::rankings::rankings_of;
 use crate::status::Status;
 use crate::task::Task;
 use crate::tracing::write_traced_run;
 use command_line::RunReport;
-use grant_policy::{RankInput, Ranking, rank_by};
+use grant_policy::Ranking;
 use line_service::{NoNotes, open_core, run_steps};
 use live_core::{CoreOpenFault, LiveCore};
 use plant::{Op, Plant};
@@ -234,18 +235,10 @@ pub fn write_ranked<W: Write>(
     ensures { IfOk result (λ status. IsWritten (RunsTo task.plant task.report script.now task.lines.items) (status_code status)
         (λ text. Appends (W.contents writer.old) (W.contents writer.new) text)) }
 {
-    let mut rankings = Vec::new(alloc);
-    for row in task.plant.rows() {
-        let policy = row.get_fields().policy;
-        let Ok(rank) = Box::new(alloc, move |input: RankInput| -> u8 {
-            rank_by(policy, &input)
-        }) else {
-            return write_fault(writer, AnswerFault::Memory);
-        };
-        let ranking = Ranking::new(row.get_fields().policy, rank);
-        if rankings.push(ranking).is_err() {
-            return write_fault(writer, AnswerFault::Memory);
-        }
-    }
+    let rankings = rankings_of!(
+        alloc,
+        task.plant,
+        return write_fault(writer, AnswerFault::Memory)
+    );
     write_task(alloc, task, script, rankings, ending, writer)
 }

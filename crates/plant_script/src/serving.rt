@@ -11,8 +11,9 @@ use crate::answer::Answer;
 use crate::check::answer_to_fault;
 use crate::ending::{write_answer, write_fault};
 use crate::input::AnswerFault;
+use crate::rankings::rankings_of;
 use crate::status::Status;
-use grant_policy::{RankInput, Ranking, rank_by};
+use grant_policy::Ranking;
 use line_service::{LineBuffer, NoNotes, open_core, read_plant_text, serve};
 use plant::Plant;
 use slice_table::{PlantFault, read_plant};
@@ -108,19 +109,11 @@ fn serve_plant<R: BufRead, W: Write>(
     ensures { IfOk result (λ status. EndsService service.plant (R.remaining reader.old) (status_code status)
         (λ text. Appends (W.contents writer.old) (W.contents writer.new) text)) }
 {
-    let mut rankings = Vec::new(alloc);
-    for row in service.plant.rows() {
-        let policy = row.get_fields().policy;
-        let Ok(rank) = Box::new(alloc, move |input: RankInput| -> u8 {
-            rank_by(policy, &input)
-        }) else {
-            return write_fault(writer, AnswerFault::Memory);
-        };
-        let ranking = Ranking::new(row.get_fields().policy, rank);
-        if rankings.push(ranking).is_err() {
-            return write_fault(writer, AnswerFault::Memory);
-        }
-    }
+    let rankings = rankings_of!(
+        alloc,
+        service.plant,
+        return write_fault(writer, AnswerFault::Memory)
+    );
     serve_ranked(alloc, service, rankings, reader, writer)
 }
 

@@ -31,8 +31,8 @@ use crate::new_frame::{answer_frame, asks_frame, take_frame};
 use crate::new_plant::{ItemOutcome, WaitingItem, WaitingLine};
 use crate::notes::RefusalNotes;
 use crate::plant_file::{break_after, plant_of_file, read_plant_file};
+use crate::rankings::rankings_of;
 use crate::service::{ServiceState, number_after};
-use grant_policy::{RankInput, Ranking, rank_by};
 use line_service::{LineBreak, LineBuffer, read_line};
 use plant_restart::{RestartFault, RestoreFault, change, restore};
 use std::alloc::Global;
@@ -178,19 +178,7 @@ pub(crate) fn serve_begun<R: BufRead, W: Write, N: RefusalNotes>(
     ensures { IfOk result (λ end. EndsBegun at_end begun.plant begun.saved (R.remaining reader.old) (W.contents writer.old)
         (W.contents writer.new) end) }
 {
-    let mut rankings = Vec::new(alloc);
-    for row in begun.plant.rows() {
-        let policy = row.get_fields().policy;
-        let Ok(rank) = Box::new(alloc, move |input: RankInput| -> u8 {
-            rank_by(policy, &input)
-        }) else {
-            return end_without_memory();
-        };
-        let ranking = Ranking::new(row.get_fields().policy, rank);
-        if rankings.push(ranking).is_err() {
-            return end_without_memory();
-        }
-    }
+    let rankings = rankings_of!(alloc, begun.plant, return end_without_memory());
     let Beginning { plant, saved } = begun;
     let Ok(held) = LineBuffer::new(alloc) else {
         return end_without_memory();
@@ -216,17 +204,7 @@ pub(crate) fn serve_begun<R: BufRead, W: Write, N: RefusalNotes>(
             ItemOutcome::Answered => continue,
             ItemOutcome::Awaits { waiting, plant } => (waiting, plant),
         };
-        let mut rankings = Vec::new(alloc);
-        for row in plant.rows() {
-            let policy = row.get_fields().policy;
-            let Ok(rank) = Box::new(alloc, move |input: RankInput| -> u8 {
-                rank_by(policy, &input)
-            }) else {
-                continue;
-            };
-            let ranking = Ranking::new(row.get_fields().policy, rank);
-            let _left_out = rankings.push(ranking);
-        }
+        let rankings = rankings_of!(alloc, plant, continue);
         let line = match waiting {
             WaitingItem::NewPlant { line } => line,
             WaitingItem::NewFrame { line } => {

@@ -15,9 +15,9 @@ ghost use Rattle.state_service.specs.Periods.{SaysDue};
 use crate::fault::StateServiceFault;
 use crate::period_end::{DueState, PeriodEnd};
 use crate::periods::serve_period;
+use crate::rankings::rankings_of;
 use crate::starting::{GivenPlant, StartedService, start_service};
 use durable_service::{DurableState, KeptState, SavedState, StartState, put_snapshot};
-use grant_policy::{RankInput, Ranking, rank_by};
 use line_journal::{Device, Journal};
 use plant_restart::restore;
 use resumed_service::RefusalNotes;
@@ -67,19 +67,7 @@ fn serve_kept<D: Device, B: BufRead, W: Write, N: RefusalNotes>(
 {
     let DueState { kept, answer } = due;
     let KeptState { start, snapshot } = kept;
-    let mut rankings = Vec::new(alloc);
-    for row in start.plant.rows() {
-        let policy = row.get_fields().policy;
-        let Ok(rank) = Box::new(alloc, move |input: RankInput| -> u8 {
-            rank_by(policy, &input)
-        }) else {
-            return Err(StateServiceFault::NoMemory);
-        };
-        let ranking = Ranking::new(row.get_fields().policy, rank);
-        if rankings.push(ranking).is_err() {
-            return Err(StateServiceFault::NoMemory);
-        }
-    }
+    let rankings = rankings_of!(alloc, start.plant, return Err(StateServiceFault::NoMemory));
     let StartState {
         count: _,
         plant,
@@ -142,32 +130,8 @@ fn serve_first<D: Device, B: BufRead, W: Write, N: RefusalNotes>(
 {
     let SavedState { start, lines, gate } = state;
     journal.gate = gate;
-    let mut rankings = Vec::new(alloc);
-    for row in start.plant.rows() {
-        let policy = row.get_fields().policy;
-        let Ok(rank) = Box::new(alloc, move |input: RankInput| -> u8 {
-            rank_by(policy, &input)
-        }) else {
-            return Err(StateServiceFault::NoMemory);
-        };
-        let ranking = Ranking::new(row.get_fields().policy, rank);
-        if rankings.push(ranking).is_err() {
-            return Err(StateServiceFault::NoMemory);
-        }
-    }
-    let mut given_rankings = Vec::new(alloc);
-    for row in given.plant.rows() {
-        let policy = row.get_fields().policy;
-        let Ok(rank) = Box::new(alloc, move |input: RankInput| -> u8 {
-            rank_by(policy, &input)
-        }) else {
-            return Err(StateServiceFault::NoMemory);
-        };
-        let ranking = Ranking::new(row.get_fields().policy, rank);
-        if given_rankings.push(ranking).is_err() {
-            return Err(StateServiceFault::NoMemory);
-        }
-    }
+    let rankings = rankings_of!(alloc, start.plant, return Err(StateServiceFault::NoMemory));
+    let given_rankings = rankings_of!(alloc, given.plant, return Err(StateServiceFault::NoMemory));
     let StartState {
         count,
         plant,
