@@ -1,4 +1,4 @@
-//! How a run ends: at which line, with which last line, and what becomes of its core.
+//! How a run ends: at which line, with which last line, and what becomes of what is left of it.
 
 ghost use Rattle.std.specs.Prelude.{◌≡◌, ◌≢◌, Some, IfOk, OnOk};
 ghost use Rattle.std.specs.Io.KnownBytes.{Appends};
@@ -27,7 +27,7 @@ pub(crate) fn refused_line(number: u64, fault: CoreFault) -> Result<Option<u64>,
     }
 }
 
-/// What becomes of a core after its last step.
+/// What becomes of a core, or of a settled run, after its last step.
 #[derive(Clone, Copy, Debug, PartialEq, Eq)]
 pub enum Ending {
     /// It is taken apart, and gives its memory back.
@@ -36,11 +36,11 @@ pub enum Ending {
     Ends,
 }
 
-/// Takes a core apart, or leaves it to the end of the process.
-pub(crate) fn put_away<C: Drop>(core: C, ending: Ending) {
+/// Takes a core or a settled run apart, or leaves it to the end of the process.
+pub(crate) fn put_away<C: Drop>(ended: C, ending: Ending) {
     match ending {
-        Ending::GoesOn => drop(core),
-        Ending::Ends => forget(core),
+        Ending::GoesOn => drop(ended),
+        Ending::Ends => forget(ended),
     }
 }
 

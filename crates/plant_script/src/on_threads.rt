@@ -15,10 +15,11 @@ ghost use Rattle.plant_script.specs.Statuses.{status_code};
 
 use crate::answer::Answer;
 use crate::check::answer_to_line;
-use crate::ending::{write_fault, write_outcome};
+use crate::ending::{Ending, put_away, write_fault, write_outcome};
 use crate::input::AnswerFault;
+use crate::rankings::rankings_of;
 use crate::status::Status;
-use grant_policy::{RankInput, Ranking, rank_by};
+use grant_policy::Ranking;
 use live_core::CoreFault;
 use map_assembly::MapBytes;
 use operator_book::{Book, Entry, Output};
@@ -202,6 +203,7 @@ fn answer_of_threads<R: Threads + Wait + Sync>(
     plant: Plant,
     lines: Vec<LineStep>,
     rankings: Vec<Ranking>,
+    ending: Ending,
 ) -> Result<Answer, AllocError>
     requires { map policy_of rankings.items ≡ map (λ row. row.policy) plant.rows }
     ensures { IfOk result (λ answer. IsThreadedRunOf plant lines.items (status_code answer.status) answer.text.items) }
@@ -209,7 +211,12 @@ fn answer_of_threads<R: Threads + Wait + Sync>(
     let steps = steps_in(alloc, lines.as_slice())?;
     let shown = plant.copy(alloc)?;
     match run_workers(rt, alloc, plant, rankings, steps, &OpenGate) {
-        Ok(settled) => answer_of_settled(alloc, &shown, &settled),
+        Ok(settled) => {
+            let answer = answer_of_settled(alloc, &shown, &settled);
+            put_away(settled, ending);
+            put_away(lines, ending);
+            answer
+        }
         Err(fault) => answer_of_fault(alloc, &shown, lines.as_slice(), fault),
     }
 }
@@ -222,13 +229,15 @@ fn write_threaded_run<R: Threads + Wait + Sync, W: Write>(
     plant: Plant,
     lines: Vec<LineStep>,
     rankings: Vec<Ranking>,
+    ending: Ending,
     writer: &mut W,
 ) -> io::Result<Status>
     requires { map policy_of rankings.items ≡ map (λ row. row.policy) plant.rows }
     ensures { IfOk result (λ status. IsWritten (IsThreadedRunOf plant lines.items) (status_code status)
         (λ text. Appends (W.contents writer.old) (W.contents writer.new) text)) }
 {
-    write_outcome(writer, answer_of_threads(rt, alloc, plant, lines, rankings))
+    let answer = answer_of_threads(rt, alloc, plant, lines, rankings, ending);
+    write_outcome(writer, answer)
 }
 
 /// Runs lines on threads, each operator ranked by the policy of its row, and writes what that
@@ -238,23 +247,16 @@ pub fn write_threads<R: Threads + Wait + Sync, W: Write>(
     alloc: Global,
     plant: Plant,
     lines: Vec<LineStep>,
+    ending: Ending,
     writer: &mut W,
 ) -> io::Result<Status>
     ensures { IfOk result (λ status. IsWritten (IsThreadedRunOf plant lines.items) (status_code status)
         (λ text. Appends (W.contents writer.old) (W.contents writer.new) text)) }
 {
-    let mut rankings = Vec::new(alloc);
-    for row in plant.rows() {
-        let policy = row.get_fields().policy;
-        let Ok(rank) = Box::new(alloc, move |input: RankInput| -> u8 {
-            rank_by(policy, &input)
-        }) else {
-            return write_fault(writer, AnswerFault::Memory);
-        };
-        let ranking = Ranking::new(row.get_fields().policy, rank);
-        if rankings.push(ranking).is_err() {
-            return write_fault(writer, AnswerFault::Memory);
-        }
-    }
-    write_threaded_run(rt, alloc, plant, lines, rankings, writer)
+    let rankings = rankings_of!(
+        alloc,
+        plant,
+        return write_fault(writer, AnswerFault::Memory)
+    );
+    write_threaded_run(rt, alloc, plant, lines, rankings, ending, writer)
 }

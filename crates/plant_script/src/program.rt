@@ -317,6 +317,7 @@ fn end_program<H: Threads + Wait + Sync, W: Write>(
     alloc: Global,
     reached: io::Result<Progress>,
     writer: &mut W,
+    ending: Ending,
 ) -> Status
     ensures written { status_code result ≢ 6 → MatchResult reached
         (λ progress. Completes progress (status_code result) (W.contents writer.old) (W.contents writer.new)) (λ error. ⊥) }
@@ -330,7 +331,9 @@ fn end_program<H: Threads + Wait + Sync, W: Write>(
                 is_read_failed: _,
             },
         ) => return status,
-        Ok(Progress::Threads { plant, lines }) => write_threads(rt, alloc, plant, lines, writer),
+        Ok(Progress::Threads { plant, lines }) => write_threads(
+            rt, alloc, plant, lines, ending, writer,
+        ),
         Err(error) => Err(error),
     };
     match written {
@@ -397,15 +400,16 @@ pub fn run_program<'a, H: Threads + Wait + Sync, R: BufRead, W: Write>(
     ensures unread_if_wrong { AreWrong (texts words.entry.now) → reader.new ≡ reader.old }
     ensures unread_for_help { AsksHelp (texts words.entry.now) → reader.new ≡ reader.old }
 {
-    let reached = run_without_threads(alloc, words, reader, writer, Ending::GoesOn);
-    end_program(rt, alloc, reached, writer).code()
+    let ending = Ending::GoesOn;
+    let reached = run_without_threads(alloc, words, reader, writer, ending);
+    end_program(rt, alloc, reached, writer, ending).code()
 }
 
 /// Runs the program as `run_program` does, under the same contract, and writes the reasons of its
 /// status to one writer more: what was wrong, where, and the numbers that disagree. Of a plant that
 /// is well it reports keys that nothing reads. What fails in writing reasons is lost, and changes
 /// no status. No clause says what the reasons are. A process that ends after the answer says so by
-/// `ending`, and need not wait until a core is taken apart.
+/// `ending`, and need not wait until a core or a settled run is taken apart.
 pub fn run_program_with_reasons<'a, H: Threads + Wait + Sync, R: BufRead, W: Write, E: Write>(
     rt: &H,
     alloc: Global,
@@ -424,7 +428,7 @@ pub fn run_program_with_reasons<'a, H: Threads + Wait + Sync, R: BufRead, W: Wri
 {
     let mut seen = Seen::new();
     let reached = answer_words(alloc, words, reader, writer, &mut seen, ending);
-    let status = end_program(rt, alloc, reached, writer);
+    let status = end_program(rt, alloc, reached, writer, ending);
     tell_reasons(alloc, words, &seen, status, reasons);
     status.code()
 }

@@ -8,6 +8,7 @@ ghost use Rattle.cell_state.specs.Taking.{frames_at, IsFrameOfSomeBook};
 ghost use Rattle.cell_state.specs.Telling.{IsOfBook, IsOfTurn, IsOfTaking};
 
 use crate::gate::Gate;
+use crate::part::LOOKS;
 use crate::signal::Signal;
 use crate::turn::Turn;
 use cell_state::{CellFault, Held};
@@ -81,6 +82,7 @@ impl OperatorCell {
             op: self.op,
             held: &self.held,
             signal: &self.signal,
+            looks: LOOKS,
         }
     }
 

@@ -9,6 +9,13 @@ use run_model::Step;
 use run_receipts::Caller;
 use std::alloc::{AllocError, Global};
 
+/// How often a thread looks whether its turn has come, before it sleeps: about as long as an action takes, with what it takes to
+/// fetch the operator's data from another processor.
+pub(crate) const LOOKS: usize = 6_000;
+
+/// How often the dispatcher looks. The worker that it waits for may sleep, and then the system has to wake it first.
+const DISPATCHER_LOOKS: usize = 20_000;
+
 /// What one thread of a run does, in the order of the steps.
 #[derive(Clone, Copy)]
 pub(crate) enum Part {
@@ -30,6 +37,14 @@ impl Part {
             (Part::Ticks, Step::Tick { op: _ }) => true,
             (Part::Worker(op), Step::Work { op: of } | Step::Collect { op: of }) => op == *of,
             _ => false,
+        }
+    }
+
+    /// Returns how often the thread of this part looks whether its turn has come, before it sleeps.
+    pub(crate) fn looks(self) -> usize {
+        match self {
+            Part::Arrivals => DISPATCHER_LOOKS,
+            Part::Ticks | Part::Worker(_) => LOOKS,
         }
     }
 

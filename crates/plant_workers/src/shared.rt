@@ -42,14 +42,15 @@ fn no_memory(op: Op) -> EarlyEnd
 }
 
 impl<'a> Shared<'a> {
-    /// Returns the lock of an operator, if there is one.
-    fn turn(self, op: Op) -> Option<Turn<'a>>
+    /// Returns the lock of an operator, if there is one, for a thread of this part.
+    fn turn(self, op: Op, part: Part) -> Option<Turn<'a>>
         ensures { IfSome result (λ turn. turn.op ≡ op) }
     {
         Some(Turn {
             op,
             held: self.helds.get(op)?,
             signal: self.signals.get(op)?,
+            looks: part.looks(),
         })
     }
 
@@ -123,7 +124,7 @@ impl<'a> Shared<'a> {
     ) -> Result<(), EarlyEnd>
         requires { IsOfPart part job.now.step.now }
     {
-        let Some(turn) = self.turn(job.op) else {
+        let Some(turn) = self.turn(job.op, part) else {
             return Ok(());
         };
         match job.action(alloc) {
@@ -178,7 +179,7 @@ impl<R: Wait, G: Gate<R>> Chores<R, G> for Shared<'_> {
 
     fn stop_all(&self, rt: &R) {
         for op in 0..self.helds.len() {
-            if let Some(turn) = self.turn(op) {
+            if let Some(turn) = self.turn(op, Part::Worker(op)) {
                 turn.stop(rt);
             }
         }

@@ -1,16 +1,12 @@
 //! What signals to those who wait for a turn that an operator's history has grown.
 
 use cell_state::Held;
+use std::array;
 use std::sync::atomic::{AtomicUsize, Ordering};
 use std::sync::{Condvar, Mutex, MutexGuard, Wait};
-use std::{array, hint};
 
-/// The looks of a thread whether its turn has come before it sleeps. They take some ten microseconds, longer than the system
-/// takes to wake a thread.
-const LOOKS: usize = 1000;
-
-/// The groups into which those who sleep are divided.
-const GROUPS: usize = 16;
+/// The groups into which those who sleep are divided. A run has seldom as many entries of one operator between two ticks.
+const GROUPS: usize = 64;
 
 /// Signals that a history has grown or its turns have stopped. A thread first looks at `count`, and then sleeps with those who
 /// wait for a place with the same remainder, so that an entry wakes whoever waits for the place after it, and few others. What
@@ -34,24 +30,26 @@ impl Signal {
         }
     }
 
-    /// Looks a bounded number of times whether the history has `index` entries.
-    fn look(&self, index: usize) {
-        for _ in 0..LOOKS {
+    /// Looks so many times whether the history has `index` entries. It does not pause between two looks: a pause takes 10 to 140
+    /// cycles, by the kind of processor, and a look takes 2 on each.
+    fn look(&self, index: usize, looks: usize) {
+        for _ in 0..looks {
             if index <= self.count.load(Ordering::SeqCst) {
                 return;
             }
-            hint::spin_loop();
         }
     }
 
-    /// Waits until the history has `index` entries or the turns have stopped, and returns the lock.
+    /// Waits until the history has `index` entries or the turns have stopped, and returns the lock. Looks so many times before
+    /// it sleeps.
     pub(crate) fn wait_for<'a, R: Wait>(
         &self,
         rt: &R,
         held: &'a Mutex<Held>,
         index: usize,
+        looks: usize,
     ) -> MutexGuard<'a, Held> {
-        self.look(index);
+        self.look(index, looks);
         let held = held.lock(rt);
         if index <= held.count() || held.stopped {
             return held;

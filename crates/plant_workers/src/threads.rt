@@ -7,7 +7,7 @@ use crate::thread_report::ThreadReport;
 use std::alloc::{AllocError, Global};
 use std::sync::Wait;
 use std::thread;
-use std::thread::{Builder, Threads};
+use std::thread::{Builder, JoinHandle, Threads};
 
 /// The bytes of a thread's stack, where its caller wants no other.
 const STACK: usize = 2 * 1024 * 1024;
@@ -18,6 +18,18 @@ fn stack_at(stacks: &[usize], place: usize) -> usize {
         Some(stack) => *stack,
         None => STACK,
     }
+}
+
+/// Joins all threads, and puts what they report into a list that has room for it.
+fn join_all<R: Threads>(
+    rt: &R,
+    handles: Vec<JoinHandle<ThreadReport>>,
+    thread_reports: &mut Vec<ThreadReport>,
+) -> Result<(), AllocError> {
+    for handle in handles {
+        thread_reports.push(handle.join(rt))?;
+    }
+    Ok(())
 }
 
 /// Runs each part in a thread of its own, and joins them all. Where a thread cannot be made all operators are stopped, and
@@ -48,9 +60,7 @@ pub(crate) fn run_threads<R: Threads + Wait + Sync, G: Gate<R> + Sync, C: Chores
                     }
                 }
             }
-            for handle in handles {
-                thread_reports.push(handle.join(rt))?;
-            }
+            join_all(rt, handles, &mut thread_reports)?;
             Ok(thread_reports)
         },
     )

@@ -15,19 +15,20 @@ use slice_scheduler::Elements;
 use std::alloc::{AllocError, Global};
 use std::sync::{Mutex, MutexGuard, Wait};
 
-/// An operator's lock, and what signals those who wait for a turn that the history has grown or the
-/// turns have stopped.
+/// An operator's lock, what signals those who wait for a turn that the history has grown or the
+/// turns have stopped, and how often one who waits looks before it sleeps.
 #[derive(Clone, Copy)]
 pub(crate) struct Turn<'a> {
     pub op: Op,
     pub held: &'a Mutex<Held>,
     pub signal: &'a Signal,
+    pub looks: usize,
 }
 
 impl<'a> Turn<'a> {
     /// Waits until the history has `index` entries or the turns have stopped, and returns the lock.
     fn wait_for<R: Wait>(self, rt: &R, index: usize) -> MutexGuard<'a, Held> {
-        self.signal.wait_for(rt, self.held, index)
+        self.signal.wait_for(rt, self.held, index, self.looks)
     }
 
     /// Does an action at once.
