@@ -24,4 +24,4 @@ pub use modem::Modem;
 pub use reading::read;
 pub use reply::{Detail, FlowId, Reply, ReplyFields};
 pub use reply_reading::{read_back, read_reply};
-pub use spell::write_reply;
+pub use spell::{reply_bytes, write_reply};

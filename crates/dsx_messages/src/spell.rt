@@ -1,9 +1,9 @@
 //! The spelling of replies.
 
-ghost use Rattle.std.specs.Prelude.{◌≡◌, ℕ, ◌≤◌, [], ◌∷◌, ◌++◌, length, OnOk, IfOk};
+ghost use Rattle.std.specs.Prelude.{◌≡◌, ℕ, ◌+◌, ◌≤◌, [], ◌∷◌, ◌++◌, length, Some, IfOk};
 ghost use Rattle.std.specs.Option.{option_map};
-ghost use Rattle.std.specs.Int.{w16, to_be_bytes};
-ghost use Rattle.tlv24.specs.Tlv.{tlv, spelled};
+ghost use Rattle.std.specs.Int.{w16, w32, to_be_bytes};
+ghost use Rattle.tlv24.specs.Tlv.{tlv, spelled, spelled_one};
 ghost use Rattle.tlv24.specs.Spelling.{under};
 ghost use Rattle.dsx_messages.specs.Code.{code_number};
 ghost use Rattle.dsx_messages.specs.TlvType.{upstream_service_flow};
@@ -14,10 +14,7 @@ use crate::kind::Kind;
 use crate::reply::{Detail, FlowId, Reply};
 use crate::{message_type, tlv_type};
 use std::alloc::{AllocError, Global};
-use tlv24::{put_long, put_word, subtype};
-
-/// The most bytes that a reply has.
-const LONGEST: usize = 20;
+use tlv24::{ShortBytes, subtype};
 
 fn response_type(kind: Kind) -> u8
     ensures { result ≡ response_type kind }
@@ -29,13 +26,48 @@ fn response_type(kind: Kind) -> u8
     }
 }
 
-fn put_id(out: &mut Vec<u8>, id: Option<FlowId>) -> Result<(), AllocError>
-    ensures { OnOk result (out.new.items ≡ out.old.items ++ spelled (id_tlv id)) }
+/// Puts a TLV: its type, its length and its value.
+#[inline(always)]
+fn put_tlv(out: &mut ShortBytes, subtype: u8, value: &[u8])
+    requires { length out.old + length value.now ≤ 28 }
+    ensures { out.new ≡ out.old ++ spelled_one (tlv subtype value.now) }
+{
+    out.put(&[subtype, value.len() as u8]);
+    out.put(value);
+}
+
+/// Puts a field of two bytes, where it exists.
+#[inline(always)]
+fn put_word(out: &mut ShortBytes, subtype: u8, value: Option<u16>)
+    requires { length out.old ≤ 26 }
+    ensures bytes { out.new ≡ out.old ++ spelled (under subtype (option_map (to_be_bytes w16) value)) }
+    ensures few { length out.new ≤ length out.old + 4 }
+{
+    if let Some(n) = value {
+        put_tlv(out, subtype, &n.to_be_bytes());
+    }
+}
+
+/// Puts a field of four bytes.
+#[inline(always)]
+fn put_long(out: &mut ShortBytes, subtype: u8, value: u32)
+    requires { length out.old ≤ 24 }
+    ensures bytes { out.new ≡ out.old ++ spelled (under subtype (option_map (to_be_bytes w32) (Some value))) }
+    ensures few { length out.new ≤ length out.old + 6 }
+{
+    put_tlv(out, subtype, &value.to_be_bytes());
+}
+
+/// Puts the identifier of an invalid encoding.
+fn put_id(out: &mut ShortBytes, id: Option<FlowId>)
+    requires { length out.old ≤ 24 }
+    ensures bytes { out.new ≡ out.old ++ spelled (id_tlv id) }
+    ensures few { length out.new ≤ length out.old + 6 }
 {
     match id {
-        None => Ok(()),
+        None => {}
         Some(FlowId::Reference(reference)) => put_word(out, subtype::REFERENCE, Some(reference)),
-        Some(FlowId::Sfid(sfid)) => put_long(out, subtype::SFID, Some(sfid)),
+        Some(FlowId::Sfid(sfid)) => put_long(out, subtype::SFID, sfid),
     }
 }
 
@@ -61,37 +93,29 @@ fn word_len(value: Option<u16>) -> u8
     }
 }
 
-/// Writes the flow that was added or changed.
-fn put_given(
-    out: &mut Vec<u8>,
-    reference: Option<u16>,
-    sfid: u32,
-    sid: Option<u16>,
-) -> Result<(), AllocError>
-    ensures { OnOk result (out.new.items ≡ out.old.items
-        ++ spelled (tlv upstream_service_flow (spelled (given_tlvs reference sfid sid)) ∷ [])) }
+/// Puts the flow that was added or changed.
+fn put_given(out: &mut ShortBytes, reference: Option<u16>, sfid: u32, sid: Option<u16>)
+    requires { length out.old ≤ 4 }
+    ensures { out.new ≡ out.old
+        ++ spelled (tlv upstream_service_flow (spelled (given_tlvs reference sfid sid)) ∷ []) }
 {
     let count = word_len(reference) + 6 + word_len(sid);
-    out.extend_from_slice(&[tlv_type::UPSTREAM_SERVICE_FLOW, count])?;
-    put_word(out, subtype::REFERENCE, reference)?;
-    put_long(out, subtype::SFID, Some(sfid))?;
-    put_word(out, subtype::SID, sid)
+    out.put(&[tlv_type::UPSTREAM_SERVICE_FLOW, count]);
+    put_word(out, subtype::REFERENCE, reference);
+    put_long(out, subtype::SFID, sfid);
+    put_word(out, subtype::SID, sid);
 }
 
-/// Writes the invalid encoding and its subtype.
-fn put_errored(
-    out: &mut Vec<u8>,
-    code: Code,
-    id: Option<FlowId>,
-    subtype: u8,
-) -> Result<(), AllocError>
-    ensures { OnOk result (out.new.items ≡ out.old.items
-        ++ spelled (tlv upstream_service_flow (spelled (errored_tlvs code id subtype)) ∷ [])) }
+/// Puts the invalid encoding and its subtype.
+fn put_errored(out: &mut ShortBytes, code: Code, id: Option<FlowId>, subtype: u8)
+    requires { length out.old ≤ 4 }
+    ensures { out.new ≡ out.old
+        ++ spelled (tlv upstream_service_flow (spelled (errored_tlvs code id subtype)) ∷ []) }
 {
     let count = id_len(id) + 8;
-    out.extend_from_slice(&[tlv_type::UPSTREAM_SERVICE_FLOW, count])?;
-    put_id(out, id)?;
-    out.extend_from_slice(&[
+    out.put(&[tlv_type::UPSTREAM_SERVICE_FLOW, count]);
+    put_id(out, id);
+    out.put(&[
         subtype::ERRORED,
         6,
         subtype::ERRORED_PARAMETER,
@@ -100,14 +124,15 @@ fn put_errored(
         subtype::ERROR_CODE,
         1,
         code.number(),
-    ])
+    ]);
 }
 
-fn put_detail(out: &mut Vec<u8>, code: Code, detail: Detail) -> Result<(), AllocError>
-    ensures { OnOk result (out.new.items ≡ out.old.items ++ spelled (tlvs_in code detail)) }
+fn put_detail(out: &mut ShortBytes, code: Code, detail: Detail)
+    requires { length out.old ≤ 4 }
+    ensures { out.new ≡ out.old ++ spelled (tlvs_in code detail) }
 {
     match detail {
-        Detail::Nothing => Ok(()),
+        Detail::Nothing => {}
         Detail::Given {
             reference,
             sfid,
@@ -117,27 +142,32 @@ fn put_detail(out: &mut Vec<u8>, code: Code, detail: Detail) -> Result<(), Alloc
     }
 }
 
-/// Returns what follows the confirmation code.
-fn put_tail(out: &mut Vec<u8>, kind: Kind, code: Code, detail: Detail) -> Result<(), AllocError>
-    ensures { OnOk result (out.new.items ≡ out.old.items ++ tail_of kind code detail) }
+/// Puts what follows the confirmation code.
+fn put_tail(out: &mut ShortBytes, kind: Kind, code: Code, detail: Detail)
+    requires { length out.old ≤ 4 }
+    ensures { out.new ≡ out.old ++ tail_of kind code detail }
 {
     match kind {
         Kind::Dsa | Kind::Dsc => put_detail(out, code, detail),
-        Kind::Dsd => {
-            out.push(0)?;
-            Ok(())
-        }
+        Kind::Dsd => out.put(&[0]),
     }
 }
 
-/// Returns the bytes of a reply: its one spelling.
+/// Returns the bytes of a reply, its one spelling: at most 20. Takes no memory.
+pub fn reply_bytes(reply: &Reply) -> ShortBytes
+    ensures { result ≡ spell_reply reply.now }
+{
+    let mut out = ShortBytes::new();
+    let [high, low] = reply.get_tid().to_be_bytes();
+    let code = reply.get_code();
+    out.put(&[response_type(reply.get_kind()), high, low, code.number()]);
+    put_tail(&mut out, reply.get_kind(), code, reply.get_detail());
+    out
+}
+
+/// Returns the bytes of a reply in memory of their own: its one spelling.
 pub fn write_reply(alloc: Global, reply: &Reply) -> Result<Vec<u8>, AllocError>
     ensures { IfOk result (λ bytes. bytes.items ≡ spell_reply reply.now) }
 {
-    let mut out = Vec::with_capacity(alloc, LONGEST)?;
-    let [high, low] = reply.get_tid().to_be_bytes();
-    let code = reply.get_code();
-    out.extend_from_slice(&[response_type(reply.get_kind()), high, low, code.number()])?;
-    put_tail(&mut out, reply.get_kind(), code, reply.get_detail())?;
-    Ok(out)
+    Vec::from_slice(alloc, reply_bytes(reply).as_slice())
 }

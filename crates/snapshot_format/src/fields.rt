@@ -176,7 +176,7 @@ pub(crate) fn take_bytes(alloc: Global, bytes: &[u8], end: u8) -> Result<(Bytes,
 {
     let (field, rest) = take_field(bytes, end)?;
     if field == b"-".as_slice() {
-        return Ok((Bytes::new(alloc), rest));
+        return Ok((Bytes::new(), rest));
     }
     match decode(alloc, field) {
         Ok(decoded) => Ok((Bytes::from_vec(decoded), rest)),

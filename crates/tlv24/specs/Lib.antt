@@ -1,6 +1,7 @@
 pub mod Subtype
 pub mod SetType
 pub mod Tlv
+pub mod Bytes
 pub mod Name
 pub mod Range
 pub mod Flow

@@ -6,11 +6,8 @@ ghost use Rattle.tlv24.specs.Tlv.{tlv, first_tlv, Begins, NoTlvBegins, IsTlvList
 ghost use Rattle.tlv24.specs.Split.{IsSplitFault, TlvsAreRead};
 ghost use Rattle.tlv24.specs.declared.tlv.TlvFault.TheVariants.{NoMemory};
 
-use lists::Listed;
+use crate::bytes::Bytes;
 use std::alloc::{AllocError, AllocFailed, Global};
-
-/// Bytes that a value owns.
-pub type Bytes = Listed<u8>;
 
 /// One TLV: its type byte and its value. The length byte is the value's length.
 #[derive(Debug, Drop)]

@@ -36,7 +36,7 @@ fn put_byte(out: &mut Vec<u8>, subtype: u8, value: Option<u8>) -> Result<(), All
 
 /// Appends a field of two bytes, where it exists.
 #[inline(always)]
-pub fn put_word(out: &mut Vec<u8>, subtype: u8, value: Option<u16>) -> Result<(), AllocError>
+fn put_word(out: &mut Vec<u8>, subtype: u8, value: Option<u16>) -> Result<(), AllocError>
     ensures bytes { OnOk result (out.new.items ≡ out.old.items
         ++ spelled (under subtype (option_map (to_be_bytes w16) value))) }
     ensures fits { IfSome value (λ n. n < 2 ^ 16) }
@@ -49,7 +49,7 @@ pub fn put_word(out: &mut Vec<u8>, subtype: u8, value: Option<u16>) -> Result<()
 
 /// Appends a field of four bytes, where it exists.
 #[inline(always)]
-pub fn put_long(out: &mut Vec<u8>, subtype: u8, value: Option<u32>) -> Result<(), AllocError>
+fn put_long(out: &mut Vec<u8>, subtype: u8, value: Option<u32>) -> Result<(), AllocError>
     ensures bytes { OnOk result (out.new.items ≡ out.old.items
         ++ spelled (under subtype (option_map (to_be_bytes w32) value))) }
     ensures fits { IfSome value (λ n. n < 2 ^ 32) }

@@ -7,4 +7,4 @@ pub returns-clause-ok : goal.returns-clause-ok
 returns-clause-ok c =
     let none : renumber_refusal c.args.consts.now c.args.to c.args.saved.now ≡ None = search rules in
     let operators : c.from_vec.result ≡ map (operator_renumbered c.args.consts.now.units c.args.saved.now.frame c.args.to) c.args.saved.now.operators = search rules in
-    snapshot_renumbered c.args.consts.now c.args.to c.args.saved.now _ none c.in_ok-copy.ensures refl operators
+    snapshot_renumbered c.args.consts.now c.args.to c.args.saved.now _ none c.in_ok-copy.ensures.value refl operators
