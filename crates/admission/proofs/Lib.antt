@@ -1,5 +1,6 @@
 mod Common
 pub mod FreeLemmas
 pub mod MarkLemmas
+pub mod PlaceLemmas
 pub mod RowLemmas
 pub mod LedgerLemmas

@@ -9,6 +9,7 @@ ghost use Rattle.admission.specs.Kept.{CanReplace};
 ghost use Rattle.admission.specs.Place.{StandsAt, IsGap};
 
 use crate::budget::Budget;
+use crate::place::place_of;
 use std::alloc::{AllocError, Global};
 use std::marker::Model;
 
@@ -249,7 +250,7 @@ impl Ledger {
         ensures there { OnOk result (HasRow self.now.rows sfid) }
         ensures free { OnErr result (IsNone (lookup (is_at (nat_cmp sfid)) self.now.rows)) }
     {
-        self.rows.binary_search_by_key(&sfid, |row| row.0)
+        place_of(&self.rows, sfid)
     }
 }
 

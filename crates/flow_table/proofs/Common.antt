@@ -8,7 +8,7 @@ pub use Rattle.flow_table.specs.Index.{flows_of, IsIndex, IsFlowTable, sfid_at, 
 pub use Rattle.flow_table.specs.Moved.{change_at, told_of, change_if, asker_of}
 pub use Rattle.flow_table.specs.Table.{flow_at, with_flow, HaveOwnSids, flow_with, sid_if, is_sid, sids_of, committed_minislots, committed_elements, FlowTable, HasRoomFor, flowing_in, sfids_of}
 pub use Rattle.flow_table.specs.declared.flow.Flow.{Flow}
-pub use Rattle.flow_table.specs.declared.flows.Moved.{Moved}
+pub use Rattle.flow_table.specs.declared.rows.Moved.{Moved}
 pub use Rattle.param_sets.specs.Units.{UnitSizes}
 pub use Rattle.std.proofs.lemmas.Bool.{lt-ltb, le-ltb, eq-eqb, ne_eqb, cases_order, cases_lt, cases_eq, le-leb, lt-leb}
 pub use Rattle.std.proofs.lemmas.Cmp.{ranked, nat_cmp_total, eq_by_cmp_equiv}

@@ -1,37 +1,13 @@
 -- What a list of entries by ascending numbers holds after an edit.
 use Rattle.std.proofs.Common.{◌≡◌, ◌≢◌, ℕ, ◌+◌, ◌<◌, ◌≤◌, true, false, cond, List, [], ◌∷◌, length, Option, Some, None, IsSome, IsNone, refl, sym, ap, ◌∙◌, subst, arith, inl, inr}
-use Rattle.flow_table.proofs.Common.{AllByRecursion, Ordering, Less, Equal, Greater, nat_cmp, is_eq, match_ordering, lookup, remove_entry, set_value, keys_of, insert_entry, is_at, lt-ltb, le-ltb, eq-eqb, ne_eqb, cases_order, ranked, nat_cmp_total, eq_by_cmp_equiv, All-from_recursion, recursion_from_All, none-some, same_Some, IsDistinct-from_sorted, sorted_tail}
+use Rattle.flow_table.proofs.Common.{AllByRecursion, Ordering, Less, Equal, Greater, nat_cmp, is_eq, match_ordering, lookup, remove_entry, keys_of, insert_entry, is_at, cases_order, ranked, nat_cmp_total, eq_by_cmp_equiv, All-from_recursion, recursion_from_All, none-some, same_Some, IsDistinct-from_sorted, sorted_tail}
+use Rattle.admission.proofs.PlaceLemmas.{nat_cmp_less, nat_cmp_equal, nat_cmp_greater, put_as, look_as, take_out_as}
 use Rattle.std.specs.List.Sorted.{IsStrictlySortedBy}
 use Rattle.std.proofs.lemmas.Map.{lookup-none}
 use Rattle.std.proofs.lemmas.Map.Entries.{none_past_head, none_below_head}
 use Rattle.std.proofs.lemmas.Map.Views.{All-keys-insert_entry, All-map-remove_entry}
 
--- ---- the answers of a comparison
-
-nat_cmp_less : (a b : ℕ) → a < b → nat_cmp a b ≡ Less
-nat_cmp_less a b h = rw (lt-ltb a b h)
-
-nat_cmp_equal : (a b : ℕ) → a ≡ b → nat_cmp a b ≡ Equal
-nat_cmp_equal a b h = rw (le-ltb a b (omega arith), eq-eqb a b h)
-
-nat_cmp_greater : (a b : ℕ) → b < a → nat_cmp a b ≡ Greater
-nat_cmp_greater a b h = rw (le-ltb a b (omega arith), ne_eqb a b (omega arith))
-
 module _ {X : Type 0} where
-  -- ---- one step of each word, at the first entry
-
-  put_as : (e : ℕ × X) (es : List (ℕ × X)) (k : ℕ) (v : X) (o : Ordering) → nat_cmp k e.0 ≡ o → insert_entry nat_cmp (e ∷ es) k v ≡ match_ordering o ((k, v) ∷ e ∷ es) ((e.0, v) ∷ es) (e ∷ insert_entry nat_cmp es k v)
-  put_as e es k v o h = ap (λ (r : Ordering). match_ordering r ((k, v) ∷ e ∷ es) ((e.0, v) ∷ es) (e ∷ insert_entry nat_cmp es k v)) h
-
-  look_as : (e : ℕ × X) (es : List (ℕ × X)) (k : ℕ) (o : Ordering) → nat_cmp k e.0 ≡ o → lookup (is_at (nat_cmp k)) (e ∷ es) ≡ cond (is_eq o) (Some e.1) (lookup (is_at (nat_cmp k)) es)
-  look_as e es k o h = ap (λ (r : Ordering). cond (is_eq r) (Some e.1) (lookup (is_at (nat_cmp k)) es)) h
-
-  take_out_as : (e : ℕ × X) (es : List (ℕ × X)) (k : ℕ) (o : Ordering) → nat_cmp k e.0 ≡ o → remove_entry (is_at (nat_cmp k)) (e ∷ es) ≡ cond (is_eq o) es (e ∷ remove_entry (is_at (nat_cmp k)) es)
-  take_out_as e es k o h = ap (λ (r : Ordering). cond (is_eq r) es (e ∷ remove_entry (is_at (nat_cmp k)) es)) h
-
-  write_as : (e : ℕ × X) (es : List (ℕ × X)) (k : ℕ) (v : X) (o : Ordering) → nat_cmp k e.0 ≡ o → set_value (is_at (nat_cmp k)) (e ∷ es) v ≡ cond (is_eq o) ((e.0, v) ∷ es) (e ∷ set_value (is_at (nat_cmp k)) es v)
-  write_as e es k v o h = ap (λ (r : Ordering). cond (is_eq r) ((e.0, v) ∷ es) (e ∷ set_value (is_at (nat_cmp k)) es v)) h
-
   -- ---- what stands at a number
 
   pub looked_first : (e : ℕ × X) (es : List (ℕ × X)) (k : ℕ) → k ≡ e.0 → lookup (is_at (nat_cmp k)) (e ∷ es) ≡ Some e.1
@@ -114,19 +90,6 @@ module _ {X : Type 0} where
         take_out_as e es k Less (nat_cmp_less k e.0 below) ∙ ap (λ (l : List (ℕ × X)). e ∷ l) (taken_none es k (sym (looked_past e es k (omega arith)) ∙ none))
     | inr (inr above) ↦
         take_out_as e es k Greater (nat_cmp_greater k e.0 above) ∙ ap (λ (l : List (ℕ × X)). e ∷ l) (taken_none es k (sym (looked_past e es k (omega arith)) ∙ none))
-  ]
-
-  -- ---- a value is written
-
-  pub written : (es : List (ℕ × X)) (k : ℕ) (v : X) → IsStrictlySortedBy nat_cmp (keys_of es) → IsSome (lookup (is_at (nat_cmp k)) es) → set_value (is_at (nat_cmp k)) es v ≡ insert_entry nat_cmp es k v
-  written [] k v s there = absurd (cc)
-  written (e ∷ es) k v s there = elim (cases_order k e.0) [
-    | inl same ↦ write_as e es k v Equal (nat_cmp_equal k e.0 same) ∙ sym (put_as e es k v Equal (nat_cmp_equal k e.0 same))
-    | inr (inl below) ↦ let none : IsSome {T = X} None = subst IsSome (none_before e es k s below) there in absurd (cc)
-    | inr (inr above) ↦
-        write_as e es k v Greater (nat_cmp_greater k e.0 above)
-        ∙ (ap (λ (l : List (ℕ × X)). e ∷ l) (written es k v (sorted_tail nat_cmp e.0 (keys_of es) s) (subst IsSome (looked_past e es k (omega arith)) there))
-        ∙ sym (put_as e es k v Greater (nat_cmp_greater k e.0 above)))
   ]
 
   -- what is there is put in again

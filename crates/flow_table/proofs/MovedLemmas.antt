@@ -1,18 +1,9 @@
 -- That a table stays one where a flow's backlog changes.
 use Rattle.std.proofs.Common.{◌≡◌, ◌≤◌, ℕ, cond, List, length, Option, Some, None, IsSome, IfSome, refl, sym, ap, ◌∙◌, subst, arith}
-use Rattle.flow_table.proofs.Common.{IsStrictlySortedBy, nat_cmp, remove_entry, keys_of, set_value, insert_entry, is_at, none-some, same_Some, LedgerView, UnitSizes, Flow, Moved, committed_of, flow_at, sid_if, with_flow, IsIndex, IsFlowTable, without_sid_of, budgets_of, change_if, change_at, told_of}
-use Rattle.flow_table.proofs.EntryLemmas.{written, put_same, length_put_there}
+use Rattle.flow_table.proofs.Common.{nat_cmp, remove_entry, insert_entry, is_at, none-some, same_Some, LedgerView, UnitSizes, Flow, Moved, committed_of, flow_at, sid_if, with_flow, IsIndex, IsFlowTable, without_sid_of, budgets_of, change_if, change_at, told_of}
+use Rattle.flow_table.proofs.EntryLemmas.{put_same, length_put_there}
 use Rattle.flow_table.proofs.RowLemmas.{rows_put}
 use Rattle.flow_table.proofs.IndexLemmas.{index_changed, is_sid_yes, changed_room, row_room, table_put}
-
--- a flow that is written in place, where there is one
-pub moved_some : (flows : List (ℕ × Flow)) (sfid : ℕ) (change : Flow → Flow) (old : Flow) → IsStrictlySortedBy nat_cmp (keys_of flows) → flow_at sfid flows ≡ Some old
-    → set_value (is_at (nat_cmp sfid)) flows (change old) ≡ change_at sfid change flows
-moved_some flows sfid change old s at =
-    written flows sfid (change old) s (subst IsSome (sym at) refl) ∙ sym (ap (change_if sfid change flows) at)
-
-pub moved_none : (flows : List (ℕ × Flow)) (sfid : ℕ) (change : Flow → Flow) → flow_at sfid flows ≡ None → flows ≡ change_at sfid change flows
-moved_none flows sfid change at = sym (ap (change_if sfid change flows) at)
 
 -- the index without a SID that the flow has still
 same_index : (o : Option ℕ) (index : List (ℕ × ℕ)) → without_sid_of o o index ≡ index

@@ -3,7 +3,7 @@ use Rattle.std.specs.Prelude.{ℕ, List, Option, Some, None}
 use Rattle.flow_table.specs.declared.flow.Flow.{Flow}
 use Rattle.flow_table.specs.declared.flow.Asker.{Asker}
 use Rattle.param_sets.specs.Units.{UnitSizes}
-use Rattle.flow_table.specs.declared.flows.Moved.{Moved}
+use Rattle.flow_table.specs.declared.rows.Moved.{Moved}
 use Rattle.flow_table.specs.Flow.{asks_for_grants, committed_of}
 use Rattle.flow_table.specs.Table.{flow_at, with_flow}
 

@@ -7,13 +7,14 @@ ghost use Rattle.std.specs.Ordering.{nat_cmp};
 ghost use Rattle.std.specs.Map.{keys_of, lookup, remove_entry};
 ghost use Rattle.std.specs.BTreeMap.{insert_entry, is_at};
 ghost use Rattle.admission.specs.Free.{IsLeastFree, least_free_of};
-ghost use Rattle.flow_table.specs.Table.{flow_at, flow_with, sid_if, sfids_of, sids_of, with_flow, committed_minislots, committed_elements, HasRoomFor, HaveOwnSids, flowing_in, flowing_of_set};
+ghost use Rattle.flow_table.specs.Table.{flow_at, flow_with, sid_if, sfids_of, sids_of, with_flow, committed_minislots, committed_elements, HasRoomFor, HaveOwnSids, flowing_in};
 ghost use Rattle.flow_table.specs.Flow.{flow_after_ack, taken_back, flow_after_request, flow_after_grant};
 ghost use Rattle.flow_table.specs.Gap.{gap_from};
 ghost use Rattle.flow_table.specs.Index.{flows_of, with_sid_of, without_sid_of};
 ghost use Rattle.flow_table.specs.Moved.{change_at, told_of, asker_of};
 
 use crate::flow::{Asker, Flow};
+use crate::rows::FlowRows;
 use admission::{Budget, IdRange, Ledger, Over};
 use param_sets::Units;
 use slice_scheduler::Flowing;
@@ -28,21 +29,20 @@ use std::marker::Model;
 pub struct Flows {
     capacity: u32,
     units: Units,
-    /// In boxes, so that the tree moves pointers and not flows of 320 bytes.
-    by_sfid: BTreeMap<u32, Box<Flow>>,
+    by_sfid: FlowRows,
     by_sid: BTreeMap<u16, u32>,
     ledger: Ledger,
 }
 
 impl Model for Flows {
     ghost use Rattle.flow_table.specs.Table.{FlowTable};
-    ghost use Rattle.flow_table.specs.Index.{IsFlowTable, flows_of};
+    ghost use Rattle.flow_table.specs.Index.{IsFlowTable};
 
     ghost Value = { FlowTable };
 
-    ghost view = { λ f. record { capacity = f.capacity; units = f.units; flows = flows_of f.by_sfid.entries } };
+    ghost view = { λ f. record { capacity = f.capacity; units = f.units; flows = f.by_sfid } };
 
-    ghost invariant = { λ f. IsFlowTable f.capacity f.units (flows_of f.by_sfid.entries) f.by_sid.entries f.ledger };
+    ghost invariant = { λ f. IsFlowTable f.capacity f.units f.by_sfid f.by_sid.entries f.ledger };
 }
 
 impl Flows {
@@ -54,7 +54,7 @@ impl Flows {
         Ok(Flows {
             capacity,
             units,
-            by_sfid: BTreeMap::new(alloc),
+            by_sfid: FlowRows::new(alloc),
             by_sid: BTreeMap::new(alloc),
             ledger,
         })
@@ -71,8 +71,7 @@ impl Flows {
     pub fn get(&self, sfid: u32) -> Option<&Flow>
         ensures { option_copied result ≡ flow_at sfid self.now.flows }
     {
-        let flow = self.by_sfid.get(&sfid)?;
-        Some(flow.as_ref())
+        self.by_sfid.get(sfid)
     }
 
     /// Returns the flow that has this SID, with its SFID. Takes no memory.
@@ -105,7 +104,7 @@ impl Flows {
         ensures exact { result ≡ least_free_of range.now (sfids_of self.now.flows) }
         ensures found { IfSome result (IsLeastFree range.now (sfids_of self.now.flows)) }
     {
-        least_free_sfid(&self.by_sfid, range)
+        self.by_sfid.least_free(range)
     }
 
     /// Returns the least SID of a range that no flow has. Takes no memory.
@@ -147,7 +146,7 @@ impl Flows {
     {
         let committed = flow.committed(self.units);
         let has = flow.sid;
-        let had = grow(&mut self.by_sfid, &mut self.by_sid, sfid, flow)?;
+        let had = self.by_sfid.put(&mut self.by_sid, sfid, flow)?;
         free(&mut self.by_sid, had, has);
         commit(&mut self.ledger, sfid, committed);
         Ok(())
@@ -157,7 +156,7 @@ impl Flows {
     pub fn acknowledge(&mut self, sfid: u32, frame: u32)
         ensures { self.new ≡ record self.old { flows = change_at sfid (flow_after_ack frame) self.old.flows } }
     {
-        if let Some(moved) = acknowledge_in(&mut self.by_sfid, self.units, sfid, frame) {
+        if let Some(moved) = self.by_sfid.acknowledge(self.units, sfid, frame) {
             free(&mut self.by_sid, moved.had, moved.has);
             commit(&mut self.ledger, sfid, moved.committed);
         }
@@ -167,7 +166,7 @@ impl Flows {
     pub fn take_back(&mut self, sfid: u32)
         ensures { self.new ≡ record self.old { flows = change_at sfid taken_back self.old.flows } }
     {
-        if let Some(moved) = take_back_in(&mut self.by_sfid, self.units, sfid) {
+        if let Some(moved) = self.by_sfid.take_back(self.units, sfid) {
             free(&mut self.by_sid, moved.had, moved.has);
             commit(&mut self.ledger, sfid, moved.committed);
         }
@@ -178,7 +177,7 @@ impl Flows {
     pub fn request(&mut self, sfid: u32, minislots: u16, frame: u32)
         ensures { self.new ≡ record self.old { flows = change_at sfid (flow_after_request minislots frame) self.old.flows } }
     {
-        request_in(&mut self.by_sfid, sfid, minislots, frame);
+        self.by_sfid.request(sfid, minislots, frame);
     }
 
     /// Takes so many granted minislots of this frame off the backlog. The rest waits since the next
@@ -187,7 +186,7 @@ impl Flows {
         requires { frame < 4294967295 }
         ensures { self.new ≡ record self.old { flows = change_at sfid (flow_after_grant minislots frame) self.old.flows } }
     {
-        grant_in(&mut self.by_sfid, sfid, minislots, frame);
+        self.by_sfid.grant(sfid, minislots, frame);
     }
 
     /// Removes the flow of an SFID, if there is one. Takes no memory.
@@ -195,7 +194,7 @@ impl Flows {
     pub fn remove(&mut self, sfid: u32)
         ensures { self.new ≡ record self.old { flows = remove_entry (is_at (nat_cmp sfid)) self.old.flows } }
     {
-        let had = remove_in(&mut self.by_sfid, sfid);
+        let had = self.by_sfid.remove(sfid);
         free(&mut self.by_sid, had, None);
         release(&mut self.ledger, sfid);
     }
@@ -204,27 +203,14 @@ impl Flows {
     pub fn flowing(&self, alloc: Global) -> Result<Vec<Flowing>, AllocError>
         ensures { IfOk result (λ flowing. flowing.items ≡ flowing_in self.now.flows) }
     {
-        let mut all = Vec::with_capacity(alloc, self.by_sfid.len())?;
-        for (sfid, flow) in &self.by_sfid {
-            if let Some(flowing) = flowing_of(*sfid, flow) {
-                all.push_reserved(flowing);
-            }
-        }
-        Ok(all)
+        self.by_sfid.flowing(alloc)
     }
 
     /// Returns the flows under their SFIDs, ascending: a copy.
     pub fn to_vec(&self, alloc: Global) -> Result<Vec<(u32, Flow)>, AllocError>
         ensures { IfOk result (λ flows. flows.items ≡ self.now.flows) }
     {
-        let mut flows = Vec::with_capacity(alloc, self.by_sfid.len())?;
-        for (sfid, flow) in &self.by_sfid {
-            let flow = flow.as_ref();
-            // Read before the copy, so that the check knows the type of this part of the flow.
-            let _pending = flow.pending;
-            flows.push((*sfid, *flow))?;
-        }
-        Ok(flows)
+        self.by_sfid.to_vec(alloc)
     }
 
     /// States what every table keeps, for a caller's proof. Does nothing.
@@ -238,64 +224,8 @@ impl Flows {
     }
 }
 
-/// Removes the flow of an SFID, if there is one, and answers the SID that it had.
-#[inline(always)]
-#[tactic(auto, using(crate::proofs::BoxedLemmas::boxed_taken, crate::proofs::BoxedLemmas::boxed_some, crate::proofs::BoxedLemmas::boxed_none))]
-fn remove_in(by_sfid: &mut BTreeMap<u32, Box<Flow>>, sfid: u32) -> Option<u16>
-    ensures flows { flows_of by_sfid.new.entries ≡ remove_entry (is_at (nat_cmp sfid)) (flows_of by_sfid.old.entries) }
-    ensures had { result ≡ sid_if (flow_at sfid (flows_of by_sfid.old.entries)) }
-{
-    match by_sfid.remove(&sfid) {
-        None => None,
-        Some(flow) => flow.sid,
-    }
-}
-
-/// Returns the least number of a range that is not a SFID, by one walk over the SFIDs in their
-/// order.
-#[tactic(auto, using(crate::proofs::GapLemmas::gap_answer_here, crate::proofs::GapLemmas::gap_answer_end, crate::proofs::GapLemmas::gap_answer))]
-fn least_free_sfid(flows: &BTreeMap<u32, Box<Flow>>, range: &IdRange) -> Option<u32>
-    requires { IsStrictlySortedBy nat_cmp (keys_of flows.now.entries) }
-    ensures { result ≡ least_free_of range.now (keys_of flows.now.entries) }
-{
-    if let Some(end) = end_of_packed(flows, range.get_first()) {
-        return within(end, range);
-    }
-    let mut next = u64::from(range.get_first());
-    for (sfid, _flow) in flows {
-        let sfid = u64::from(*sfid);
-        if sfid > next {
-            return within(next, range);
-        }
-        if sfid == next {
-            next += 1;
-        }
-    }
-    within(next, range)
-}
-
-/// Returns the number after all SFIDs, where they are the numbers from `first` on with none left
-/// out. Looks at the ends alone.
-#[tactic(auto, using(crate::proofs::GapLemmas::packed_keys))]
-fn end_of_packed(flows: &BTreeMap<u32, Box<Flow>>, first: u32) -> Option<u64>
-    requires { IsStrictlySortedBy nat_cmp (keys_of flows.now.entries) }
-    ensures gap { IfSome result (λ end. end ≡ gap_from first (keys_of flows.now.entries)) }
-    ensures from { IfSome result (λ end. first ≤ end) }
-{
-    let (least, _flow) = flows.first_key_value()?;
-    let (greatest, _flow) = flows.last_key_value()?;
-    if first > *least || first > *greatest {
-        return None;
-    }
-    if (*greatest - first) as usize + 1 == flows.len() {
-        Some(u64::from(*greatest) + 1)
-    } else {
-        None
-    }
-}
-
 /// Returns a number from the first of a range on, where it is one of the range.
-fn within(number: u64, range: &IdRange) -> Option<u32>
+pub(crate) fn within(number: u64, range: &IdRange) -> Option<u32>
     requires { range.now.first ≤ number }
     ensures { result ≡ if nat_le number range.now.last then Some number else None }
 {
@@ -350,55 +280,13 @@ fn end_of_packed_sids(index: &BTreeMap<u16, u32>, first: u32) -> Option<u64>
     }
 }
 
-/// Returns a flow as it is scheduled, where it has an active set.
-fn flowing_of(sfid: u32, flow: &Flow) -> Option<Flowing>
-    ensures { result ≡ flowing_of_set sfid flow.now flow.now.sets.active }
-{
-    let set = flow.sets.get_active()?;
-    Some(Flowing {
-        sfid,
-        sid: flow.sid.unwrap_or(0),
-        set,
-        start: flow.start,
-        backlog: flow.backlog,
-        since: flow.since,
-    })
-}
-
-/// Puts a flow under its SFID and, where it has a SID, its SFID under that: both or neither.
-/// Returns the SID that the flow had that was there.
-#[inline(always)]
-#[tactic(auto, using(crate::proofs::BoxedLemmas::boxed_put, crate::proofs::BoxedLemmas::boxed_some, crate::proofs::BoxedLemmas::boxed_none))]
-fn grow(
-    by_sfid: &mut BTreeMap<u32, Box<Flow>>,
-    by_sid: &mut BTreeMap<u16, u32>,
-    sfid: u32,
-    flow: Box<Flow>,
-) -> Result<Option<u16>, AllocError>
-    ensures had { IfOk result (λ had. had ≡ sid_if (flow_at sfid (flows_of by_sfid.old.entries))) }
-    ensures flows { OnOk result (flows_of by_sfid.new.entries ≡ with_flow sfid flow.value (flows_of by_sfid.old.entries)) }
-    ensures index { OnOk result (by_sid.new.entries ≡ with_sid_of flow.value.sid sfid by_sid.old.entries) }
-    ensures err { OnErr result ((by_sfid.new.entries ≡ by_sfid.old.entries)
-        × (by_sid.new.entries ≡ by_sid.old.entries)) }
-{
-    match by_sfid.entry(sfid)? {
-        Entry::Vacant(place) => {
-            list(by_sid, flow.sid, sfid)?;
-            let _flow = place.insert(flow);
-            Ok(None)
-        }
-        Entry::Occupied(place) => {
-            let had = place.get().sid;
-            list(by_sid, flow.sid, sfid)?;
-            *place.into_mut() = flow;
-            Ok(had)
-        }
-    }
-}
-
 /// Puts an SFID under a SID, where there is one.
 #[inline(always)]
-fn list(by_sid: &mut BTreeMap<u16, u32>, sid: Option<u16>, sfid: u32) -> Result<(), AllocError>
+pub(crate) fn list(
+    by_sid: &mut BTreeMap<u16, u32>,
+    sid: Option<u16>,
+    sfid: u32,
+) -> Result<(), AllocError>
     ensures ok { OnOk result (by_sid.new.entries ≡ with_sid_of sid sfid by_sid.old.entries) }
     ensures err { OnErr result (by_sid.new.entries ≡ by_sid.old.entries) }
 {
@@ -417,77 +305,6 @@ fn free(by_sid: &mut BTreeMap<u16, u32>, had: Option<u16>, has: Option<u16>)
         if has != Some(sid) {
             let _sfid = by_sid.remove(&sid);
         }
-    }
-}
-
-/// What the index and the ledger have to know of a flow that was changed in place.
-#[derive(Clone, Copy, Debug, PartialEq, Eq)]
-struct Moved {
-    /// The SID that it had.
-    had: Option<u16>,
-    /// The SID that it has.
-    has: Option<u16>,
-    /// What it has committed.
-    committed: Budget,
-}
-
-/// Acknowledges what waits of the flow of an SFID, where there is one.
-#[tactic(auto, using(crate::proofs::BoxedLemmas::boxed_changed, crate::proofs::BoxedLemmas::boxed_absent, crate::proofs::BoxedLemmas::told_none))]
-fn acknowledge_in(
-    by_sfid: &mut BTreeMap<u32, Box<Flow>>,
-    units: Units,
-    sfid: u32,
-    frame: u32,
-) -> Option<Moved>
-    ensures flows { flows_of by_sfid.new.entries ≡ change_at sfid (flow_after_ack frame) (flows_of by_sfid.old.entries) }
-    ensures told { result ≡ told_of units (flow_after_ack frame) (flow_at sfid (flows_of by_sfid.old.entries)) }
-{
-    let flow = by_sfid.get_mut(&sfid)?.as_mut();
-    let had = flow.sid;
-    flow.acknowledge(frame);
-    let (has, committed) = (flow.sid, flow.committed(units));
-    Some(Moved {
-        had,
-        has,
-        committed,
-    })
-}
-
-/// Takes back what waits of the flow of an SFID, where there is one.
-#[tactic(auto, using(crate::proofs::BoxedLemmas::boxed_changed, crate::proofs::BoxedLemmas::boxed_absent, crate::proofs::BoxedLemmas::told_none))]
-fn take_back_in(by_sfid: &mut BTreeMap<u32, Box<Flow>>, units: Units, sfid: u32) -> Option<Moved>
-    ensures flows { flows_of by_sfid.new.entries ≡ change_at sfid taken_back (flows_of by_sfid.old.entries) }
-    ensures told { result ≡ told_of units taken_back (flow_at sfid (flows_of by_sfid.old.entries)) }
-{
-    let flow = by_sfid.get_mut(&sfid)?.as_mut();
-    let had = flow.sid;
-    flow.take_back();
-    let (has, committed) = (flow.sid, flow.committed(units));
-    Some(Moved {
-        had,
-        has,
-        committed,
-    })
-}
-
-/// Makes so many minislots the backlog of the flow of an SFID, where there is one.
-#[tactic(auto, using(crate::proofs::BoxedLemmas::boxed_changed, crate::proofs::BoxedLemmas::boxed_absent))]
-fn request_in(by_sfid: &mut BTreeMap<u32, Box<Flow>>, sfid: u32, minislots: u16, frame: u32)
-    ensures { flows_of by_sfid.new.entries ≡ change_at sfid (flow_after_request minislots frame) (flows_of by_sfid.old.entries) }
-{
-    if let Some(flow) = by_sfid.get_mut(&sfid) {
-        flow.request(minislots, frame);
-    }
-}
-
-/// Takes so many granted minislots off the backlog of the flow of an SFID, if there is one.
-#[tactic(auto, using(crate::proofs::BoxedLemmas::boxed_changed, crate::proofs::BoxedLemmas::boxed_absent))]
-fn grant_in(by_sfid: &mut BTreeMap<u32, Box<Flow>>, sfid: u32, minislots: u16, frame: u32)
-    requires { frame < 4294967295 }
-    ensures { flows_of by_sfid.new.entries ≡ change_at sfid (flow_after_grant minislots frame) (flows_of by_sfid.old.entries) }
-{
-    if let Some(flow) = by_sfid.get_mut(&sfid) {
-        flow.grant(minislots, frame);
     }
 }
 

@@ -4,6 +4,7 @@
 mod flow;
 mod flows;
 mod laws;
+mod rows;
 
 pub use flow::{Asker, Flow, Pending};
 pub use flows::Flows;

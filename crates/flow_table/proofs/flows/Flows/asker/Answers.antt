@@ -1,6 +1,6 @@
 use Rattle.std.proofs.Common.{◌≡◌, ℕ, List, Option, Some, IfSome, ap, sym, subst, ◌∙◌}
 use Rattle.std.specs.Option.{option_copied}
-use Rattle.flow_table.proofs.Common.{Flow, flow_at, flows_of, asker_of}
+use Rattle.flow_table.proofs.Common.{Flow, flow_at, asker_of}
 use Rattle.flow_table.proofs.IndexLemmas.{with_sid_none, with_sid_some, with_sid_there}
 use Rattle.flow_table.proofs.flows.Flows.asker.Goals as goal
 
@@ -17,7 +17,7 @@ pub returns-in_err-sfid-clause-there : goal.returns-in_err-sfid-clause-there
 returns-in_err-sfid-clause-there c =
     let sfid_is = sym c.get.ensures.value ∙ (sym c.copied.ensures ∙ c.in_err-sfid.was) in
     rw (← c.self.view_is)
-    (subst (There (flows_of c.self.inside.by_sfid.entries)) (sym (with_sid_none c.self.invariant.indexed c.args.sid sfid_is)) tt)
+    (subst (There c.self.inside.by_sfid) (sym (with_sid_none c.self.invariant.indexed c.args.sid sfid_is)) tt)
 
 pub returns-in_err-flow-clause-value : goal.returns-in_err-flow-clause-value
 returns-in_err-flow-clause-value c =
@@ -43,4 +43,4 @@ returns-clause-there c =
     let sfid_is = sym c.get.ensures.value ∙ (sym c.copied.ensures ∙ c.in_ok-sfid.was) in
     let flow_is = sym (rw (← c.self.view_is) at c.get-2.ensures) ∙ ap option_copied c.in_ok-flow.was in
     let some = with_sid_some c.self.invariant.indexed c.args.sid c.in_ok-sfid.sfid c.in_ok-flow.flow.now sfid_is flow_is in
-    rw (← c.self.view_is) (subst (There (flows_of c.self.inside.by_sfid.entries)) (sym some) flow_is)
+    rw (← c.self.view_is) (subst (There c.self.inside.by_sfid) (sym some) flow_is)

@@ -1,4 +1,4 @@
-use Rattle.flow_table.proofs.Common.{FlowTable, HasRoomFor, flows_of}
+use Rattle.flow_table.proofs.Common.{FlowTable, HasRoomFor}
 use Rattle.flow_table.proofs.IndexLemmas.{row_room, table_put, index_put}
 use Rattle.flow_table.proofs.flows.Flows.put_flow.Goals as goal
 
@@ -11,7 +11,7 @@ pub invariant_of-self-2 : goal.invariant_of-self-2
 invariant_of-self-2 c =
     let inside = c.self.inside in
     let flow = c.args.flow.value in
-    let table : FlowTable = record { capacity = inside.capacity; units = inside.units; flows = flows_of inside.by_sfid.entries } in
+    let table : FlowTable = record { capacity = inside.capacity; units = inside.units; flows = inside.by_sfid } in
     let may : HasRoomFor table c.args.sfid flow = rw (← c.self.view_is) at c.requires in
     let indexed = index_put c.self.invariant.indexed c.args.sfid flow may.sid in
     rw (c.commit.ensures, c.free.ensures, c.in_ok-had.ensures.flows, c.in_ok-had.ensures.index, c.in_ok-had.ensures.had)

@@ -4,4 +4,4 @@ use Rattle.flow_table.proofs.MovedLemmas.{table_moved}
 use Rattle.flow_table.proofs.flows.Flows.request.Goals as goal
 
 pub invariant_of-self : goal.invariant_of-self
-invariant_of-self c = rw c.request_in.ensures (table_moved c.self.invariant c.args.sfid (flow_after_request c.args.minislots c.args.frame) (λ f. refl) (λ f. refl))
+invariant_of-self c = rw c.request.ensures (table_moved c.self.invariant c.args.sfid (flow_after_request c.args.minislots c.args.frame) (λ f. refl) (λ f. refl))
