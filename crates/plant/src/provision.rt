@@ -1,6 +1,6 @@
 //! Provisioned flows.
 
-ghost use Rattle.std.specs.Prelude.{◌≡◌, IfOk};
+ghost use Rattle.std.specs.Prelude.{◌≡◌, IfOk, IfSome};
 ghost use Rattle.plant.specs.Provisioned.{sets_of_type, sets_of_asked, sets_of_encoding};
 ghost use Rattle.plant.specs.declared.provision.Provision.{Provision};
 
@@ -30,6 +30,23 @@ impl Provision {
         let stated = read_flow(self.encoding.as_slice()).ok()?;
         let asked = consts.requested_encoding(&stated)?;
         sets_of_asked(consts.get_fields().units, stated.get_set_type(), &asked)
+    }
+
+    /// Returns the sets that the flow is opened with, as `sets` does. Takes over those of the flow
+    /// before it if both have the same encoding, as most flows of a plant file have. Takes no memory.
+    pub fn sets_after(
+        &self,
+        consts: &Consts,
+        before: Option<&Provision>,
+        sets_before: Option<Sets>,
+    ) -> Option<Sets>
+        requires { IfSome before (λ p. sets_before ≡ sets_of_encoding consts.now p.now.encoding) }
+        ensures { result ≡ sets_of_encoding consts.now self.now.encoding }
+    {
+        match before {
+            Some(before) if self.encoding.as_slice() == before.encoding.as_slice() => sets_before,
+            _ => self.sets(consts),
+        }
     }
 
     /// Returns an equal value with memory of its own.

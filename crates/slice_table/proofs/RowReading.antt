@@ -4,7 +4,7 @@ use Rattle.slice_table.proofs.Common.{list_any, and_parts, not-true, All-push, a
 use Rattle.slice_table.specs.declared.plant_key.Field.TheVariants as field
 use Rattle.slice_table.specs.declared.plant_key.Place.TheVariants as place
 use Rattle.plant.specs.Name.{is_operator_name}
-use Rattle.slice_table.specs.ReadRows.{is_called, name_at, fits_frame, slice_at, range_at, modem_read, modems_at, own_modem_at, has_sets, provision_at, provision_read, provisions_in, provisions_if, row_at, row_read, rows_of}
+use Rattle.slice_table.specs.ReadRows.{is_called, name_at, fits_frame, slice_at, range_at, modem_read, modems_at, own_modem_at, has_sets, HaveSets, provision_at, provision_read, provisions_in, provisions_if, row_at, row_read, rows_of}
 use Rattle.slice_table.proofs.Parsed.{bind_ok, checked_ok, each_keeps, each_len}
 use Rattle.slice_table.proofs.SaidKeys.{number_in_is, said_in_range, range_is}
 use Rattle.slice_table.proofs.RowParts.{row_parts}
@@ -89,6 +89,14 @@ unfolding provision_read
 own_read consts operator modems done d p held h =
     let table = bind_ok (table_of (place.Flow operator (length done)) d) _ p h in
     All-push (IsOwn consts modems) done p held (own_at consts modems (place.Flow operator (length done)) table.0 p table.2)
+
+-- one more flow that is read has sets, as those before it
+pub sets_read : (consts : ConstsFields) (operator : ℕ) (modems : List Modem) (done : List Provision) (d : Data) (p : Provision)
+    → HaveSets consts done → provision_read consts operator modems done d ≡ Ok p → HaveSets consts (done ++ p ∷ [])
+unfolding provision_read
+sets_read consts operator modems done d p held h =
+    let table = bind_ok (table_of (place.Flow operator (length done)) d) _ p h in
+    All-push (λ q. IsSome (sets_of_encoding consts q.encoding)) done p held (own_at consts modems (place.Flow operator (length done)) table.0 p table.2).sets
 
 provisions_there : (consts : ConstsFields) (operator : ℕ) (modems : List Modem) (d : Data) (ps : List Provision)
     → provisions_in consts operator modems d ≡ Ok ps → All (IsOwn consts modems) ps

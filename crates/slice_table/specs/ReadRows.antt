@@ -1,5 +1,5 @@
 -- What a plant file says of its operators: the keys of each in their order, and the first fault (implementation-specific).
-use Rattle.std.specs.Prelude.{codes, ℕ, ◌+◌, ◌&&◌, nat_le, Bool, not, List, [], length, Option, Some, None, is_some, if◌then◌else◌, Ok, Err}
+use Rattle.std.specs.Prelude.{codes, ℕ, ◌+◌, ◌&&◌, nat_le, Bool, not, List, [], length, All, IsSome, Option, Some, None, is_some, if◌then◌else◌, Ok, Err}
 use Rattle.std.specs.List.{list_any}
 use Rattle.std.specs.Str.{bytes_eq}
 use Rattle.toml.specs.Data.{Data, Members, get_member, as_array}
@@ -94,6 +94,10 @@ own_modem_at modems place ms = do
 -- whether a flow is given sets by its encoding
 unfoldable pub has_sets : ConstsFields → Provision → Bool
 has_sets consts p = is_some (sets_of_encoding consts p.encoding)
+
+-- each of these flows is given sets by its encoding
+abbrev pub HaveSets : ConstsFields → List Provision → Type 0
+HaveSets consts ps = All (λ p. IsSome (sets_of_encoding consts p.encoding)) ps
 
 unfoldable pub provision_at : ConstsFields → List Modem → Place → Members → PlantResult Provision
 provision_at consts modems place ms = do

@@ -61,8 +61,11 @@ fn demand_of(consts: &Consts, provisions: &[Provision]) -> Demand
         minislots: 0,
         elements: 0,
     };
+    let mut before: Option<&Provision> = None;
+    let mut sets: Option<Sets> = None;
     for provision in provisions {
-        let sets = provision.sets(consts);
+        sets = provision.sets_after(consts, before, sets);
+        before = Some(provision);
         let need = need_of_sets(&consts.get_fields().units, &sets);
         all.sids += usize::from(admits(&sets));
         all.minislots += u64::from(need.minislots);

@@ -10,7 +10,7 @@ ghost use Rattle.lists.specs.Results.{Gives};
 ghost use Rattle.slice_table.specs.Tree.{plant_cause, each, at_field};
 ghost use Rattle.slice_table.specs.Ranges.{range_of};
 ghost use Rattle.plant.specs.Name.{is_operator_name};
-ghost use Rattle.slice_table.specs.ReadRows.{is_called, name_at, fits_frame, slice_at, is_range, range_at, aged_at, policy_named, policy_at, modem_read, modems_at, own_modem_at, has_sets, provision_at, provision_read, provisions_in, provisions_if, row_at, row_read, rows_of};
+ghost use Rattle.slice_table.specs.ReadRows.{is_called, name_at, fits_frame, slice_at, is_range, range_at, aged_at, policy_named, policy_at, modem_read, modems_at, own_modem_at, has_sets, HaveSets, provision_at, provision_read, provisions_in, provisions_if, row_at, row_read, rows_of};
 
 use crate::plant_fault::PlantFault;
 use crate::plant_key::{Field, Key, Place};
@@ -173,12 +173,17 @@ fn own_modem_at(modems: &Modems, table: &Table, place: Place) -> Result<Modem, P
     }
 }
 
-/// Returns whether a flow is given sets by its encoding.
+/// Returns whether a flow is given sets by its encoding. Those before it are, and so is this one if
+/// the last of them has the same encoding.
 #[tactic(auto, unfolding(crate::specs::ReadRows::has_sets))]
-fn has_sets(consts: &Consts, provision: &Provision) -> bool
+fn has_sets(consts: &Consts, flows: &[Provision], provision: &Provision) -> bool
+    requires { HaveSets consts.now flows.now }
     ensures { result ≡ has_sets consts.now provision.now }
 {
-    provision.sets(consts).is_some()
+    match flows.last() {
+        Some(before) if before.encoding.as_slice() == provision.encoding.as_slice() => true,
+        _ => provision.sets(consts).is_some(),
+    }
 }
 
 /// Returns a provisioned flow, or the first fault of its keys.
@@ -187,15 +192,17 @@ fn provision_at(
     alloc: Global,
     consts: &Consts,
     modems: &Modems,
+    flows: &[Provision],
     table: &Table,
     place: Place,
 ) -> Result<Provision, PlantFault>
+    requires { HaveSets consts.now flows.now }
     ensures { Gives plant_cause (λ provision. provision) result (provision_at consts.now modems.now place (table_view table.now)) }
 {
     let modem = own_modem_at(modems, table, place)?;
     let encoding = Bytes::from_vec(bytes_at(alloc, table, place, Field::Encoding)?);
     let provision = Provision { modem, encoding };
-    if has_sets(consts, &provision) {
+    if has_sets(consts, flows, &provision) {
         Ok(provision)
     } else {
         Err(place.wrong(Field::Encoding))
@@ -212,12 +219,13 @@ fn provision_read(
     flows: &[Provision],
     value: &Value,
 ) -> Result<Provision, PlantFault>
+    requires { HaveSets consts.now flows.now }
     ensures { Gives plant_cause (λ provision. provision) result
         (provision_read consts.now operator modems.now flows.now (view value.now)) }
 {
     let place = Place::Flow(operator, flows.len());
     let table = table_of(value, place)?;
-    provision_at(alloc, consts, modems, table, place)
+    provision_at(alloc, consts, modems, flows, table, place)
 }
 
 /// Returns the provisioned flows one after the other.
