@@ -1,38 +1,29 @@
--- Cached pairs stay right.
-use Rattle.std.proofs.Common.{◌≡◌, ℕ, Bool, true, List, Result, Ok, Err, Some, OnOk, OnErr, sym, ap, subst, ◌∙◌, inl, inr}
-use Rattle.std.specs.Map.{lookup}
-use Rattle.live_core.proofs.Common.{bytes_eq-Decides, Modem, RowFields, same_modem, holder}
-use Rattle.lru.specs.LruCache.{LruCache, lru_cache, promoted, put_entries}
-use Rattle.lru.proofs.CallerLemmas.{Contains-promoted, Contains-lookup, Contains-put_entries}
-use Rattle.live_core.specs.Cached.{AreHolders}
+-- An entry of a route cache gives the operator that lists the modem.
+use Rattle.std.proofs.Common.{◌≡◌, ℕ, ◌<◌, List, ◌∷◌, All, length, slice_index_or, drop, Option, Some, suc, sym, ap, subst, ◌∙◌, inl, inr, arith}
+use Rattle.std.proofs.lemmas.Bool.{cases_lt}
+use Rattle.std.proofs.lemmas.List.{get_or_past}
+use Rattle.std.proofs.lemmas.List.Elements.{All-cons}
+use Rattle.std.proofs.lemmas.Nat.{be_bytes_8}
+use Rattle.dsx_messages.specs.Modem.{address_number}
+use Rattle.live_core.proofs.Common.{Modem, RowFields, holder}
+use Rattle.live_core.specs.Cached.{IsAddress, IsOfHolder, modem_of}
 
-same_is_equal : (a b : Modem) → same_modem a b ≡ true → a ≡ b
-same_is_equal a b h = ap (λ (bytes : List ℕ). record { 0 = bytes }) ((bytes_eq-Decides a.0 b.0).0 h)
-
-pub promoted_right : (rows : List RowFields) (test : Modem → Bool) (pairs : List (Modem × ℕ)) → AreHolders rows pairs → AreHolders rows (promoted test pairs)
-promoted_right rows test pairs right modem op held = right modem op (Contains-promoted test pairs (modem, op) held)
-
-pub lookup_right : (rows : List RowFields) (modem : Modem) (pairs : List (Modem × ℕ)) (op : ℕ) → AreHolders rows pairs
-    → lookup (same_modem modem) pairs ≡ Some op → holder rows modem ≡ Some op
-lookup_right rows modem pairs op right found =
-    let there = Contains-lookup (same_modem modem) pairs op found in
-    subst (λ (m : Modem). holder rows m ≡ Some op) (sym (same_is_equal modem there.0 there.2)) (right there.0 op there.1)
-
-pub put_right : (rows : List RowFields) (cache : LruCache Modem ℕ) (modem : Modem) (op : ℕ) → AreHolders rows cache.entries → holder rows modem ≡ Some op
-    → AreHolders rows (put_entries same_modem cache modem op)
-put_right rows cache modem op right is other k held = elim (Contains-put_entries same_modem cache modem op (other, k) held) [
-  | inl was ↦ right other k was
-  | inr put ↦ let at : holder rows modem ≡ Some k = is ∙ ap (λ (n : ℕ). Some n) (sym put.0) in elim put.1 [
-    | inl key ↦ subst (λ (m : Modem). holder rows m ≡ Some k) (sym key) at
-    | inr same ↦ subst (λ (m : Modem). holder rows m ≡ Some k) (same_is_equal modem other same.2) at
-  ]
+byte_at : (bytes : List ℕ) → All (λ byte. byte < 256) bytes → (i : ℕ) → slice_index_or bytes i 0 < 256
+byte_at bytes small i = elim (cases_lt i (length bytes)) [
+  | inl within ↦ small i 0 within
+  | inr past ↦ subst (λ (n : ℕ). n < 256) (sym (get_or_past bytes i 0 past)) (omega arith)
 ]
 
--- whether or not the pair found memory
-pub after_put_right : {X Y : Type 0} (rows : List RowFields) (result : Result X Y) (old new : LruCache Modem ℕ) (modem : Modem) (op : ℕ)
-    → AreHolders rows old.entries → holder rows modem ≡ Some op
-    → OnOk result (new ≡ lru_cache (put_entries same_modem old modem op) old.cap) → OnErr result (new ≡ old) → AreHolders rows new.entries
-after_put_right rows (Ok x) old new modem op right is ok err =
-    subst (λ (c : LruCache Modem ℕ). AreHolders rows c.entries) (sym ok) (put_right rows old modem op right is)
-after_put_right rows (Err y) old new modem op right is ok err =
-    subst (λ (c : LruCache Modem ℕ). AreHolders rows c.entries) (sym err) right
+with_zero : (bytes : List ℕ) → All (λ byte. byte < 256) bytes → All (λ byte. byte < 256) (0 ∷ bytes)
+with_zero bytes = All-cons (λ byte. byte < 256) 0 bytes (omega arith)
+
+pub modem_of_number : (modem : Modem) (number : ℕ) → IsAddress modem → number ≡ address_number modem.0 → modem_of number ≡ modem
+modem_of_number modem number address is = ap (λ (bytes : List ℕ). record { 0 = drop 2 bytes })
+    (be_bytes_8 (0 ∷ 0 ∷ modem.0) number (ap (λ (n : ℕ). suc (suc n)) address.six)
+    (byte_at (0 ∷ 0 ∷ modem.0) (with_zero (0 ∷ modem.0) (with_zero modem.0 address.bytes))) is)
+
+pub entry_right : (rows : List RowFields) (entries : List (Option (ℕ × ℕ))) (index : ℕ) (entry : Option (ℕ × ℕ))
+    (known op : ℕ) → All (IsOfHolder rows) entries → index < length entries → entry ≡ slice_index_or entries index entry
+    → entry ≡ Some (known, op) → holder rows (modem_of known) ≡ Some op
+entry_right rows entries index entry known op right within read found =
+    right index entry within known op (sym read ∙ found)

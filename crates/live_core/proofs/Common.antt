@@ -31,7 +31,7 @@ pub use Rattle.operator_model.specs.declared.heard.Heard.{Heard}
 pub use Rattle.operator_model.specs.declared.output.Output.{Output}
 pub use Rattle.plant.specs.Plant.{IsPlant}
 pub use Rattle.plant.specs.Roster.{holder}
-pub use Rattle.plant.specs.Row.{same_modem, is_listed}
+pub use Rattle.plant.specs.Row.{is_listed}
 pub use Rattle.plant.specs.declared.consts.Channel.{Channel}
 pub use Rattle.plant.specs.declared.consts.ConstsFields.{ConstsFields}
 pub use Rattle.plant.specs.declared.operator_row.RowFields.{RowFields}

@@ -42,3 +42,11 @@ frames_are consts row state action =
 
 pub one_frame : (consts : ConstsFields) (row : RowFields) (state : OperatorState) (action : Action) → length (frames_of (own_step (operator consts row state) action).outputs) ≤ 1
 one_frame consts row state action = omega (arith, frames_are consts row state action, ticks action)
+
+-- an action that is no tick puts out no frame
+pub no_frame : (consts : ConstsFields) (row : RowFields) (state : OperatorState) (action : Action) → count_by is_tick (action ∷ []) ≡ 0 → frames_of (own_step (operator consts row state) action).outputs ≡ []
+no_frame consts row state action no_tick = none _ (frames_are consts row state action ∙ no_tick)
+  where
+    none : {X : Type 0} (xs : List X) → length xs ≡ 0 → xs ≡ []
+    none [] h = refl
+    none (x ∷ xs) h = cc

@@ -15,6 +15,7 @@ pub mod AlikeLemmas
 pub mod BehindLemmas
 pub mod GoLemmas
 pub mod PlanLemmas
+pub mod FramelessLemmas
 pub mod LawLemmas
 pub mod RunLemmas
 pub mod PartLemmas

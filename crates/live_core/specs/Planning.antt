@@ -3,7 +3,8 @@ use Rattle.std.specs.Prelude.{◌≡◌, ℕ, slice_get, Some}
 use Rattle.operator_model.specs.declared.action.Action.{Action}
 use Rattle.operator_model.specs.Machine.{IsAllowed}
 use Rattle.operator_model.specs.Replay.{BookView, operator_of_book}
-use Rattle.operator_book.specs.Planned.{IsPlanOf, IsCommittable}
+use Rattle.operator_book.specs.declared.handling.FirstRequest.{FirstRequest}
+use Rattle.operator_book.specs.Planned.{IsFirstRequest, IsPlanOf, IsCommittable}
 use Rattle.run_model.specs.IsStateAfter.{CoreView}
 use Rattle.live_core.specs.declared.act_plan.ActPlan.{ActPlan}
 use Rattle.live_core.specs.Reachable.{IsOfAStep}
@@ -21,3 +22,9 @@ pub record IsActPlan (core : CoreView) (op : ℕ) (action : Action) (act : ActPl
 -- it is the plan of some action
 abbrev pub IsSomeActPlan : CoreView → ActPlan → Type 0
 IsSomeActPlan core act = (op : ℕ) × (action : Action) × IsActPlan core op action act
+
+-- the operator at this place received this bandwidth request first
+pub record HasRequest (core : CoreView) (op : ℕ) (first : FirstRequest) : Type 0 where
+  pub book : BookView
+  pub book_is : slice_get core.books op ≡ Some book
+  pub first_is : IsFirstRequest book.state.inbox first

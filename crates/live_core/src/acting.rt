@@ -2,8 +2,9 @@
 
 ghost use Rattle.std.specs.Prelude.{◌≡◌, ◌+◌, ◌<◌, ◌≤◌, ◌++◌, length, vec_len, vec_capacity, slice_get, option_to_list, Some, None, IfOk, IfSome, OnOk, OnErr};
 ghost use Rattle.std.specs.VecDeque.{deque_len, deque_capacity};
-ghost use Rattle.operator_model.specs.Machine.{stranger_of, unfit_of, IsAllowed};
-ghost use Rattle.operator_book.specs.Planned.{IsPlanOf, IsCommittable, after_effect};
+ghost use Rattle.operator_model.specs.declared.action.Action.TheVariants as actions;
+ghost use Rattle.operator_model.specs.Machine.{stranger_of, unfit_of, own_step, after_step, IsAllowed};
+ghost use Rattle.operator_book.specs.Planned.{IsFirstRequest, IsPlanOf, IsCommittable, after_effect};
 ghost use Rattle.run_model.specs.OwnSteps.{outputs_under};
 ghost use Rattle.run_model.specs.IsStateAfter.{frames_of};
 ghost use Rattle.run_model.specs.Steps.{told_map};
@@ -14,9 +15,10 @@ ghost use Rattle.live_core.specs.Putting.{FitsOldest, PutsOldest, CollectsOldest
 use crate::act_plan::ActPlan;
 use crate::core_fault::CoreFault;
 use crate::desk::LiveSlot;
+use dsx_messages::Modem;
 use map_assembly::{Gather, MapBytes};
-use operator_book::{BookFault, Plan};
-use operator_model::{Action, Output};
+use operator_book::{BookFault, FirstRequest, Plan, SpareOutputs};
+use operator_model::{Action, Heard, Output};
 use plant::Op;
 use run_model::Out;
 use slice_scheduler::Elements;
@@ -24,17 +26,43 @@ use std::alloc::{AllocError, Global};
 use std::collections::VecDeque;
 
 /// Adds an operator's outputs, for which there is room.
+fn append_all(outs: &mut Vec<Out>, op: Op, told: Vec<Output>)
+    requires { vec_len outs.old + vec_len told ≤ vec_capacity outs.old }
+    ensures { outs.new.items ≡ outs.old.items ++ outputs_under op told.items }
+{
+    for output in told {
+        outs.push_reserved(Out::Of { op, output });
+    }
+}
+
+/// Adds an operator's outputs, of which there mostly are none. There is room for them.
 #[inline(always)]
-fn append(outs: &mut Vec<Out>, op: Op, told: Vec<Output>)
+fn append_few(outs: &mut Vec<Out>, op: Op, told: Vec<Output>)
     requires { vec_len outs.old + vec_len told ≤ vec_capacity outs.old }
     ensures { outs.new.items ≡ outs.old.items ++ outputs_under op told.items }
 {
     if told.is_empty() {
         return;
     }
-    for output in told {
-        outs.push_reserved(Out::Of { op, output });
+    append_all(outs, op, told);
+}
+
+/// Adds an operator's outputs, for which there is room. Returns their memory, which most actions use
+/// for one output or none.
+#[inline(always)]
+fn append(alloc: Global, outs: &mut Vec<Out>, op: Op, told: Vec<Output>) -> SpareOutputs
+    requires { vec_len outs.old + vec_len told ≤ vec_capacity outs.old }
+    ensures { outs.new.items ≡ outs.old.items ++ outputs_under op told.items }
+{
+    let mut told = told;
+    if told.len() > 1 {
+        append_all(outs, op, told);
+        return SpareOutputs::new(alloc);
     }
+    if let Some(only) = told.pop() {
+        outs.push_reserved(Out::Of { op, output: only });
+    }
+    SpareOutputs::of_list(told)
 }
 
 /// Adds a MAP that is made, for which there is room.
@@ -79,7 +107,13 @@ impl LiveSlot {
     /// Plans an action of the operator at this place. The caller knows that the operator's row lists the modem of the action, and
     /// that a slice of the action fits.
     #[inline(always)]
-    pub(crate) fn plan(&self, alloc: Global, op: Op, action: Action) -> Result<ActPlan, CoreFault>
+    pub(crate) fn plan(
+        &self,
+        alloc: Global,
+        spare: SpareOutputs,
+        op: Op,
+        action: Action,
+    ) -> Result<ActPlan, CoreFault>
         requires mine { stranger_of self.now.live.sound.row action ≡ None }
         requires fit { unfit_of self.now.live.sound action ≡ None }
         ensures op { IfOk result (λ act. act.op ≡ op) }
@@ -91,13 +125,65 @@ impl LiveSlot {
         if self.live.is_spent(&action) {
             return Err(CoreFault::Book(BookFault::FramesSpent));
         }
-        match self.live.plan_allowed(alloc, action) {
+        match self.live.plan_allowed(alloc, spare, action) {
             Ok(plan) => Ok(ActPlan { op, plan }),
             Err(AllocError) => Err(CoreFault::NoMemory),
         }
     }
 
-    /// Commits the plan of an action, and appends its outputs. A copy of its frame waits. If memory runs out nothing changes.
+    /// Puts what was received of a modem of the operator at the end of the inbox, and appends the outputs of that. If memory runs
+    /// out nothing changes.
+    #[inline(always)]
+    pub(crate) fn receive(
+        &mut self,
+        alloc: Global,
+        op: Op,
+        modem: Modem,
+        heard: Heard,
+        outs: &mut Vec<Out>,
+    ) -> Result<(), AllocError>
+        requires { IsAllowed self.old.live.sound (actions.Arrive modem heard) }
+        ensures book { OnOk result (self.new.live.sound ≡ after_step self.old.live.sound (actions.Arrive modem heard)) }
+        ensures waiting { OnOk result (slot_waiting self.new ≡ slot_waiting self.old) }
+        ensures outputs { OnOk result (outs.new.items ≡ outs.old.items
+            ++ outputs_under op (own_step self.old.live.sound (actions.Arrive modem heard)).outputs) }
+        ensures outs { OnErr result (outs.new.items ≡ outs.old.items) }
+        ensures same_book { OnErr result (slot_book self.new ≡ slot_book self.old) }
+        ensures same_waiting { OnErr result (slot_waiting self.new ≡ slot_waiting self.old) }
+    {
+        outs.reserve(1)?;
+        let told = self.live.receive(alloc, modem, heard)?;
+        append_few(outs, op, told);
+        Ok(())
+    }
+
+    /// Handles the bandwidth request that the operator received first, and appends the outputs of that. If memory runs out nothing
+    /// changes.
+    #[inline(always)]
+    pub(crate) fn take_request(
+        &mut self,
+        alloc: Global,
+        op: Op,
+        first: FirstRequest,
+        outs: &mut Vec<Out>,
+    ) -> Result<(), AllocError>
+        requires { IsFirstRequest self.old.live.sound.state.inbox first }
+        ensures book { OnOk result (self.new.live.sound ≡ after_step self.old.live.sound actions.Work) }
+        ensures waiting { OnOk result (slot_waiting self.new ≡ slot_waiting self.old) }
+        ensures outputs { OnOk result (outs.new.items ≡ outs.old.items
+            ++ outputs_under op (own_step self.old.live.sound actions.Work).outputs) }
+        ensures outs { OnErr result (outs.new.items ≡ outs.old.items) }
+        ensures same_book { OnErr result (slot_book self.new ≡ slot_book self.old) }
+        ensures same_waiting { OnErr result (slot_waiting self.new ≡ slot_waiting self.old) }
+    {
+        outs.reserve(1)?;
+        let told_of_request = self.live.take_request(alloc, first)?;
+        append_few(outs, op, told_of_request);
+        Ok(())
+    }
+
+    /// Commits the plan of an action, and appends its outputs, whose memory is `spare` then. A copy of its frame waits. If memory
+    /// runs out nothing changes.
     #[inline(always)]
     pub(crate) fn commit(
         &mut self,
@@ -105,6 +191,7 @@ impl LiveSlot {
         op: Op,
         plan: Plan,
         outs: &mut Vec<Out>,
+        spare: &mut SpareOutputs,
     ) -> Result<(), AllocError>
         requires { IsCommittable self.old.live.sound plan }
         ensures book { OnOk result (self.new.live.sound ≡ after_effect self.old.live.sound plan.effect) }
@@ -119,7 +206,7 @@ impl LiveSlot {
         reserve_for(&mut self.waiting, &frame)?;
         outs.reserve(plan.outputs().len())?;
         let outputs = self.live.commit(plan)?;
-        append(outs, op, outputs);
+        *spare = append(alloc, outs, op, outputs);
         if let Some(frame) = frame {
             self.waiting.push_back_reserved(frame);
         }

@@ -9,6 +9,7 @@ ghost use Rattle.live_core.specs.After.{IsReachableFromStart};
 use crate::desk::LiveSlot;
 use crate::routes::Routes;
 use map_assembly::Gather;
+use operator_book::SpareOutputs;
 
 /// A plant's core with no history: the plant, each operator's machine with its frames that wait to
 /// be collected, and what is gathered. Contracts speak of `live_view` of it. The type keeps that
@@ -24,6 +25,8 @@ pub struct LiveCore {
     pub(crate) routes: Routes,
     pub(crate) desks: Vec<LiveSlot>,
     pub(crate) gather: Gather,
+    /// Memory for the outputs of the next action that is planned.
+    pub(crate) spare: SpareOutputs,
     ghost let_go: { has_begun gather ≡ false },
     ghost reached: { ∥ IsReachableFromStart (core_of routes (map slot_book desks.items) (map slot_waiting desks.items) gather) ∥₁ },
 }
@@ -35,6 +38,7 @@ impl Drop for LiveCore {
             routes: _,
             desks: _,
             gather: _,
+            spare: _,
         } = self;
     }
 }

@@ -15,7 +15,7 @@ use crate::held::LiveCore;
 use crate::resume_fault::ResumeFault;
 use crate::routes::Routes;
 use map_assembly::{Gather, first_invalid_slice};
-use operator_book::Machine;
+use operator_book::{Machine, SpareOutputs};
 use plant::{Op, Plant};
 use slice_scheduler::Slice;
 use std::alloc::{AllocError, AllocFailed, Global};
@@ -242,6 +242,7 @@ impl LiveCore {
             routes,
             desks,
             gather,
+            spare: SpareOutputs::new(alloc),
         })
     }
 }

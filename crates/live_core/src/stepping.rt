@@ -1,6 +1,7 @@
 //! One step of a live core.
 
 ghost use Rattle.std.specs.Prelude.{◌≡◌, [], ◌∷◌, ◌++◌, List, slice_get, OnOk, OnErr, IfOk};
+ghost use Rattle.operator_model.specs.declared.action.Action.TheVariants as actions;
 ghost use Rattle.run_model.specs.declared.step.Out.{Out};
 ghost use Rattle.run_model.specs.declared.step.Step.{Step};
 ghost use Rattle.run_model.specs.declared.step.Step.TheVariants as steps;
@@ -46,10 +47,29 @@ impl LiveCore {
         ensures err { OnErr result (live_view self.new ≡ live_view self.old) }
         ensures fault { IsReported result (act_fault op action (slice_get (live_view self.old).books op)) }
     {
-        let act = self.plan_act(alloc, op, action)?;
+        let spare = self.take_spare(alloc);
+        let act = self.plan_act_in(alloc, spare, op, action)?;
         match self.commit_act(alloc, act, outs) {
             Ok(()) => Ok(()),
             Err(AllocError) => Err(CoreFault::NoMemory),
+        }
+    }
+
+    /// Lets the operator at this place, if there is one, handle what it received first.
+    #[inline(always)]
+    fn work(&mut self, alloc: Global, op: Op, outs: &mut Vec<Out>) -> Result<(), CoreFault>
+        ensures ok { OnOk result ((now : List Out) × (outs.new.items ≡ outs.old.items ++ now)
+            × Performs (Acts op actions.Work) (live_view self.old) (live_view self.new) now) }
+        ensures outs { OnErr result (outs.new.items ≡ outs.old.items) }
+        ensures err { OnErr result (live_view self.new ≡ live_view self.old) }
+        ensures fault { IsReported result (act_fault op actions.Work (slice_get (live_view self.old).books op)) }
+    {
+        match self.request_at(op) {
+            None => self.act_if(alloc, op, Action::Work, outs),
+            Some(first) => match self.take_request_at(alloc, op, first, outs) {
+                Ok(()) => Ok(()),
+                Err(AllocError) => Err(CoreFault::NoMemory),
+            },
         }
     }
 
@@ -70,7 +90,7 @@ impl LiveCore {
     {
         match self.place_of(modem) {
             None => Err(CoreFault::UnknownModem { modem }),
-            Some(op) => self.act_if(alloc, op, Action::Arrive { modem, heard }, outs),
+            Some(op) => self.receive(alloc, op, modem, heard, outs),
         }
     }
 
@@ -118,7 +138,7 @@ impl LiveCore {
     {
         match step {
             Step::Arrive { modem, heard } => self.arrive(alloc, modem, heard, outs),
-            Step::Work { op } => self.act_if(alloc, op, Action::Work, outs),
+            Step::Work { op } => self.work(alloc, op, outs),
             Step::Tick { op } => self.act_if(alloc, op, Action::Tick, outs),
             Step::Collect { op } => self.collect(alloc, op, outs),
             Step::Reslice { from, rows } => self.reslice(alloc, from, rows.as_slice()),

@@ -11,3 +11,4 @@ pub mod Serving
 pub mod Resumes
 pub mod SoundState
 pub mod UnderState
+pub mod Working

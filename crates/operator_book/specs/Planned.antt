@@ -1,5 +1,5 @@
 -- What is planned of an action, and what becomes of the state when the plan is committed (implementation-specific).
-use Rattle.std.specs.Prelude.{◌≡◌, ◌<◌, ◌+◌, ℕ, List, [], ◌∷◌, ◌++◌, drop, length, find, position, Some, None, IsNone}
+use Rattle.std.specs.Prelude.{◌≡◌, ◌<◌, ◌+◌, ℕ, List, [], ◌∷◌, ◌++◌, drop, length, find, position, slice_get, Some, None, Result, Ok, Err, IsNone}
 use Rattle.dsx_messages.specs.declared.kind.Kind.{Kind}
 use Rattle.dsx_messages.specs.declared.modem.Modem.{Modem}
 use Rattle.transactions.specs.Entry.{is_of, waits_for}
@@ -7,10 +7,13 @@ use Rattle.transactions.specs.Keeping.{begun_entry}
 use Rattle.transactions.specs.Timers.{kept_after, given_up_in}
 use Rattle.flow_table.specs.Flow.{flow_after_request}
 use Rattle.operator_model.specs.declared.action.Action.{Action}
+use Rattle.operator_model.specs.declared.heard.Arrival.{Arrival}
+use Rattle.operator_model.specs.declared.heard.Heard.TheVariants as heards
 use Rattle.operator_model.specs.declared.verdict.Verdict.{Verdict}
 use Rattle.operator_model.specs.State.{OperatorState, Operator}
 use Rattle.operator_model.specs.Changed.{with_change, with_inbox}
-use Rattle.operator_model.specs.Handle.{StepResult, flows_after, sfid_of, does_wait, ack_result}
+use Rattle.operator_model.specs.declared.output.Cause.{Cause}
+use Rattle.operator_model.specs.Handle.{StepResult, silent, flows_after, sfid_of, does_wait, ack_result}
 use Rattle.operator_model.specs.Frame.{all_granted, flows_left, share_at, next_at}
 use Rattle.operator_model.specs.Machine.{unfit_from, reslice_result, own_step}
 use Rattle.operator_model.specs.Sound.{IsSound}
@@ -20,6 +23,7 @@ use Rattle.operator_book.specs.declared.plan.HandledEffect.TheVariants as handle
 use Rattle.operator_book.specs.declared.plan.Effect.{Effect}
 use Rattle.operator_book.specs.declared.plan.Effect.TheVariants as effects
 use Rattle.operator_book.specs.declared.plan.Plan.{Plan}
+use Rattle.operator_book.specs.declared.handling.FirstRequest.{FirstRequest}
 
 -- ---- the state after a plan is committed
 
@@ -37,6 +41,11 @@ state_after_response op modem tid kind reply v = record op.state {
 -- the backlog of the flow is what its modem requests
 abbrev pub state_after_request : Operator → ℕ → ℕ → OperatorState
 state_after_request op sfid minislots = (with_change op sfid (flow_after_request minislots op.state.frame)).state
+
+-- what a bandwidth request leads to: the flow of this SFID has another backlog, or there is no reply, for this cause
+abbrev pub requested : Operator → Modem → ℕ → Result ℕ Cause → StepResult
+requested op modem minislots (Ok sfid) = record { state = state_after_request op sfid minislots; outputs = [] }
+requested op modem minislots (Err cause) = silent op.state modem cause
 
 abbrev pub state_after_handling : HandledEffect → Operator → OperatorState
 state_after_handling handled.Nothing op = op.state
@@ -64,6 +73,10 @@ state_after (effects.Resliced from row) op = (reslice_result op.state from row).
 
 abbrev pub after_effect : Operator → Effect → Operator
 after_effect op effect = record op { state = state_after effect op }
+
+-- what was received first is this bandwidth request
+abbrev pub IsFirstRequest : List Arrival → FirstRequest → Type 0
+IsFirstRequest inbox first = slice_get inbox 0 ≡ Some (record { modem = first.modem; heard = heards.Request first.sid first.minislots })
 
 -- ---- when a plan may be committed
 

@@ -12,9 +12,9 @@ ghost use Rattle.operator_book.specs.Planned.{IsPlanOfFirst};
 
 use crate::boxed_verdict::BoxedVerdict;
 use crate::machine::MachineState;
-use crate::plan::{Effect, HandledEffect, Plan, single};
+use crate::plan::{Effect, HandledEffect, Plan, SpareOutputs, single};
 use crate::refusal::refusal;
-use dsx_messages::{Code, Kind, Modem, Request, write_reply};
+use dsx_messages::{Code, Kind, Modem, Request, reply_bytes};
 use operator_model::{Cause, Output};
 use std::alloc::{AllocError, Global};
 use tlv24::Bytes;
@@ -41,26 +41,20 @@ fn tid_of(request: &Request) -> u16
 
 /// Returns the output of a reply that was cached before.
 #[inline(always)]
-fn repeated_reply(alloc: Global, modem: Modem, reply: &Bytes) -> Result<Vec<Output>, AllocError>
-    ensures { IfOk result (λ told. told.items ≡ outputs.Reply modem reply.now ∷ []) }
+fn repeated_reply(alloc: Global, modem: Modem, reply: &Bytes) -> Result<Output, AllocError>
+    ensures { IfOk result (λ output. output ≡ outputs.Reply modem reply.now) }
 {
     let bytes = reply.copy(alloc)?;
-    single(alloc, Output::Reply { modem, bytes })
+    Ok(Output::Reply { modem, bytes })
 }
 
 /// Returns the output of a refusal that is not cached.
-fn uncached_refusal(
-    alloc: Global,
-    modem: Modem,
-    kind: Kind,
-    tid: u16,
-    code: Code,
-) -> Result<Vec<Output>, AllocError>
+fn uncached_refusal(modem: Modem, kind: Kind, tid: u16, code: Code) -> Output
     requires { code ≢ Okay }
-    ensures { IfOk result (λ told. told.items ≡ reply_output modem (refusal kind tid code)) }
+    ensures { result ∷ [] ≡ reply_output modem (refusal kind tid code) }
 {
-    let bytes = Bytes::from_vec(write_reply(alloc, &refusal(kind, tid, code))?);
-    single(alloc, Output::Reply { modem, bytes })
+    let bytes = Bytes::from_short(reply_bytes(&refusal(kind, tid, code)));
+    Output::Reply { modem, bytes }
 }
 
 impl MachineState {
@@ -68,7 +62,7 @@ impl MachineState {
     #[inline(always)]
     pub(crate) fn response_plan(
         &self,
-        alloc: Global,
+        spare: SpareOutputs,
         modem: Modem,
         kind: Kind,
         tid: u16,
@@ -79,9 +73,10 @@ impl MachineState {
         requires room { length self.now.state.kept < self.now.row.transactions }
         ensures { IfOk result (IsPlanOfFirst self.now (carried_out self.now modem kind tid (verdict_of verdict))) }
     {
-        let reply = Bytes::from_vec(write_reply(alloc, verdict.reply())?);
-        let bytes = reply.copy(alloc)?;
-        let outputs = single(alloc, Output::Reply { modem, bytes })?;
+        let cached = reply_bytes(verdict.reply());
+        let reply = Bytes::from_short(cached.copy());
+        let bytes = Bytes::from_short(cached);
+        let outputs = single(spare, Output::Reply { modem, bytes })?;
         Ok(Plan {
             outputs,
             effect: Effect::Handled(HandledEffect::Response {
@@ -94,7 +89,7 @@ impl MachineState {
         })
     }
 
-    /// Returns the outputs that answer a request that is not judged: its transaction ID is of the
+    /// Returns the output that answers a request that is not judged: its transaction ID is of the
     /// CMTS's half, it is cached already, or as many are cached as the row allows. None if its
     /// transaction is new.
     #[inline(always)]
@@ -104,32 +99,28 @@ impl MachineState {
         modem: Modem,
         kind: Kind,
         tid: u16,
-    ) -> Result<Option<Vec<Output>>, AllocError>
+    ) -> Result<Option<Output>, AllocError>
         ensures told { IfOk result (λ early. IfSome early
-            (λ told. IsAnswered self.now modem kind tid told.items)) }
+            (λ told. IsAnswered self.now modem kind tid (told ∷ []))) }
         ensures new { IfOk result (λ early. IfNone early (IsCarriedOut self.now modem kind tid)) }
     {
         if tid >= 0x8000 {
-            let told = uncached_refusal(alloc, modem, kind, tid, Code::RejectUnknownTransaction)?;
+            let told = uncached_refusal(modem, kind, tid, Code::RejectUnknownTransaction);
             return Ok(Some(told));
         }
         if let Some(entry) = self.kept.find(modem, tid) {
             let told = if entry.kind == kind {
                 repeated_reply(alloc, modem, &entry.reply)?
             } else {
-                let modem = Some(modem);
-                single(
-                    alloc,
-                    Output::Silent {
-                        modem,
-                        cause: Cause::TidInUse,
-                    },
-                )?
+                Output::Silent {
+                    modem: Some(modem),
+                    cause: Cause::TidInUse,
+                }
             };
             return Ok(Some(told));
         }
         if self.kept.len() >= usize::from(self.row.get_fields().transactions) {
-            let told = uncached_refusal(alloc, modem, kind, tid, Code::RejectTemporary)?;
+            let told = uncached_refusal(modem, kind, tid, Code::RejectTemporary);
             return Ok(Some(told));
         }
         Ok(None)
@@ -139,6 +130,7 @@ impl MachineState {
     pub(crate) fn request_plan(
         &self,
         alloc: Global,
+        spare: SpareOutputs,
         modem: Modem,
         request: &Request,
     ) -> Result<Plan, AllocError>
@@ -147,13 +139,13 @@ impl MachineState {
     {
         let kind = kind_of(request);
         let tid = tid_of(request);
-        if let Some(outputs) = self.early_answer(alloc, modem, kind, tid)? {
+        if let Some(output) = self.early_answer(alloc, modem, kind, tid)? {
             return Ok(Plan {
-                outputs,
+                outputs: single(spare, output)?,
                 effect: Effect::Handled(HandledEffect::Nothing),
             });
         }
         let verdict = self.verdict(alloc, modem, request)?;
-        self.response_plan(alloc, modem, kind, tid, verdict)
+        self.response_plan(spare, modem, kind, tid, verdict)
     }
 }

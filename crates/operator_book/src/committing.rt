@@ -94,7 +94,7 @@ impl MachineState {
     }
 
     /// Takes what was received first out of the inbox.
-    fn take_first(&mut self)
+    pub(crate) fn take_first(&mut self)
         ensures { self.new ≡ with_inbox self.old (drop 1 self.old.state.inbox) }
     {
         let _first = self.inbox.pop_front();
@@ -175,7 +175,7 @@ impl MachineState {
     }
 
     /// Replaces the backlog of a flow.
-    fn request(&mut self, sfid: u32, minislots: u16)
+    pub(crate) fn request(&mut self, sfid: u32, minislots: u16)
         ensures { self.new ≡ with_change self.old sfid (flow_after_request minislots self.old.state.frame) }
     {
         self.flows.request(sfid, minislots, self.frame);

@@ -1,6 +1,6 @@
 //! The plan of what was received: to take it in, and to handle it.
 
-ghost use Rattle.std.specs.Prelude.{◌≡◌, Result, Ok, Err, IfOk, IfErr, OnOk};
+ghost use Rattle.std.specs.Prelude.{◌≡◌, ◌↔◌, ℕ, Some, Result, Ok, Err, IfOk, IfErr, OnOk, OnErr};
 ghost use Rattle.dsx_messages.specs.declared.message.Message.{Message};
 ghost use Rattle.dsx_messages.specs.declared.fault.MessageFault.{MessageFault};
 ghost use Rattle.lists.specs.Results.{Fails, Gives};
@@ -9,24 +9,40 @@ ghost use Rattle.operator_model.specs.declared.verdict.Verdict.TheVariants.{Refu
 ghost use Rattle.operator_model.specs.Handle.{silent, transaction_result, ack_result, message_handled, bandwidth_request_result};
 ghost use Rattle.operator_model.specs.Machine.{work_result, arrival_result};
 ghost use Rattle.operator_book.specs.Held.{HasOwnSids, HasRightId};
-ghost use Rattle.operator_book.specs.Planned.{IsPlanFor, IsPlanOfFirst};
+ghost use Rattle.operator_book.specs.Planned.{IsFirstRequest, IsPlanFor, IsPlanOfFirst, requested, without_first};
 
 use crate::boxed_verdict::BoxedVerdict;
 use crate::machine::MachineState;
-use crate::plan::{Effect, HandledEffect, Plan, single};
+use crate::plan::{Effect, HandledEffect, Plan, SpareOutputs, single};
 use crate::refusal::{encoding_refusal, refusal};
 use dsx_messages::{Code, Kind, Message, MessageFault, Modem, Reply, Request, read};
 use operator_model::{Arrival, Cause, Heard, Output};
 use std::alloc::{AllocError, Global};
 
+/// A bandwidth request that was received first.
+#[derive(Clone, Copy, Debug, PartialEq, Eq)]
+pub struct FirstRequest {
+    /// The modem that it came from.
+    pub modem: Modem,
+    /// The SID that it names.
+    pub sid: u16,
+    /// The minislots that it asks for.
+    pub minislots: u16,
+}
+
 impl MachineState {
     /// Plans that what was received first gets no reply, for this cause.
     #[inline(always)]
-    fn silent_plan(&self, alloc: Global, modem: Modem, cause: Cause) -> Result<Plan, AllocError>
+    fn silent_plan(
+        &self,
+        spare: SpareOutputs,
+        modem: Modem,
+        cause: Cause,
+    ) -> Result<Plan, AllocError>
         ensures { IfOk result (IsPlanOfFirst self.now (silent self.now.state modem cause)) }
     {
         let modem = Some(modem);
-        let outputs = single(alloc, Output::Silent { modem, cause })?;
+        let outputs = single(spare, Output::Silent { modem, cause })?;
         Ok(Plan {
             outputs,
             effect: Effect::Handled(HandledEffect::Nothing),
@@ -37,6 +53,7 @@ impl MachineState {
     fn fault_plan(
         &self,
         alloc: Global,
+        spare: SpareOutputs,
         modem: Modem,
         kind: Kind,
         tid: u16,
@@ -44,19 +61,19 @@ impl MachineState {
     ) -> Result<Plan, AllocError>
         ensures { IfOk result (IsPlanOfFirst self.now (transaction_result self.now modem kind tid (Refused reply))) }
     {
-        if let Some(outputs) = self.early_answer(alloc, modem, kind, tid)? {
+        if let Some(output) = self.early_answer(alloc, modem, kind, tid)? {
             return Ok(Plan {
-                outputs,
+                outputs: single(spare, output)?,
                 effect: Effect::Handled(HandledEffect::Nothing),
             });
         }
-        self.response_plan(alloc, modem, kind, tid, BoxedVerdict::Refused { reply })
+        self.response_plan(spare, modem, kind, tid, BoxedVerdict::Refused { reply })
     }
 
     /// Plans an acknowledgement: code 0 commits, another takes back.
     fn ack_plan(
         &self,
-        alloc: Global,
+        spare: SpareOutputs,
         modem: Modem,
         tid: u16,
         kind: Kind,
@@ -65,10 +82,10 @@ impl MachineState {
         ensures { IfOk result (IsPlanOfFirst self.now (ack_result self.now modem tid kind code)) }
     {
         let Some(place) = self.kept.waiting_place(modem, tid, kind) else {
-            return self.silent_plan(alloc, modem, Cause::UnknownAck);
+            return self.silent_plan(spare, modem, Cause::UnknownAck);
         };
         Ok(Plan {
-            outputs: Vec::new(alloc),
+            outputs: spare.into_list(),
             effect: Effect::Handled(HandledEffect::Acknowledged {
                 place,
                 modem,
@@ -79,38 +96,50 @@ impl MachineState {
         })
     }
 
+    /// Returns the SFID of the flow whose backlog a bandwidth request of a modem replaces, or why it
+    /// replaces none.
+    #[inline(always)]
+    fn requested_flow(&self, modem: Modem, sid: u16) -> Result<u32, Cause>
+        ensures { (minislots : ℕ) → bandwidth_request_result self.now modem sid minislots
+            ≡ requested self.now modem minislots result }
+    {
+        let Some(asker) = self.flows.asker(sid) else {
+            return Err(Cause::NoSuchSid);
+        };
+        if asker.modem != modem {
+            return Err(Cause::NoSuchSid);
+        }
+        if asker.may_ask {
+            Ok(asker.sfid)
+        } else {
+            Err(Cause::NotRequesting)
+        }
+    }
+
     /// Plans a bandwidth request of a modem.
     fn bandwidth_request_plan(
         &self,
-        alloc: Global,
+        spare: SpareOutputs,
         modem: Modem,
         sid: u16,
         minislots: u16,
     ) -> Result<Plan, AllocError>
         ensures { IfOk result (IsPlanOfFirst self.now (bandwidth_request_result self.now modem sid minislots)) }
     {
-        let Some(asker) = self.flows.asker(sid) else {
-            return self.silent_plan(alloc, modem, Cause::NoSuchSid);
-        };
-        if asker.modem != modem {
-            return self.silent_plan(alloc, modem, Cause::NoSuchSid);
-        }
-        if !asker.may_ask {
-            return self.silent_plan(alloc, modem, Cause::NotRequesting);
-        }
-        Ok(Plan {
-            outputs: Vec::new(alloc),
-            effect: Effect::Handled(HandledEffect::Requested {
-                sfid: asker.sfid,
-                minislots,
+        match self.requested_flow(modem, sid) {
+            Err(cause) => self.silent_plan(spare, modem, cause),
+            Ok(sfid) => Ok(Plan {
+                outputs: spare.into_list(),
+                effect: Effect::Handled(HandledEffect::Requested { sfid, minislots }),
             }),
-        })
+        }
     }
 
     /// Plans a message that could not be read.
     fn unread_plan(
         &self,
         alloc: Global,
+        spare: SpareOutputs,
         modem: Modem,
         fault: MessageFault,
     ) -> Result<Plan, AllocError>
@@ -120,9 +149,9 @@ impl MachineState {
     {
         match fault {
             MessageFault::NoMemory => Err(AllocError),
-            MessageFault::Empty => self.silent_plan(alloc, modem, Cause::Empty),
-            MessageFault::NotOurs { mtype: _ } => self.silent_plan(alloc, modem, Cause::NotOurs),
-            MessageFault::Short => self.silent_plan(alloc, modem, Cause::Short),
+            MessageFault::Empty => self.silent_plan(spare, modem, Cause::Empty),
+            MessageFault::NotOurs { mtype: _ } => self.silent_plan(spare, modem, Cause::NotOurs),
+            MessageFault::Short => self.silent_plan(spare, modem, Cause::Short),
             MessageFault::Tlv {
                 tid,
                 kind,
@@ -130,7 +159,7 @@ impl MachineState {
                 fault,
             } => {
                 let reply = encoding_refusal(kind, tid, id, fault);
-                self.fault_plan(alloc, modem, kind, tid, reply)
+                self.fault_plan(alloc, spare, modem, kind, tid, reply)
             }
             MessageFault::LeftOut {
                 tid,
@@ -138,7 +167,7 @@ impl MachineState {
                 found: _,
             } => {
                 let reply = refusal(kind, tid, Code::RejectUnrecognizedSetting);
-                self.fault_plan(alloc, modem, kind, tid, reply)
+                self.fault_plan(alloc, spare, modem, kind, tid, reply)
             }
         }
     }
@@ -147,6 +176,7 @@ impl MachineState {
     fn message_plan(
         &self,
         alloc: Global,
+        spare: SpareOutputs,
         modem: Modem,
         message: &Message,
     ) -> Result<Plan, AllocError>
@@ -154,8 +184,8 @@ impl MachineState {
         ensures { IfOk result (IsPlanOfFirst self.now (message_handled self.now modem (Ok message.now))) }
     {
         match message {
-            Message::Request(request) => self.request_plan(alloc, modem, request),
-            Message::Ack { kind, tid, code } => self.ack_plan(alloc, modem, *tid, *kind, *code),
+            Message::Request(request) => self.request_plan(alloc, spare, modem, request),
+            Message::Ack { kind, tid, code } => self.ack_plan(spare, modem, *tid, *kind, *code),
         }
     }
 
@@ -163,6 +193,7 @@ impl MachineState {
     fn read_plan(
         &self,
         alloc: Global,
+        spare: SpareOutputs,
         modem: Modem,
         said: Result<Message, MessageFault>,
     ) -> Result<Plan, AllocError>
@@ -172,21 +203,21 @@ impl MachineState {
             → IfOk result (IsPlanOfFirst self.now (message_handled self.now modem read)) }
     {
         match said {
-            Ok(message) => self.message_plan(alloc, modem, &message),
-            Err(fault) => self.unread_plan(alloc, modem, fault),
+            Ok(message) => self.message_plan(alloc, spare, modem, &message),
+            Err(fault) => self.unread_plan(alloc, spare, modem, fault),
         }
     }
 
     /// Plans to handle what was received first, and to take it out of the inbox.
     #[inline(always)]
-    pub(crate) fn work_plan(&self, alloc: Global) -> Result<Plan, AllocError>
+    pub(crate) fn work_plan(&self, alloc: Global, spare: SpareOutputs) -> Result<Plan, AllocError>
         requires { HasOwnSids self.now }
         ensures { IfOk result (IsPlanFor self.now (work_result self.now self.now.state.inbox)) }
     {
         let Some(first) = self.inbox.front() else {
             return Ok(Plan {
                 outputs: single(
-                    alloc,
+                    spare,
                     Output::Silent {
                         modem: None,
                         cause: Cause::Idle,
@@ -197,9 +228,11 @@ impl MachineState {
         };
         let modem = first.modem;
         match &first.heard {
-            Heard::Message(bytes) => self.read_plan(alloc, modem, read(alloc, bytes.as_slice())),
+            Heard::Message(bytes) => {
+                self.read_plan(alloc, spare, modem, read(alloc, bytes.as_slice()))
+            }
             Heard::Request { sid, minislots } => {
-                self.bandwidth_request_plan(alloc, modem, *sid, *minislots)
+                self.bandwidth_request_plan(spare, modem, *sid, *minislots)
             }
         }
     }
@@ -208,7 +241,7 @@ impl MachineState {
     #[inline(always)]
     pub(crate) fn arrival_plan(
         &self,
-        alloc: Global,
+        spare: SpareOutputs,
         modem: Modem,
         heard: Heard,
     ) -> Result<Plan, AllocError>
@@ -218,13 +251,101 @@ impl MachineState {
             let modem = Some(modem);
             let cause = Cause::InboxFull;
             return Ok(Plan {
-                outputs: single(alloc, Output::Silent { modem, cause })?,
+                outputs: single(spare, Output::Silent { modem, cause })?,
                 effect: Effect::Nothing,
             });
         }
         Ok(Plan {
-            outputs: Vec::new(alloc),
+            outputs: spare.into_list(),
             effect: Effect::Received(Arrival { modem, heard }),
         })
+    }
+
+    /// Puts what was received at the end of the inbox, and returns the outputs of that. A full inbox
+    /// drops it. If memory runs out nothing changes.
+    #[inline(always)]
+    pub(crate) fn receive(
+        &mut self,
+        alloc: Global,
+        modem: Modem,
+        heard: Heard,
+    ) -> Result<Vec<Output>, AllocError>
+        ensures state { OnOk result (self.new ≡ record self.old { state = (arrival_result self.old modem heard).state }) }
+        ensures outputs { IfOk result (λ outputs. outputs.items ≡ (arrival_result self.old modem heard).outputs) }
+        ensures err { OnErr result (self.new ≡ self.old) }
+    {
+        if self.inbox.len() >= usize::from(self.row.get_fields().inbox) {
+            let modem = Some(modem);
+            let cause = Cause::InboxFull;
+            return single(SpareOutputs::new(alloc), Output::Silent { modem, cause });
+        }
+        self.inbox.reserve(1)?;
+        self.inbox.push_back_reserved(Arrival { modem, heard });
+        Ok(Vec::new(alloc))
+    }
+
+    /// Handles a bandwidth request that was received first, and takes it out of the inbox. Returns
+    /// the outputs of that. If memory runs out nothing changes.
+    #[inline(always)]
+    fn take_requested(
+        &mut self,
+        alloc: Global,
+        modem: Modem,
+        sid: u16,
+        minislots: u16,
+    ) -> Result<Vec<Output>, AllocError>
+        ensures state { OnOk result (self.new ≡ record self.old {
+          state = without_first (bandwidth_request_result self.old modem sid minislots).state;
+        }) }
+        ensures outputs { IfOk result (λ outputs. outputs.items
+            ≡ (bandwidth_request_result self.old modem sid minislots).outputs) }
+        ensures err { OnErr result (self.new ≡ self.old) }
+    {
+        match self.requested_flow(modem, sid) {
+            Err(cause) => {
+                let modem = Some(modem);
+                let spare = SpareOutputs::new(alloc);
+                let outputs = single(spare, Output::Silent { modem, cause })?;
+                self.take_first();
+                Ok(outputs)
+            }
+            Ok(sfid) => {
+                self.request(sfid, minislots);
+                self.take_first();
+                Ok(Vec::new(alloc))
+            }
+        }
+    }
+
+    /// Returns what was received first, if that is a bandwidth request.
+    #[inline(always)]
+    pub(crate) fn first_request(&self) -> Option<FirstRequest>
+        ensures { (first : FirstRequest) → (result ≡ Some first) ↔ IsFirstRequest self.now.state.inbox first }
+    {
+        let first = self.inbox.front()?;
+        match &first.heard {
+            Heard::Message(_bytes) => None,
+            Heard::Request { sid, minislots } => Some(FirstRequest {
+                modem: first.modem,
+                sid: *sid,
+                minislots: *minislots,
+            }),
+        }
+    }
+
+    /// Handles the bandwidth request that was received first, and takes it out of the inbox. Returns
+    /// the outputs of that. If memory runs out nothing changes.
+    #[inline(always)]
+    pub(crate) fn take_request(
+        &mut self,
+        alloc: Global,
+        first: FirstRequest,
+    ) -> Result<Vec<Output>, AllocError>
+        requires { IsFirstRequest self.old.state.inbox first }
+        ensures state { OnOk result (self.new ≡ record self.old { state = (work_result self.old self.old.state.inbox).state }) }
+        ensures outputs { IfOk result (λ outputs. outputs.items ≡ (work_result self.old self.old.state.inbox).outputs) }
+        ensures err { OnErr result (self.new ≡ self.old) }
+    {
+        self.take_requested(alloc, first.modem, first.sid, first.minislots)
     }
 }

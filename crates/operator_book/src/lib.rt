@@ -29,13 +29,14 @@ mod ticking;
 mod verdict;
 
 pub use book::{Book, BookFault, OpenFault};
+pub use handling::FirstRequest;
 pub use history::History;
 pub use live::{Machine, SoundMachine};
 pub use logged::RecordedMachine;
 pub use operator_model::{
     Action, Arrival, Cause, Entry, Heard, NextShare, Output, Outputs, Share, SliceRow, Unfit,
 };
-pub use plan::{Plan, output_copies};
+pub use plan::{Plan, SpareOutputs, output_copies};
 pub use row_fault::row_faults;
 pub use state_fault::StateFault;
 pub use state_view::StateView;

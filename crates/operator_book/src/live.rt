@@ -1,6 +1,6 @@
 //! One operator's machine at work, with no history.
 
-ghost use Rattle.std.specs.Prelude.{◌≡◌, ◌≢◌, ◌↔◌, ◌⊎◌, true, Err, Some, None, IfOk, IfErr, OnOk, OnErr};
+ghost use Rattle.std.specs.Prelude.{◌≡◌, ◌≢◌, ◌≤◌, ◌↔◌, ◌⊎◌, vec_len, true, Err, Some, None, IfOk, IfErr, OnOk, OnErr};
 ghost use Rattle.dsx_messages.specs.declared.modem.Modem.{Modem};
 ghost use Rattle.plant.specs.Row.{IsRowOf};
 ghost use Rattle.operator_model.specs.declared.action.Unfit.{Unfit};
@@ -8,17 +8,20 @@ ghost use Rattle.operator_model.specs.declared.action.Action.TheVariants as acti
 ghost use Rattle.operator_model.specs.State.{operator, opened_state, opened_before};
 ghost use Rattle.operator_model.specs.Machine.{stranger_of, is_spent, unfit_of, unfit_from, own_step, after_step, IsAllowed};
 ghost use Rattle.operator_model.specs.Sound.{IsSound};
-ghost use Rattle.operator_book.specs.Planned.{IsPlanOf, IsCommittable, after_effect};
+ghost use Rattle.operator_book.specs.declared.handling.FirstRequest.{FirstRequest};
+ghost use Rattle.operator_book.specs.Planned.{IsFirstRequest, IsPlanOf, IsCommittable, after_effect};
 ghost use Rattle.operator_book.specs.Resuming.{state_fault, IsStateFault, IsStateUnder};
 ghost use Rattle.operator_book.specs.declared.state_fault.StateFault.TheVariants.{NoMemory};
 
 use crate::book::{BookFault, OpenFault};
+use crate::handling::FirstRequest;
 use crate::machine::MachineState;
-use crate::plan::Plan;
+use crate::plan::{Plan, SpareOutputs};
 use crate::state_fault::StateFault;
 use crate::state_view::StateView;
+use dsx_messages::Modem;
 use grant_policy::Ranking;
-use operator_model::{Action, NextShare, Output, Share, SliceRow, Unfit, step_keeps_sound};
+use operator_model::{Action, Heard, NextShare, Output, Share, SliceRow, Unfit, step_keeps_sound};
 use plant::{Consts, OperatorRow};
 use std::alloc::{AllocError, Global};
 use std::marker::Model;
@@ -106,7 +109,13 @@ impl SoundMachine {
 
     /// Plans an action that is not refused.
     #[inline(always)]
-    fn plan(&self, alloc: Global, ranking: &Ranking, action: Action) -> Result<Plan, AllocError>
+    fn plan(
+        &self,
+        alloc: Global,
+        spare: SpareOutputs,
+        ranking: &Ranking,
+        action: Action,
+    ) -> Result<Plan, AllocError>
         requires policy { ranking.now.policy ≡ self.now.row.policy }
         requires allowed { IsAllowed self.now action }
         ensures plan { IfOk result (IsPlanOf self.now action) }
@@ -114,7 +123,7 @@ impl SoundMachine {
     {
         // For the proof: an action that is not refused leaves a sound state.
         step_keeps_sound();
-        self.machine.plan(alloc, ranking, action)
+        self.machine.plan(alloc, spare, ranking, action)
     }
 
     /// Commits a plan, and returns its outputs. If memory runs out nothing changes.
@@ -126,6 +135,47 @@ impl SoundMachine {
         ensures err { OnErr result (self.new ≡ self.old) }
     {
         self.machine.commit(plan)
+    }
+
+    /// Puts what was received of a modem of the row at the end of the inbox, and returns the outputs
+    /// of that. If memory runs out nothing changes.
+    #[tactic(auto, unfolding(operator_model::specs::Machine::own_step), using(crate::proofs::Few::few_outputs))]
+    #[inline(always)]
+    fn receive(
+        &mut self,
+        alloc: Global,
+        modem: Modem,
+        heard: Heard,
+    ) -> Result<Vec<Output>, AllocError>
+        requires { IsAllowed self.old (actions.Arrive modem heard) }
+        ensures state { OnOk result (self.new ≡ after_step self.old (actions.Arrive modem heard)) }
+        ensures outputs { IfOk result (λ outputs. outputs.items ≡ (own_step self.old (actions.Arrive modem heard)).outputs) }
+        ensures few { IfOk result (λ outputs. vec_len outputs ≤ 1) }
+        ensures err { OnErr result (self.new ≡ self.old) }
+    {
+        // For the proof: an action that is not refused leaves a sound state.
+        step_keeps_sound();
+        self.machine.receive(alloc, modem, heard)
+    }
+
+    /// Handles the bandwidth request that was received first, and takes it out of the inbox. Returns
+    /// the outputs of that. If memory runs out nothing changes.
+    #[tactic(auto, unfolding(operator_model::specs::Machine::own_step), using(crate::proofs::Few::few_outputs))]
+    #[inline(always)]
+    fn take_request(
+        &mut self,
+        alloc: Global,
+        first: FirstRequest,
+    ) -> Result<Vec<Output>, AllocError>
+        requires { IsFirstRequest self.old.state.inbox first }
+        ensures state { OnOk result (self.new ≡ after_step self.old actions.Work) }
+        ensures outputs { IfOk result (λ outputs. outputs.items ≡ (own_step self.old actions.Work).outputs) }
+        ensures few { IfOk result (λ outputs. vec_len outputs ≤ 1) }
+        ensures err { OnErr result (self.new ≡ self.old) }
+    {
+        // For the proof: an action that is not refused leaves a sound state.
+        step_keeps_sound();
+        self.machine.take_request(alloc, first)
     }
 
     /// Takes a slice that fits from a later frame on, with no memory.
@@ -220,18 +270,24 @@ impl Machine {
         if let Err(fault) = self.sound.machine.judge(&action) {
             return Err(fault);
         }
-        Ok(self.plan_allowed(alloc, action)?)
+        Ok(self.plan_allowed(alloc, SpareOutputs::new(alloc), action)?)
     }
 
-    /// Plans an action as `plan` does, for a caller that knows that it is not refused.
+    /// Plans an action as `plan` does, for a caller that knows that it is not refused, and has memory
+    /// for the outputs.
     #[inline(always)]
-    pub fn plan_allowed(&self, alloc: Global, action: Action) -> Result<Plan, AllocError>
+    pub fn plan_allowed(
+        &self,
+        alloc: Global,
+        spare: SpareOutputs,
+        action: Action,
+    ) -> Result<Plan, AllocError>
         requires { IsAllowed self.now.sound action }
         ensures outputs { IfOk result (λ plan. plan.outputs.items ≡ (own_step self.now.sound action).outputs) }
         ensures plan { IfOk result (IsPlanOf self.now.sound action) }
         ensures committable { IfOk result (IsCommittable self.now.sound) }
     {
-        self.sound.plan(alloc, &self.ranking, action)
+        self.sound.plan(alloc, spare, &self.ranking, action)
     }
 
     /// Commits a plan, and returns its outputs. If memory runs out nothing changes. The caller knows
@@ -244,6 +300,50 @@ impl Machine {
         ensures err { OnErr result (self.new.sound ≡ self.old.sound) }
     {
         self.sound.commit(plan)
+    }
+
+    /// Puts what was received of a modem of the row at the end of the inbox, and returns the outputs
+    /// of that, as the action `Arrive` has them. If memory runs out nothing changes.
+    #[inline(always)]
+    pub fn receive(
+        &mut self,
+        alloc: Global,
+        modem: Modem,
+        heard: Heard,
+    ) -> Result<Vec<Output>, AllocError>
+        requires { IsAllowed self.old.sound (actions.Arrive modem heard) }
+        ensures state { OnOk result (self.new.sound ≡ after_step self.old.sound (actions.Arrive modem heard)) }
+        ensures outputs { IfOk result (λ outputs. outputs.items
+            ≡ (own_step self.old.sound (actions.Arrive modem heard)).outputs) }
+        ensures few { IfOk result (λ outputs. vec_len outputs ≤ 1) }
+        ensures err { OnErr result (self.new.sound ≡ self.old.sound) }
+    {
+        self.sound.receive(alloc, modem, heard)
+    }
+
+    /// Returns what was received first, if that is a bandwidth request.
+    #[inline(always)]
+    pub fn first_request(&self) -> Option<FirstRequest>
+        ensures { (first : FirstRequest) → (result ≡ Some first) ↔ IsFirstRequest self.now.sound.state.inbox first }
+    {
+        self.sound.machine.first_request()
+    }
+
+    /// Handles the bandwidth request that was received first, and takes it out of the inbox. Returns
+    /// the outputs of that, as the action `Work` has them. If memory runs out nothing changes.
+    #[inline(always)]
+    pub fn take_request(
+        &mut self,
+        alloc: Global,
+        first: FirstRequest,
+    ) -> Result<Vec<Output>, AllocError>
+        requires { IsFirstRequest self.old.sound.state.inbox first }
+        ensures state { OnOk result (self.new.sound ≡ after_step self.old.sound actions.Work) }
+        ensures outputs { IfOk result (λ outputs. outputs.items ≡ (own_step self.old.sound actions.Work).outputs) }
+        ensures few { IfOk result (λ outputs. vec_len outputs ≤ 1) }
+        ensures err { OnErr result (self.new.sound ≡ self.old.sound) }
+    {
+        self.sound.take_request(alloc, first)
     }
 
     /// Plans an action and commits the plan. A refused action changes nothing.

@@ -9,7 +9,7 @@ ghost use Rattle.operator_model.specs.Sound.{IsSound};
 
 use crate::history::History;
 use crate::machine::MachineState;
-use crate::plan::output_copies;
+use crate::plan::{SpareOutputs, output_copies};
 use grant_policy::Ranking;
 use operator_model::{Action, Entry, Output, Outputs, SliceRow, replay_is_sound};
 use plant::{Consts, OperatorRow};
@@ -74,7 +74,9 @@ impl RecordedMachine {
         self.always();
         self.history.make_room()?;
         let recorded = action.copy(alloc)?;
-        let plan = self.machine.plan(alloc, ranking, action)?;
+        let plan = self
+            .machine
+            .plan(alloc, SpareOutputs::new(alloc), ranking, action)?;
         let copies = output_copies(alloc, plan.outputs())?;
         let outputs = self.machine.commit(plan)?;
         self.history.push(Entry {

@@ -5,7 +5,7 @@ ghost use Rattle.admission.specs.Free.{IsLeastFree};
 ghost use Rattle.flow_table.specs.Table.{sids_of};
 ghost use Rattle.plant.specs.Row.{IsRowOf};
 ghost use Rattle.operator_model.specs.State.{opened_flow, opened_state, opened_before};
-ghost use Rattle.operator_book.specs.Opening.{sid_for, put_provision, put_provisions};
+ghost use Rattle.operator_book.specs.Opening.{sid_for, put_opened, put_provisions};
 
 use crate::machine::MachineState;
 use dsx_messages::Modem;
@@ -47,36 +47,38 @@ fn opened_flow(frame: u32, modem: Modem, sid: Option<u16>, sets: Sets) -> Flow
     }
 }
 
-/// Puts one provisioned flow more, opened in this frame, under the least free SFID.
-#[tactic(auto, using(crate::proofs::Room::longer), unfolding(crate::specs::Opening::put_provision))]
-fn put_provision(
+/// Puts one flow more, opened with these sets in this frame, under the least free SFID. Puts none if
+/// there are no sets or no SFID is free.
+#[tactic(auto, using(crate::proofs::Room::longer))]
+fn put_opened(
     alloc: Global,
     frame: u32,
-    consts: &Consts,
     row: &OperatorRow,
     flows: &mut Flows,
-    provision: &Provision,
+    modem: Modem,
+    sets: &Option<Sets>,
 ) -> Result<(), AllocError>
     requires { length flows.old.flows < flows.old.capacity }
     ensures few { OnOk result (length flows.new.flows ≤ length flows.old.flows + 1) }
     ensures ok { OnOk result (flows.new
-        ≡ record flows.old { flows = put_provision frame consts.now row.now flows.old.flows provision.now }) }
+        ≡ record flows.old { flows = put_opened frame row.now flows.old.flows modem sets.now }) }
 {
-    let Some(sets) = provision.sets(consts) else {
+    let Some(sets) = sets else {
         return Ok(());
     };
     let Some(sfid) = flows.free_sfid(&row.get_fields().sfids) else {
         return Ok(());
     };
-    let sid = sid_for(row, flows, sets);
+    let sid = sid_for(row, flows, *sets);
     // For the proof: what always holds of `flows`.
     flows.always();
-    let flow = opened_flow(frame, provision.modem, sid, sets);
+    let flow = opened_flow(frame, modem, sid, *sets);
     flows.put_flow(sfid, Box::new(alloc, flow)?)?;
     Ok(())
 }
 
 /// Puts the provisioned flows, opened in this frame, in the file's order.
+#[tactic(auto, unfolding(crate::specs::Opening::put_provision))]
 fn put_provisions(
     alloc: Global,
     frame: u32,
@@ -89,8 +91,12 @@ fn put_provisions(
     ensures ok { OnOk result (flows.new
         ≡ record flows.old { flows = put_provisions frame consts.now row.now [] row.now.provisions }) }
 {
+    let mut before: Option<&Provision> = None;
+    let mut sets: Option<Sets> = None;
     for provision in row.get_fields().provisions.as_slice() {
-        put_provision(alloc, frame, consts, row, flows, provision)?;
+        sets = provision.sets_after(consts, before, sets);
+        before = Some(provision);
+        put_opened(alloc, frame, row, flows, provision.modem, &sets)?;
     }
     Ok(())
 }

@@ -10,6 +10,14 @@ use std::alloc::{AllocError, Global};
 use tlv24::Bytes;
 use transactions::GivenUps;
 
+/// Memory for the outputs of an action: a list that has none yet. With one that was used before, the
+/// outputs take no memory as long as they fit.
+#[derive(Drop)]
+pub struct SpareOutputs {
+    outputs: Vec<Output>,
+    ghost empty: { outputs.items ≡ [] },
+}
+
 /// What an action will do: its outputs, and its effect on the state. All memory for the outputs is
 /// taken. The state changes when the plan is committed.
 #[derive(Drop)]
@@ -63,6 +71,34 @@ pub(crate) enum HandledEffect {
     },
 }
 
+impl SpareOutputs {
+    /// Returns a list that has no memory yet.
+    #[inline(always)]
+    pub fn new(alloc: Global) -> SpareOutputs {
+        SpareOutputs {
+            outputs: Vec::new(alloc),
+        }
+    }
+
+    /// Returns the memory of a list, whose outputs are dropped.
+    #[inline(always)]
+    pub fn of_list(outputs: Vec<Output>) -> SpareOutputs {
+        let mut outputs = outputs;
+        if !outputs.is_empty() {
+            outputs.clear();
+        }
+        SpareOutputs { outputs }
+    }
+
+    /// Returns the list, which has no outputs.
+    #[inline(always)]
+    pub(crate) fn into_list(self) -> Vec<Output>
+        ensures { result.items ≡ [] }
+    {
+        self.outputs
+    }
+}
+
 impl Plan {
     /// Returns the outputs of the action, in order.
     pub fn outputs(&self) -> &[Output]
@@ -74,10 +110,10 @@ impl Plan {
 
 /// Returns a list of one output.
 #[inline(always)]
-pub(crate) fn single(alloc: Global, output: Output) -> Result<Vec<Output>, AllocError>
+pub(crate) fn single(spare: SpareOutputs, output: Output) -> Result<Vec<Output>, AllocError>
     ensures { IfOk result (λ outputs. outputs.items ≡ output ∷ []) }
 {
-    let mut outputs = Vec::with_capacity(alloc, 1)?;
+    let mut outputs = spare.into_list();
     outputs.push(output)?;
     Ok(outputs)
 }

@@ -6,7 +6,7 @@ ghost use Rattle.operator_model.specs.Sound.{IsSound};
 ghost use Rattle.operator_book.specs.Planned.{IsPlanOf};
 
 use crate::machine::MachineState;
-use crate::plan::{Effect, Plan};
+use crate::plan::{Effect, Plan, SpareOutputs};
 use grant_policy::Ranking;
 use operator_model::Action;
 use std::alloc::{AllocError, Global};
@@ -18,6 +18,7 @@ impl MachineState {
     pub(crate) fn plan(
         &self,
         alloc: Global,
+        spare: SpareOutputs,
         ranking: &Ranking,
         action: Action,
     ) -> Result<Plan, AllocError>
@@ -28,15 +29,15 @@ impl MachineState {
         ensures { IfOk result (IsPlanOf self.now action) }
     {
         match action {
-            Action::Arrive { modem, heard } => self.arrival_plan(alloc, modem, heard),
-            Action::Work => self.work_plan(alloc),
+            Action::Arrive { modem, heard } => self.arrival_plan(spare, modem, heard),
+            Action::Work => self.work_plan(alloc, spare),
             Action::Tick => {
                 // For the proof: what the type of `self.frame` keeps.
                 let _frame = self.frame;
-                self.tick_plan(alloc, ranking)
+                self.tick_plan(alloc, spare, ranking)
             }
             Action::Reslice { from, row } => Ok(Plan {
-                outputs: Vec::new(alloc),
+                outputs: spare.into_list(),
                 effect: Effect::Resliced { from, row },
             }),
         }

@@ -10,7 +10,7 @@ ghost use Rattle.transactions.specs.Timers.{given_up_in};
 ghost use Rattle.operator_book.specs.Planned.{IsPlanFor, state_after_tick};
 
 use crate::machine::MachineState;
-use crate::plan::{Effect, Plan};
+use crate::plan::{Effect, Plan, SpareOutputs};
 use grant_policy::Ranking;
 use operator_model::{Output, given_up_have_no_grants, schedule_can_serve};
 use slice_scheduler::{At, AtFields, Elements, Served, schedule};
@@ -19,14 +19,14 @@ use transactions::{GivenUp, Resends, Ticked};
 
 /// Returns the outputs of a tick: what is retransmitted, then the frame.
 fn frame_outputs(
-    alloc: Global,
+    spare: SpareOutputs,
     resends: Resends,
     number: u32,
     elements: Elements,
 ) -> Result<Vec<Output>, AllocError>
     ensures { IfOk result (λ told. told.items ≡ map resent resends ++ outputs.Frame number elements ∷ []) }
 {
-    let mut told = Vec::with_capacity(alloc, resends.len().saturating_add(1))?;
+    let mut told = spare.into_list();
     for resend in resends.into_vec() {
         told.push(Output::Reply {
             modem: resend.modem,
@@ -109,7 +109,12 @@ impl MachineState {
     }
 
     /// Plans a tick. The timers count when it is committed.
-    pub(crate) fn tick_plan(&self, alloc: Global, ranking: &Ranking) -> Result<Plan, AllocError>
+    pub(crate) fn tick_plan(
+        &self,
+        alloc: Global,
+        spare: SpareOutputs,
+        ranking: &Ranking,
+    ) -> Result<Plan, AllocError>
         requires sound { IsSound self.now }
         requires policy { ranking.now.policy ≡ self.now.row.policy }
         requires not_spent { self.now.state.frame < 4294967295 }
@@ -118,7 +123,7 @@ impl MachineState {
         let Served { elements, granted } = self.frame_schedule(alloc, ranking)?;
         let Ticked { resend, given_up } = self.kept.due(alloc)?;
         Ok(Plan {
-            outputs: frame_outputs(alloc, resend, self.frame, elements)?,
+            outputs: frame_outputs(spare, resend, self.frame, elements)?,
             effect: Effect::Ticked { granted, given_up },
         })
     }

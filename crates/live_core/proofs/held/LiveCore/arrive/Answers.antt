@@ -4,10 +4,10 @@ use Rattle.live_core.proofs.PartLemmas.{arrive_on}
 use Rattle.live_core.proofs.ReachLemmas.{arrives}
 use Rattle.live_core.proofs.held.LiveCore.arrive.Goals as goal
 
-pub act_if-requires : goal.act_if-requires
-act_if-requires g c = arrives _ _ c.args.modem c.args.heard c.in-Some.op (ap (λ (v : CoreView). v.plant) c.place_of.ensures.core) c.in-Some.ensures.value
+pub receive-requires : goal.receive-requires
+receive-requires g c = arrives _ _ c.args.modem c.args.heard c.in-Some.op (ap (λ (v : CoreView). v.plant) c.place_of.ensures.core) c.in-Some.ensures.value
 
 pub returns-in-Some-clause-ok : goal.returns-in-Some-clause-ok
 returns-in-Some-clause-ok g c =
-    on_ok_weaker c.act_if.result
-    (λ done. (done.0, done.1, arrive_on _ _ c.args.modem c.args.heard c.in-Some.op _ done.0 c.place_of.ensures.core c.in-Some.ensures.value done.2)) c.act_if.ensures.ok
+    on_ok_weaker c.receive.result
+    (λ done. (done.0, done.1, arrive_on _ _ c.args.modem c.args.heard c.in-Some.op _ done.0 c.place_of.ensures.core c.in-Some.ensures.value done.2)) c.receive.ensures.ok

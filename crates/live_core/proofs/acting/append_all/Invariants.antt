@@ -1,6 +1,6 @@
 use Rattle.std.proofs.Common.{◌≡◌, ◌+◌, ◌≤◌, ◌++◌, length, vec_len, vec_capacity}
 use Rattle.live_core.proofs.Common.{into_iter_items, into_iter_len, outputs_under}
-use Rattle.live_core.proofs.acting.append.Given as goal
+use Rattle.live_core.proofs.acting.append_all.Given as goal
 
 abbrev pub invariant-loop-output : goal.invariant-loop-output
 invariant-loop-output l = record {

@@ -1,7 +1,7 @@
 use Rattle.std.proofs.Common.{◌≡◌, length, arith, ap, rules}
 use Rattle.flow_table.specs.Table.{FlowTable, with_flow}
 use Rattle.operator_book.proofs.Room.{longer, opened_may_stand}
-use Rattle.operator_book.proofs.opening.put_provision.Goals as goal
+use Rattle.operator_book.proofs.opening.put_opened.Goals as goal
 
 pub put_flow-requires : goal.put_flow-requires
 put_flow-requires c = opened_may_stand c.args.flows.now c.in-Some-free_sfid.sfid c.args.row.now.sids c.in_ok-new.field-0.value (search rules) c.requires (search rules)
