@@ -1,5 +1,7 @@
 //! The parts of an input: the plant file, the line of three dashes, and the script.
 
+use memchr::memmem;
+
 /// The parts of an input.
 #[derive(Clone, Copy)]
 pub(crate) struct InputParts<'a> {
@@ -7,8 +9,16 @@ pub(crate) struct InputParts<'a> {
     pub(crate) plant: &'a str,
     /// What is after it; none where there is no such line.
     pub(crate) script: Option<&'a str>,
-    /// The number of that line, counted from 1.
-    pub(crate) bar: usize,
+    /// The plant file and that line; empty where there is no such line.
+    pub(crate) through_bar: &'a str,
+}
+
+impl<'a> InputParts<'a> {
+    /// Returns the number of the line of three dashes, counted from 1; 0 where there is no such
+    /// line. It is counted here, since only messages need it.
+    pub(crate) fn bar(&self) -> usize {
+        self.through_bar.lines().count()
+    }
 }
 
 /// Returns the number of the last line of a text, counted from 1.
@@ -16,39 +26,45 @@ pub(crate) fn last_line(text: &str) -> usize {
     text.matches('\n').count().saturating_add(1)
 }
 
-/// Returns the parts where the plant file is not empty: its last line has no end here.
-fn parts_behind<'a>(input: &'a str, plant: &'a str, script: &'a str) -> InputParts<'a> {
-    let with_end = plant.len().saturating_add(1);
-    InputParts {
-        plant: input.get(..with_end).unwrap_or(plant),
-        script: Some(script),
-        bar: last_line(plant).saturating_add(1),
+/// Returns the length of the text before a line of three dashes that is not the first line.
+fn inner_bar(input: &str) -> Option<usize> {
+    let before = match memmem::find(input.as_bytes(), b"\n---\n".as_slice()) {
+        Some(place) => place,
+        None => input.strip_suffix("\n---")?.len(),
+    };
+    Some(before.saturating_add(1))
+}
+
+/// Returns the length of the text before the first line of three dashes.
+fn first_bar(input: &str) -> Option<usize> {
+    if input == "---" || input.starts_with("---\n") {
+        Some(0)
+    } else {
+        inner_bar(input)
     }
+}
+
+/// Returns the parts of an input whose line of three dashes begins at a place.
+fn parts_around(input: &str, place: usize) -> Option<InputParts<'_>> {
+    let (plant, rest) = input.split_at_checked(place)?;
+    Some(InputParts {
+        plant,
+        script: Some(rest.get("---\n".len()..).unwrap_or("")),
+        through_bar: input
+            .get(..place.saturating_add("---\n".len()))
+            .unwrap_or(input),
+    })
 }
 
 /// Returns the parts of an input.
 pub(crate) fn parts_of(input: &str) -> InputParts<'_> {
-    let at_head = if input == "---" {
-        Some("")
-    } else {
-        input.strip_prefix("---\n")
+    let whole = InputParts {
+        plant: input,
+        script: None,
+        through_bar: "",
     };
-    if let Some(script) = at_head {
-        return InputParts {
-            plant: "",
-            script: Some(script),
-            bar: 1,
-        };
-    }
-    if let Some((plant, script)) = input.split_once("\n---\n") {
-        return parts_behind(input, plant, script);
-    }
-    match input.strip_suffix("\n---") {
-        Some(plant) => parts_behind(input, plant, ""),
-        None => InputParts {
-            plant: input,
-            script: None,
-            bar: 0,
-        },
+    match first_bar(input) {
+        Some(place) => parts_around(input, place).unwrap_or(whole),
+        None => whole,
     }
 }

@@ -70,7 +70,7 @@ pub fn reason_of_words<'a>(alloc: Global, words: &'a [&'a str]) -> Result<String
 fn say_script(reason: &mut Reason, plant: Plant, parts: &InputParts<'_>) {
     let script = parts.script.unwrap_or("");
     let mut report = Report::new(reason.alloc, MOST_LINES);
-    let steps = steps_of(&mut report, &plant, script, parts.bar);
+    let steps = steps_of(&mut report, &plant, script, parts.bar());
     if report.is_empty() {
         say_refused(reason, plant, parts, steps);
     } else {
@@ -88,7 +88,7 @@ fn say_refused(reason: &mut Reason, plant: Plant, parts: &InputParts<'_>, steps:
             .split('\n')
             .nth(number.saturating_sub(1) as usize)
             .unwrap_or("");
-        say_line(reason, parts.bar, number, line);
+        say_line(reason, parts.bar(), number, line);
         reason.say("{}\n", &[GapText::Told(&wrong)]);
     }
 }
@@ -157,7 +157,7 @@ fn parts_under<'a>(word: Word<'_>, input: &'a str) -> InputParts<'a> {
         (Word::Serve, None) => InputParts {
             plant: input,
             script: Some(""),
-            bar: parts.bar,
+            through_bar: parts.through_bar,
         },
         _ => parts,
     }

@@ -1,6 +1,6 @@
 -- The names that several proofs of this crate cite, passed on from one place. Declares nothing.
 pub use Rattle.hex.proofs.HexLemmas.{decode_sized-ok, decode_of-ok, decode_sized-twice}
-pub use Rattle.hex.proofs.Pairs.{prepend, decode_done, decode_err, decode_sized-pairs, decode_step, encode_step}
+pub use Rattle.hex.proofs.Pairs.{prepend, decode_done, decode_err, decode_sized-pairs, decode_step}
 pub use Rattle.hex.specs.Hex.{decode_sized, decode_of, is_hex_digit, decode_pairs, digit_or_error, hex_digit_value, pair_value, value_at, upper_digits, encode_upper}
 pub use Rattle.hex.specs.declared.error.FromHexError.{FromHexError}
 pub use Rattle.lists.specs.Results.{◌>>=◌, Fails}

@@ -1,6 +1,6 @@
 -- Lists written part by part: what they are written as is written of their parts, one behind the other.
-use Rattle.std.proofs.Common.{◌≡◌, ℕ, ◌+◌, ◌*◌, ◌-◌, ◌/◌, ◌%◌, ◌<◌, List, [], ◌∷◌, ◌++◌, length, take, drop, ap, refl, sym, subst, ◌∙◌, append_assoc, append-nil, take-append-drop, length-drop, arith, Option}
-use Rattle.script_format.proofs.Common.{slice_index, slice_range, Appends, flat_map, Appends-trans, take-take, drop-take, drop_all, take_all}
+use Rattle.std.proofs.Common.{◌≡◌, ℕ, zero, suc, ◌≤◌, ◌+◌, ◌*◌, ◌-◌, ◌/◌, ◌%◌, ◌<◌, List, [], ◌∷◌, ◌++◌, length, take, drop, ap, refl, sym, subst, ◌∙◌, append_assoc, append-nil, take-append-drop, take-add, length-drop, arith, Option}
+use Rattle.script_format.proofs.Common.{slice_index, slice_range, Appends, flat_map, Appends-trans, take-take, drop-take, take_all}
 use Rattle.dsx_messages.specs.Modem.{hex_digit}
 use Rattle.hex.specs.Hex.{encode_upper, encode_with, upper_digits}
 
@@ -20,14 +20,33 @@ pub flat_more : {X : Type 0} (f : X → List ℕ) (xs ys : List X) → flat_map 
 flat_more f [] ys = refl
 flat_more f (x ∷ xs) ys = ap (λ (more : List ℕ). f x ++ more) (flat_more f xs ys) ∙ sym (append_assoc (f x) (flat_map f xs) (flat_map f ys))
 
--- no bytes are left
-pub encode_all : (bytes room : List ℕ) (i : ℕ) → i ≡ length bytes → take (2 * i) room ++ encode_upper (drop i bytes) ≡ encode_upper bytes
-    → take (2 * length bytes) room ≡ encode_upper bytes
+-- the digits of the bytes at the front
+encode_take : (n : ℕ) (t bytes : List ℕ) → take (2 * n) (encode_with t bytes) ≡ encode_with t (take n bytes)
 unfolding encode_with
-encode_all bytes room i end so_far =
-    ap (λ (k : ℕ). take (2 * k) room) (sym end)
-    ∙ (sym (append-nil (take (2 * i) room))
-    ∙ (ap (λ (rest : List ℕ). take (2 * i) room ++ encode_upper rest) (sym (drop_all i bytes (omega (arith, end)))) ∙ so_far))
+encode_take zero t bytes = refl
+encode_take (suc n) t [] = take_all (2 * suc n) [] (omega arith)
+encode_take (suc n) t (b ∷ bytes) =
+    let two : 2 * suc n ≡ suc (suc (2 * n)) = omega arith in
+    ap (λ (k : ℕ). take k (encode_with t (b ∷ bytes))) two
+    ∙ ap (λ (more : List ℕ). slice_index t (b / 16) ∷ slice_index t (b % 16) ∷ more) (encode_take n t bytes)
+
+-- one block more is written
+pub encode_block : (bytes room new digits : List ℕ) (block : ℕ) → take (2 * (16 * block) + 32) new ≡ take (2 * (16 * block)) room ++ digits
+    → digits ≡ encode_upper (take 16 (drop (16 * block) bytes)) → take (2 * (16 * block)) room ≡ encode_upper (take (16 * block) bytes)
+    → take (2 * (16 * (block + 1))) new ≡ encode_upper (take (16 * (block + 1)) bytes)
+encode_block bytes room new digits block stored are before =
+    let place : 16 * (block + 1) ≡ 16 * block + 16 = omega arith in
+    let twice : 2 * (16 * block + 16) ≡ 2 * (16 * block) + 32 = omega arith in
+    rw (place, twice, stored, before, are, take-add (16 * block) 16 bytes) (sym (encode_more upper_digits (take (16 * block) bytes) (take 16 (drop (16 * block) bytes))))
+
+-- whole blocks are written, and the bytes end within them
+pub encode_front : (bytes padded room : List ℕ) (end : ℕ) → length bytes ≤ end → take (length bytes) padded ≡ bytes → take (2 * end) room ≡ encode_upper (take end padded)
+    → take (2 * length bytes) room ≡ encode_upper bytes
+encode_front bytes padded room end long same written =
+    sym (take-take (2 * length bytes) (2 * end) room (omega arith))
+    ∙ ap (take (2 * length bytes)) written
+    ∙ encode_take (length bytes) upper_digits (take end padded)
+    ∙ ap encode_upper (take-take (length bytes) end padded long ∙ same)
 
 module _ {X : Type 0} (text : List X → List ℕ) (text_more : (xs ys : List X) → text (xs ++ ys) ≡ text xs ++ text ys) (old mid new : Option (List ℕ)) (xs : List X) (place : ℕ) where
   -- some more, up to a place

@@ -22,6 +22,20 @@ pub(crate) const PENDINGS: usize = 32;
 /// The bytes of so many grants pending, at most.
 pub(crate) const PENDINGS_ROOM: usize = 256;
 
+/// Writes a mark and the digit of a number below 10 after it, up to a place. Returns where the mark
+/// exists.
+#[inline(always)]
+fn write_marked_digit(room: &mut [u8], mark: u8, number: u16, end: usize) -> usize
+    requires few { number < 10 }
+    requires room { (2 ≤ end) × (end ≤ length room.old) }
+    ensures start { result + 2 ≡ end }
+    ensures written { drop result room.new ≡ mark ∷ (decimal number ++ drop end room.old) }
+{
+    room[end - 1] = b'0' + number as u8;
+    room[end - 2] = mark;
+    end - 2
+}
+
 /// Writes a mark and the digits of a number after it, up to a place. Returns where the mark exists.
 #[inline(always)]
 fn write_marked(room: &mut [u8], mark: u8, number: u16, end: usize) -> usize
@@ -29,6 +43,9 @@ fn write_marked(room: &mut [u8], mark: u8, number: u16, end: usize) -> usize
     ensures start { (end ≤ result + 6) × (result < end) }
     ensures written { drop result room.new ≡ mark ∷ (decimal number ++ drop end room.old) }
 {
+    if number < 10 {
+        return write_marked_digit(room, mark, number, end);
+    }
     let start = write_digits(u64::from(number), room, end) - 1;
     room[start] = mark;
     start

@@ -7,10 +7,14 @@ ghost use Rattle.script_format.specs.Input.{is_bar, before_bar, plant_text, scri
 use memchr::memchr;
 
 /// Returns whether a line of three dashes is at the head of the bytes.
+#[inline(always)]
 fn is_bar(bytes: &[u8]) -> bool
     ensures { result ≡ is_bar bytes.now }
 {
-    bytes == b"---".as_slice() || bytes.starts_with(b"---\n")
+    match bytes {
+        [b'-', b'-', b'-'] | [b'-', b'-', b'-', b'\n', ..] => true,
+        _ => false,
+    }
 }
 
 /// Returns the number of bytes before the first line of three dashes.

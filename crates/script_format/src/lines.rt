@@ -1,6 +1,8 @@
 //! The parts of bytes, and the messages in lines.
 
-ghost use Rattle.std.specs.Prelude.{◌≡◌, ◌≤◌, length, take, drop, map, IfOk, OnOk};
+ghost use Rattle.std.specs.Prelude.{◌≡◌, ◌≤◌, ◌%◌, length, take, drop, map, IfOk, OnOk};
+ghost use Rattle.std.specs.Result.{result_ok};
+ghost use Rattle.hex.specs.Hex.{decode_of};
 ghost use Rattle.script_format.specs.Lines.{parts_of};
 ghost use Rattle.script_format.specs.Messages.{message_in, messages_of};
 ghost use Rattle.lists.specs.Results.{Gives};
@@ -10,7 +12,7 @@ ghost use Rattle.script_format.specs.declared.lines.LineFault.TheVariants.{NoMem
 use crate::unhex::decode_into;
 use memchr::memchr;
 use std::alloc::{AllocError, AllocFailed, Global};
-use tlv24::Bytes;
+use tlv24::{Bytes, ShortBytes};
 
 /// Why lines do not hold messages.
 #[derive(Clone, Copy, Debug, PartialEq, Eq)]
@@ -71,23 +73,54 @@ pub fn put_parts<'a>(mark: u8, input: &'a [u8], parts: &mut Vec<&'a [u8]>) -> Re
     Ok(())
 }
 
-/// Returns the message in a line that is not empty; none where it is not a message.
+/// Returns the bytes that at most 60 digits say; none where one is not a digit. Takes no memory.
+#[inline(always)]
+fn short_message(digits: &[u8]) -> Option<ShortBytes>
+    requires pairs { length digits.now % 2 ≡ 0 }
+    requires few { length digits.now ≤ 60 }
+    ensures { result ≡ result_ok (decode_of digits.now) }
+{
+    let mut room = [0u8; 30];
+    let count = digits.len() / 2;
+    if decode_into(digits, &mut room[..count]) {
+        ShortBytes::from_slice(&room[..count])
+    } else {
+        None
+    }
+}
+
+/// Returns the bytes that digits say; none where one is not a digit.
+fn long_message(alloc: Global, digits: &[u8]) -> Result<Option<Bytes>, AllocError>
+    requires { length digits.now % 2 ≡ 0 }
+    ensures { IfOk result (λ message. message ≡ result_ok (decode_of digits.now)) }
+{
+    let mut bytes = vec![in alloc; 0u8; digits.len() / 2]?;
+    if decode_into(digits, bytes.as_mut_slice()) {
+        Ok(Some(Bytes::from_vec(bytes)))
+    } else {
+        Ok(None)
+    }
+}
+
+/// Returns the message in a line that is not empty; none where it is not a message. A message of at
+/// most 30 bytes takes no memory.
 #[inline(always)]
 pub fn message_in(alloc: Global, line: &[u8]) -> Result<Option<Bytes>, AllocError>
     ensures { IfOk result (λ message. message ≡ message_in line.now) }
 {
     if line == b"-".as_slice() {
-        return Ok(Some(Bytes::from_vec(Vec::new(alloc))));
+        return Ok(Some(Bytes::new()));
     }
     if line.len() % 2 == 1 {
         return Ok(None);
     }
-    let mut bytes = vec![in alloc; 0u8; line.len() / 2]?;
-    if decode_into(line, bytes.as_mut_slice()) {
-        Ok(Some(Bytes::from_vec(bytes)))
-    } else {
-        Ok(None)
+    if line.len() <= 60 {
+        return match short_message(line) {
+            Some(bytes) => Ok(Some(Bytes::from_short(bytes))),
+            None => Ok(None),
+        };
     }
+    long_message(alloc, line)
 }
 
 /// Returns the messages in lines; empty lines are counted and say nothing.
