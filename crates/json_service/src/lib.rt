@@ -1,5 +1,5 @@
 //! A plant in service that answers by objects: before each step is done, it is noted which check decides what the step outputs. The
-//! loop is that of `line_service`, and so are the answers.
+//! loop is that of `line_service`, which writes all else.
 #![tactic(auto)]
 
 mod notes;

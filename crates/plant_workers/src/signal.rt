@@ -30,8 +30,8 @@ impl Signal {
         }
     }
 
-    /// Looks so many times whether the history has `index` entries. It does not pause between two looks: a pause takes 10 to 140
-    /// cycles, by the kind of processor, and a look takes 2 on each.
+    /// Looks so many times whether the history has `index` entries. It does not pause between two looks: where it was measured, a
+    /// pause takes 16 cycles, and a look 2. The manuals of other kinds of processors say up to 140 for a pause.
     fn look(&self, index: usize, looks: usize) {
         for _ in 0..looks {
             if index <= self.count.load(Ordering::SeqCst) {
