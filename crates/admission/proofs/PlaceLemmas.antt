@@ -166,12 +166,12 @@ module _ {V : Type 0} where
 pub searched : {V : Type 0} (entries : List (ℕ × V)) → IsStrictlySortedBy nat_cmp (keys_of entries) → (k : ℕ) (r : Result ℕ ℕ) → IsSearchInRange r (length entries)
     → IsBinarySearchResult (λ entry. nat_cmp entry.0 k) entries r → IfOk r (StandsAt entries k) × IfErr r (IsGap entries k)
 searched [] ascending k (Ok at) in_range equal = absurd (omega (arith, in_range))
-searched [] ascending k (Err zero) in_range parted = (tt, record { in_range = in_range; absent = refl; inserted = λ v. refl })
-searched [] ascending k (Err (suc at)) in_range parted = absurd (omega (arith, in_range))
+searched [] ascending k (Err zero) in_range split = (tt, record { in_range = in_range; absent = refl; inserted = λ v. refl })
+searched [] ascending k (Err (suc at)) in_range split = absurd (omega (arith, in_range))
 searched (e ∷ es) ascending k (Ok at) in_range equal = (stands e (e ∷ es) ascending k at in_range (ranked _ k _ (sym (equal e))), tt)
-searched (e ∷ es) ascending k (Err at) in_range parted = (
+searched (e ∷ es) ascending k (Err at) in_range split = (
   tt,
   gap e (e ∷ es) ascending k at in_range
-      (λ j lt. ranked _ k _ (sym ((parted (comparisons_rise e (e ∷ es) ascending k)).0 j e (omega arith) lt)))
-      (λ j le lt. ranked _ k _ (sym ((parted (comparisons_rise e (e ∷ es) ascending k)).1 j e le lt))),
+      (λ j lt. ranked _ k _ (sym ((split (comparisons_rise e (e ∷ es) ascending k)).0 j e (omega arith) lt)))
+      (λ j le lt. ranked _ k _ (sym ((split (comparisons_rise e (e ∷ es) ascending k)).1 j e le lt))),
 )

@@ -143,7 +143,7 @@ fn say_no_word(reason: &mut Reason, word: &str) {
 }
 
 /// Returns what is wrong with how a line ends or is separated into fields, whatever these are.
-fn parted_wrong(line: &str) -> Option<&'static str> {
+fn separation_error(line: &str) -> Option<&'static str> {
     if line.ends_with('\r') {
         Some("it ends in a carriage return (CRLF): end lines with LF alone")
     } else if line.contains('\t') {
@@ -233,7 +233,7 @@ fn add_fault<'a>(
         return report.lose();
     };
     let mut wrong = Reason::new(report.alloc());
-    match parted_wrong(line) {
+    match separation_error(line) {
         Some(words) => wrong.say(words, &[]),
         None => say_error(&mut wrong, plant, line, error),
     }
@@ -270,7 +270,7 @@ fn say_no_message<'a>(reason: &mut Reason, line: &'a str) {
     if line.is_empty() {
         return;
     }
-    if let Some(wrong) = parted_wrong(line) {
+    if let Some(wrong) = separation_error(line) {
         return reason.say(wrong, &[]);
     }
     match message_in(reason.alloc, line.as_bytes()) {

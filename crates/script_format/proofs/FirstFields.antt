@@ -84,9 +84,9 @@ misplaced plant line other =
 pub sender_lacks : (plant : PlantFields) (line : List ℕ) → length line < 13 → sender_first plant (parts_of 32 line) ≡ Err (address_error (parts_of 32 line))
 sender_lacks plant line short = misplaced plant line (λ place is e. let lt : place < length line = is.0.high in absurd (omega (arith, e, lt)))
 
-pub sender_unparted : (plant : PlantFields) (line : List ℕ) → (slice_index line 12 == 32) ≡ false
+pub sender_unseparated : (plant : PlantFields) (line : List ℕ) → (slice_index line 12 == 32) ≡ false
     → sender_first plant (parts_of 32 line) ≡ Err (address_error (parts_of 32 line))
-sender_unparted plant line other =
+sender_unseparated plant line other =
     misplaced plant line (λ place is e. let here = is.1 in let there = ap (λ (n : ℕ). slice_index line n == 32) e in cc)
 
 module _ (plant : PlantFields) (line : List ℕ) (long : 12 < length line) (space : (slice_index line 12 == 32) ≡ true) where

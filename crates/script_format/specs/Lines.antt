@@ -14,6 +14,6 @@ parts_of mark bytes = parts_from mark [] bytes
 abbrev pub lines_of : List ℕ → List (List ℕ)
 lines_of bytes = parts_of 10 bytes
 
--- the fields of a line are parted by one space each
+-- the fields of a line are separated by one space each
 abbrev pub line_fields : List ℕ → List (List ℕ)
 line_fields line = parts_of 32 line
