@@ -139,6 +139,18 @@ impl Bytes {
         }
     }
 
+    /// Gives the list back of which these bytes were made, without a copy. Returns `None` where the
+    /// bytes are kept in the value itself.
+    pub fn into_vec(self) -> Option<Vec<u8>>
+        ensures { IfSome result (λ bytes. bytes.items ≡ self) }
+    {
+        let Bytes { place } = self;
+        match place {
+            Place::Short(_bytes) => None,
+            Place::Long(bytes) => Some(bytes),
+        }
+    }
+
     /// Makes bytes of a copy of a slice. Takes memory for more than 30 bytes.
     #[inline(always)]
     pub fn from_slice(alloc: Global, slice: &[u8]) -> Result<Bytes, AllocError>
