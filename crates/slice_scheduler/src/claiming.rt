@@ -1,16 +1,17 @@
 //! What flows claim for their backlogs, and what is shared among them.
 
-ghost use Rattle.std.specs.Prelude.{◌≡◌, ◌+◌, ◌-◌, ◌≤◌, All, IfOk, sum_by};
+ghost use Rattle.std.specs.Prelude.{◌≡◌, ◌+◌, ◌-◌, ◌≤◌, All, OnOk, sum_by};
 ghost use Rattle.slice_scheduler.specs.Claims.{base_of, claim_of, claims_of, taken_of};
 ghost use Rattle.slice_scheduler.specs.Schedule.{minislots_in};
 ghost use Rattle.slice_scheduler.specs.Servable.{IsPast, need_at, total_need};
 ghost use Rattle.slice_scheduler.specs.Wanted.{IsClaim, asking};
 
 use crate::claim::Claim;
+use crate::emptying::empty_for;
 use crate::flowing::{At, Flowing};
 use crate::piece::Piece;
 use grant_policy::{RankInput, Ranking, rank_at_most_63};
-use std::alloc::{AllocError, Global};
+use std::alloc::AllocError;
 
 /// Returns the minislots of a flow's backlog that its reserved rate covers.
 fn base(at: &At, flow: &Flowing) -> u16
@@ -104,20 +105,21 @@ fn asking_count(flows: &[Flowing]) -> usize {
     flows.iter().filter(|flow| 0 < flow.backlog).count()
 }
 
-/// Returns what each flow that asks claims, in the flows' order. Takes no memory if none asks.
+/// Fills a list with what each flow that asks claims, in the flows' order. Takes no memory if none
+/// asks.
 pub(crate) fn claims(
-    alloc: Global,
+    claims: &mut Vec<Claim>,
     flows: &[Flowing],
     at: &At,
     ranking: &Ranking,
-) -> Result<Vec<Claim>, AllocError>
+) -> Result<(), AllocError>
     requires { All (IsPast at.now.frame) flows.now }
-    ensures items { IfOk result (λ claims. claims.items ≡ claims_of ranking.now.policy at.now (asking flows.now)) }
-    ensures sound { IfOk result (λ claims. All IsClaim claims.items) }
-    ensures all_sound { IfOk result (λ _. All IsClaim (claims_of ranking.now.policy at.now flows.now)) }
-    ensures fits { IfOk result (λ _. sum_by (taken_of at.now) flows.now ≤ total_need at.now flows.now) }
+    ensures items { OnOk result (claims.new.items ≡ claims_of ranking.now.policy at.now (asking flows.now)) }
+    ensures sound { OnOk result (All IsClaim claims.new.items) }
+    ensures all_sound { OnOk result (All IsClaim (claims_of ranking.now.policy at.now flows.now)) }
+    ensures fits { OnOk result (sum_by (taken_of at.now) flows.now ≤ total_need at.now flows.now) }
 {
-    let mut claims = Vec::with_capacity(alloc, asking_count(flows))?;
+    empty_for(claims, asking_count(flows))?;
     for flow in flows {
         // For the proof: what this flow claims has the numbers of a claim, and its base is needed.
         always_claims(flow, at, ranking);
@@ -126,5 +128,5 @@ pub(crate) fn claims(
             claims.push(claim(flow, at, ranking))?;
         }
     }
-    Ok(claims)
+    Ok(())
 }

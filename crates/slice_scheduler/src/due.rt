@@ -1,16 +1,17 @@
 //! What due flows are granted, whatever they ask.
 
-ghost use Rattle.std.specs.Prelude.{◌≡◌, ◌≤◌, ◌++◌, All, OnOk, IfOk, replicate};
+ghost use Rattle.std.specs.Prelude.{◌≡◌, ◌≤◌, ◌++◌, All, OnOk, replicate};
 ghost use Rattle.std.specs.List.{flat_map};
 ghost use Rattle.slice_scheduler.specs.Due.{interval_of, ends_after, is_due, due_pieces, iuc_of};
 ghost use Rattle.slice_scheduler.specs.Servable.{IsPast};
 ghost use Rattle.slice_scheduler.specs.Wanted.{HasMinislots};
 
+use crate::emptying::empty_for;
 use crate::flowing::{At, Flowing};
 use crate::piece::Piece;
 use crate::span::Iuc;
 use param_sets::{ParamFields, Scheduling, Units};
-use std::alloc::{AllocError, Global};
+use std::alloc::AllocError;
 
 /// Returns the frames from one due frame of a flow to the next: None at best effort.
 fn interval(fields: &ParamFields, units: &Units) -> Option<u32>
@@ -98,16 +99,16 @@ fn push_due(pieces: &mut Vec<Piece>, flow: &Flowing, at: &At) -> Result<(), Allo
     Ok(())
 }
 
-/// Returns the grants that flows have whatever they ask, in the flows' order.
-pub(crate) fn all_due(alloc: Global, flows: &[Flowing], at: &At) -> Result<Vec<Piece>, AllocError>
+/// Fills a list with the grants that flows have whatever they ask, in the flows' order.
+pub(crate) fn all_due(pieces: &mut Vec<Piece>, flows: &[Flowing], at: &At) -> Result<(), AllocError>
     requires { All (IsPast at.now.frame) flows.now }
-    ensures items { IfOk result (λ pieces. pieces.items ≡ flat_map (due_pieces at.now) flows.now) }
-    ensures some { IfOk result (λ pieces. All HasMinislots pieces.items) }
+    ensures items { OnOk result (pieces.new.items ≡ flat_map (due_pieces at.now) flows.now) }
+    ensures some { OnOk result (All HasMinislots pieces.new.items) }
 {
     // Room for what is due, and for the awards that are added.
-    let mut pieces = Vec::with_capacity(alloc, flows.len().saturating_mul(2))?;
+    empty_for(pieces, flows.len().saturating_mul(2))?;
     for flow in flows {
-        push_due(&mut pieces, flow, at)?;
+        push_due(pieces, flow, at)?;
     }
-    Ok(pieces)
+    Ok(())
 }

@@ -4,6 +4,7 @@ ghost use Rattle.std.specs.Prelude.{◌≡◌, IfOk};
 ghost use Rattle.slice_scheduler.specs.Tiles.{IsTiled};
 ghost use Rattle.slice_scheduler.specs.declared.elements.ElementsFields.{ElementsFields};
 
+use crate::emptying::copy_into;
 use crate::slice::Slice;
 use crate::span::{Span, Spans};
 use lists::Listed;
@@ -93,6 +94,42 @@ impl Elements {
                 slice: self.fields.slice,
                 spans: self.fields.spans.copy(alloc)?,
                 pending: self.fields.pending.copy(alloc)?,
+            },
+        })
+    }
+
+    /// Returns the three fields, without a copy.
+    pub(crate) fn into_fields(self) -> ElementsFields
+        ensures { result ≡ self }
+    {
+        let Elements { fields } = self;
+        fields
+    }
+
+    /// Returns equal elements, in the memory of others that nobody needs any more, if there are any.
+    pub fn copy_in(&self, alloc: Global, spent: Option<Elements>) -> Result<Elements, AllocError>
+        ensures { IfOk result (λ elements. elements ≡ self.now) }
+    {
+        match spent {
+            None => self.copy(alloc),
+            Some(spent) => self.copy_over(spent),
+        }
+    }
+
+    /// Returns equal elements, in the memory of others.
+    fn copy_over(&self, spent: Elements) -> Result<Elements, AllocError>
+        ensures { IfOk result (λ elements. elements ≡ self.now) }
+    {
+        let spent = spent.into_fields();
+        let mut spans = spent.spans.into_vec();
+        let mut pending = spent.pending.into_vec();
+        copy_into(&mut spans, self.fields.spans.as_slice())?;
+        copy_into(&mut pending, self.fields.pending.as_slice())?;
+        Ok(Elements {
+            fields: ElementsFields {
+                slice: self.fields.slice,
+                spans: Listed::from_vec(spans),
+                pending: Listed::from_vec(pending),
             },
         })
     }

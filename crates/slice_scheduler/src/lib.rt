@@ -7,8 +7,10 @@ mod claim;
 mod claiming;
 mod due;
 mod elements;
+mod emptying;
 mod flowing;
 mod laws;
+mod memory;
 mod ordering;
 mod packing;
 mod piece;
@@ -23,6 +25,7 @@ pub use laws::{
     base_is_granted, elements_are_few, elements_are_tiled, elements_name_flows,
     grant_is_within_backlog, granted_by_flow,
 };
+pub use memory::ScheduleMemory;
 pub use planning::schedule;
 pub use served::{Grants, Served};
 pub use slice::Slice;

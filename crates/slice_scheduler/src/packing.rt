@@ -1,6 +1,6 @@
 //! Grants put one after the other into a slice.
 
-ghost use Rattle.std.specs.Prelude.{◌≡◌, ◌+◌, ◌-◌, ◌≤◌, ◌++◌, All, IfOk, OnOk};
+ghost use Rattle.std.specs.Prelude.{◌≡◌, ◌+◌, ◌-◌, ◌≤◌, ◌++◌, All, OnOk};
 ghost use Rattle.std.specs.List.{flat_map};
 ghost use Rattle.slice_scheduler.specs.Schedule.{award_pieces, idle, spans_from, minislots_in};
 ghost use Rattle.slice_scheduler.specs.Tiles.{Tiles};
@@ -8,11 +8,12 @@ ghost use Rattle.slice_scheduler.specs.Wanted.{HasMinislots};
 
 use crate::award::Award;
 use crate::due::iuc_for;
+use crate::emptying::empty_for;
 use crate::flowing::At;
 use crate::piece::Piece;
 use crate::slice::Slice;
 use crate::span::{Iuc, Span};
-use std::alloc::{AllocError, Global};
+use std::alloc::AllocError;
 
 /// Adds the awards that are more than none.
 pub(crate) fn push_awards(
@@ -37,18 +38,18 @@ pub(crate) fn push_awards(
     Ok(())
 }
 
-/// Returns the grants one after the other from the slice's first minislot on, and then what is
-/// left.
-pub(crate) fn pack(alloc: Global, slice: &Slice, pieces: &[Piece]) -> Result<Vec<Span>, AllocError>
+/// Fills a list with the grants one after the other from the slice's first minislot on, and then
+/// what is left.
+pub(crate) fn pack(spans: &mut Vec<Span>, slice: &Slice, pieces: &[Piece]) -> Result<(), AllocError>
     requires some { All HasMinislots pieces.now }
     requires fits { minislots_in pieces.now ≤ slice.now.length }
-    ensures items { IfOk result (λ spans. spans.items
+    ensures items { OnOk result (spans.new.items
         ≡ spans_from slice.now.start (pieces.now ++ idle (slice.now.length - minislots_in pieces.now))) }
-    ensures tiles { IfOk result (λ spans. Tiles slice.now.start (slice.now.start + slice.now.length) spans.items) }
+    ensures tiles { OnOk result (Tiles slice.now.start (slice.now.start + slice.now.length) spans.new.items) }
 {
     let end = slice.get_start() + slice.get_length();
     let mut start = slice.get_start();
-    let mut spans = Vec::with_capacity(alloc, pieces.len().saturating_add(1))?;
+    empty_for(spans, pieces.len().saturating_add(1))?;
     for piece in pieces {
         spans.push(Span {
             sid: piece.sid,
@@ -66,5 +67,5 @@ pub(crate) fn pack(alloc: Global, slice: &Slice, pieces: &[Piece]) -> Result<Vec
             len: end - start,
         })?;
     }
-    Ok(spans)
+    Ok(())
 }
