@@ -199,11 +199,12 @@ impl Flows {
         release(&mut self.ledger, sfid);
     }
 
-    /// Returns the flows with an active set, by SFID, as they are scheduled.
-    pub fn flowing(&self, alloc: Global) -> Result<Vec<Flowing>, AllocError>
-        ensures { IfOk result (λ flowing. flowing.items ≡ flowing_in self.now.flows) }
+    /// Puts the flows that have an active set in place of what is in `flowing`, ascending by SFID, as
+    /// they are scheduled. Takes memory only where the list has too little.
+    pub fn flowing_into(&self, flowing: &mut Vec<Flowing>) -> Result<(), AllocError>
+        ensures { OnOk result (flowing.new.items ≡ flowing_in self.now.flows) }
     {
-        self.by_sfid.flowing(alloc)
+        self.by_sfid.flowing_into(flowing)
     }
 
     /// Returns the flows under their SFIDs, ascending: a copy.

@@ -177,7 +177,7 @@ impl FlowRows {
         }
     }
 
-    /// Removes the flow of an SFID, if there is one, and answers the SID that it had.
+    /// Removes the flow of an SFID, if there is one, and returns the SID that it had.
     #[inline(always)]
     pub(crate) fn remove(&mut self, sfid: u32) -> Option<u16>
         ensures flows { self.new ≡ remove_entry (is_at (nat_cmp sfid)) self.old }
@@ -192,17 +192,19 @@ impl FlowRows {
         }
     }
 
-    /// Returns the flows with an active set, by SFID, as they are scheduled.
-    pub(crate) fn flowing(&self, alloc: Global) -> Result<Vec<Flowing>, AllocError>
-        ensures { IfOk result (λ flowing. flowing.items ≡ flowing_in self.now) }
+    /// Puts the flows that have an active set in place of what is in `flowing`, ascending by SFID, as
+    /// they are scheduled. Takes memory only where the list has too little.
+    pub(crate) fn flowing_into(&self, flowing: &mut Vec<Flowing>) -> Result<(), AllocError>
+        ensures { OnOk result (flowing.new.items ≡ flowing_in self.now) }
     {
-        let mut all = Vec::with_capacity(alloc, self.rows.len())?;
+        flowing.clear();
+        flowing.reserve(self.rows.len())?;
         for row in &self.rows {
-            if let Some(flowing) = flowing_of(row.0, row.1.as_ref()) {
-                all.push_reserved(flowing);
+            if let Some(scheduled) = flowing_of(row.0, row.1.as_ref()) {
+                flowing.push_reserved(scheduled);
             }
         }
-        Ok(all)
+        Ok(())
     }
 
     /// Returns the flows under their SFIDs, ascending: a copy.
