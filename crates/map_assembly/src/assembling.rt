@@ -1,6 +1,6 @@
 //! Putting the parts of a frame together.
 
-ghost use Rattle.std.specs.Prelude.{◌≡◌, ℕ, ◌≤◌, [], ◌∷◌, ◌++◌, map, length, All, IfOk, OnOk};
+ghost use Rattle.std.specs.Prelude.{◌≡◌, ℕ, ◌≤◌, [], ◌∷◌, ◌++◌, map, length, All, OnOk};
 ghost use Rattle.slice_scheduler.specs.declared.elements.ElementsFields.{ElementsFields};
 ghost use Rattle.map_assembly.specs.Wire.{element_limit};
 ghost use Rattle.map_assembly.specs.Element.{FitsElement};
@@ -12,12 +12,13 @@ ghost use Rattle.map_assembly.specs.Assembled.{ordered_elements};
 
 use crate::element::MapElement;
 use crate::header::header_of;
+use crate::memory::MapMemory;
 use crate::queue::{Queue, part_at};
 use crate::wire::ELEMENT_LIMIT;
 use crate::writing::{push_head, push_idle, push_null, push_pending, push_spans, write_map};
 use plant::{Channel, Op};
 use slice_scheduler::Elements;
-use std::alloc::{AllocError, Global};
+use std::alloc::AllocError;
 
 /// Adds the spans after the head: those of each operator in this order, and the minislots that no
 /// slice holds.
@@ -62,44 +63,44 @@ fn push_all_pending(
     Ok(())
 }
 
-/// Returns the elements of the MAP whose last part is this one of `op`, the operators going in this
-/// order.
+/// Writes the elements of the MAP whose last part is this one of `op` to a list, in place of what it
+/// holds, the operators going in this order.
 fn ordered_elements(
-    alloc: Global,
+    list: &mut Vec<MapElement>,
     channel: Channel,
     order: &[usize],
     queues: &[Queue],
     op: Op,
     part: &Elements,
-) -> Result<Vec<MapElement>, AllocError>
-    ensures { IfOk result (λ list. list.items ≡ ordered_elements channel order.now queues.now op part.now) }
+) -> Result<(), AllocError>
+    ensures { OnOk result (list.new.items ≡ ordered_elements channel order.now queues.now op part.now) }
 {
-    let mut list = Vec::with_capacity(alloc, ELEMENT_LIMIT)?;
-    push_head(&mut list, channel.head)?;
-    push_filled(&mut list, channel, order, queues, op, part)?;
-    push_null(&mut list, channel.frame_minislots)?;
-    push_all_pending(&mut list, channel.frame_minislots, order, queues, op, part)?;
-    Ok(list)
+    list.clear();
+    list.reserve(ELEMENT_LIMIT)?;
+    push_head(list, channel.head)?;
+    push_filled(list, channel, order, queues, op, part)?;
+    push_null(list, channel.frame_minislots)?;
+    push_all_pending(list, channel.frame_minislots, order, queues, op, part)
 }
 
-/// Returns the bytes of a frame's MAP whose last part is this one of `op`, the operators going in
-/// this order.
+/// Writes the bytes of a frame's MAP whose last part is this one of `op` to the bytes of `memory`, in
+/// place of what they are, the operators going in this order.
 pub(crate) fn map_bytes(
-    alloc: Global,
+    memory: &mut MapMemory,
     channel: Channel,
     frame: u32,
     order: &[usize],
     queues: &[Queue],
     op: Op,
     part: &Elements,
-) -> Result<Vec<u8>, AllocError>
+) -> Result<(), AllocError>
     requires few { length (ordered_elements channel order.now queues.now op part.now) ≤ element_limit }
     requires fit { All FitsElement (ordered_elements channel order.now queues.now op part.now) }
-    ensures { IfOk result (λ bytes. bytes.items
+    ensures { OnOk result (memory.new.bytes.items
         ≡ spelled_map (map_header channel frame (length (ordered_elements channel order.now queues.now op part.now)))
         (ordered_elements channel order.now queues.now op part.now)) }
 {
-    let list = ordered_elements(alloc, channel, order, queues, op, part)?;
-    let header = header_of(channel, frame, list.len() as u8);
-    write_map(alloc, header, list.as_slice())
+    ordered_elements(&mut memory.list, channel, order, queues, op, part)?;
+    let header = header_of(channel, frame, memory.list.len() as u8);
+    write_map(&mut memory.bytes, header, memory.list.as_slice())
 }

@@ -15,6 +15,7 @@ ghost use Rattle.map_assembly.specs.declared.refused.GatherFault.TheVariants.{No
 use crate::assembling::map_bytes;
 use crate::checking::are_slices;
 use crate::map_bytes::MapBytes;
+use crate::memory::MapMemory;
 use crate::queue::{Queue, is_whole};
 use crate::quota::Quota;
 use crate::refused::{GatherFault, Refused};
@@ -23,7 +24,7 @@ use plant::{Channel, Op, OperatorRow, Plant};
 use slice_scheduler::{Elements, Slice};
 use std::alloc::{AllocError, Global};
 use std::marker::Model;
-use tlv24::Bytes;
+use std::mem::replace;
 
 /// The operators' parts of frames, gathered to MAPs. Each operator puts its parts frame by frame, from the plant's first
 /// frame on. Contracts see what is gathered.
@@ -35,6 +36,7 @@ pub struct Gather {
     reslicings: Vec<Reslicing>,
     queues: Vec<Queue>,
     next: u64,
+    memory: MapMemory,
 }
 
 /// Written out, so that the crates above prove nothing of how what is gathered is dropped.
@@ -47,6 +49,7 @@ impl Drop for Gather {
             reslicings: _,
             queues: _,
             next: _,
+            memory: _,
         } = self;
     }
 }
@@ -103,13 +106,35 @@ fn is_last(queues: &[Queue], op: Op) -> bool
     is_whole(&queues[..op]) && is_whole(&queues[op + 1..])
 }
 
-/// Takes the first part of each operator out.
+/// Takes the first part of each operator out, and keeps its memory.
 fn drop_fronts(queues: &mut [Queue])
     ensures { queues.new ≡ map (λ queue. drop 1 queue) queues.old }
 {
     for queue in queues.iter_mut() {
         queue.drop_front();
     }
+}
+
+/// Returns a part of this operator whose MAP is made, if one is kept.
+#[tactic(auto, using(crate::proofs::StateLemmas::queue_same))]
+fn take_spent(queues: &mut [Queue], op: Op) -> Option<Elements>
+    ensures { queues.new ≡ queues.old }
+{
+    if op >= queues.len() {
+        return None;
+    }
+    queues[op].take_spent()
+}
+
+/// Keeps a part of this operator whose MAP is made, for its memory.
+#[tactic(auto, using(crate::proofs::StateLemmas::queue_same))]
+fn keep_spent(queues: &mut [Queue], op: Op, part: Elements)
+    ensures { queues.new ≡ queues.old }
+{
+    if op >= queues.len() {
+        return;
+    }
+    queues[op].keep_spent(part);
 }
 
 /// Returns what each operator may put.
@@ -216,6 +241,7 @@ impl Gather {
             reslicings: Vec::new(alloc),
             queues,
             next: frame as u64,
+            memory: MapMemory::new(alloc),
         })
     }
 
@@ -261,28 +287,28 @@ impl Gather {
         }
     }
 
-    /// Returns the bytes of the MAP whose last part is this one.
+    /// Writes the bytes of the MAP whose last part is this one to the bytes of `memory`.
     fn map_of(
         &self,
-        alloc: Global,
+        memory: &mut MapMemory,
         op: Op,
         frame: u32,
         part: &Elements,
-    ) -> Result<Vec<u8>, AllocError>
+    ) -> Result<(), AllocError>
         requires put { put_fault self.now op frame part.now ≡ None }
         requires last { is_last self.now op part.now ≡ true }
         ensures next { frame ≡ self.now.next }
         ensures valid { IsGathering (frame_out self.now frame) }
         ensures after { frame_out self.now frame ≡ after_put self.now op part.now }
-        ensures bytes { IfOk result (λ bytes. IsMapOf self.now.channel frame self.now.quotas
-            (frame_slices self.now frame) (frame_parts self.now op part.now) bytes.items) }
+        ensures bytes { OnOk result (IsMapOf self.now.channel frame self.now.quotas
+            (frame_slices self.now frame) (frame_parts self.now op part.now) memory.new.bytes.items) }
     {
         // For the proof: what always holds of `part`.
         part.always();
         let slicing = slices_at(&self.slices, self.reslicings.as_slice(), frame);
         let queues = self.queues.as_slice();
         map_bytes(
-            alloc,
+            memory,
             self.channel,
             frame,
             slicing.order(),
@@ -299,6 +325,51 @@ impl Gather {
     {
         drop_fronts(self.queues.as_mut_slice());
         self.next = frame as u64 + 1;
+    }
+
+    /// Returns the memory for the next MAP, and leaves none in its place.
+    fn take_memory(&mut self, alloc: Global) -> MapMemory
+        ensures { self.new ≡ self.old }
+    {
+        replace(&mut self.memory, MapMemory::new(alloc))
+    }
+
+    /// Keeps a part whose MAP is made for its memory, and the memory of the MAP's elements.
+    fn keep_memory(&mut self, op: Op, part: Elements, memory: MapMemory)
+        ensures { self.new ≡ self.old }
+    {
+        keep_spent(self.queues.as_mut_slice(), op, part);
+        self.memory = memory;
+    }
+
+    /// Puts the last part of a frame, and returns its MAP. Where no memory is left, hands the part
+    /// back, and nothing has changed.
+    fn put_last(
+        &mut self,
+        alloc: Global,
+        op: Op,
+        frame: u32,
+        elements: Elements,
+    ) -> Result<MapBytes, Elements>
+        requires put { put_fault self.old op frame elements ≡ None }
+        requires last { is_last self.old op elements ≡ true }
+        ensures state { OnOk result (self.new ≡ after_put self.old op elements) }
+        ensures next { frame ≡ self.old.next }
+        ensures frame { IfOk result (λ map. map.frame ≡ frame) }
+        ensures bytes { IfOk result (λ map. IsMapOf self.old.channel frame self.old.quotas
+            (frame_slices self.old frame) (frame_parts self.old op elements) map.bytes) }
+        ensures err { IfErr result (λ back. (back ≡ elements) × (self.new ≡ self.old)) }
+    {
+        let mut memory = self.take_memory(alloc);
+        match self.map_of(&mut memory, op, frame, &elements) {
+            Ok(()) => {
+                let bytes = memory.take_bytes(alloc);
+                self.finish(frame);
+                self.keep_memory(op, elements, memory);
+                Ok(MapBytes { frame, bytes })
+            }
+            Err(_) => Err(elements),
+        }
     }
 
     /// Returns whether a part of this operator is the last one of its frame.
@@ -344,18 +415,29 @@ impl Gather {
                 }),
             };
         }
-        match self.map_of(alloc, op, frame, &elements) {
-            Ok(bytes) => {
-                self.finish(frame);
-                Ok(Some(MapBytes {
-                    frame,
-                    bytes: Bytes::from_vec(bytes),
-                }))
-            }
-            Err(_) => Err(Refused {
+        match self.put_last(alloc, op, frame, elements) {
+            Ok(map) => Ok(Some(map)),
+            Err(elements) => Err(Refused {
                 fault: GatherFault::NoMemory,
                 elements,
             }),
+        }
+    }
+
+    /// Returns a part of this operator whose MAP is made, if one is kept, for its memory. What is
+    /// gathered stays as it is.
+    pub fn take_spent(&mut self, op: Op) -> Option<Elements>
+        ensures { self.new ≡ self.old }
+    {
+        take_spent(self.queues.as_mut_slice(), op)
+    }
+
+    /// Takes the memory of a MAP back that nobody needs any more. What is gathered stays as it is.
+    pub fn take_back(&mut self, map: MapBytes)
+        ensures { self.new ≡ self.old }
+    {
+        if let Some(bytes) = map.bytes.into_vec() {
+            self.memory.bytes = bytes;
         }
     }
 

@@ -8,6 +8,7 @@ mod element;
 mod gather;
 mod header;
 mod map_bytes;
+mod memory;
 mod queue;
 mod quota;
 mod reading;

@@ -16,6 +16,8 @@ use std::marker::Model;
 #[derive(Debug, Drop)]
 pub struct Queue {
     parts: VecDeque<Elements>,
+    /// The operator's last part whose MAP is made, which is kept for its memory.
+    spent: Option<Elements>,
 }
 
 impl Model for Queue {
@@ -34,6 +36,7 @@ impl Queue {
     {
         Queue {
             parts: VecDeque::new(alloc),
+            spent: None,
         }
     }
 
@@ -65,11 +68,28 @@ impl Queue {
         }
     }
 
-    /// Takes the part of the earliest frame out, if there is one.
+    /// Takes the part of the earliest frame out, if there is one, and keeps its memory.
     pub(crate) fn drop_front(&mut self)
         ensures { self.new ≡ drop 1 self.old }
     {
-        let _front = self.parts.pop_front();
+        let front = self.parts.pop_front();
+        if front.is_some() {
+            self.spent = front;
+        }
+    }
+
+    /// Returns the last part whose MAP is made, if it is kept. The parts that wait stay as they are.
+    pub(crate) fn take_spent(&mut self) -> Option<Elements>
+        ensures { self.new ≡ self.old }
+    {
+        self.spent.take()
+    }
+
+    /// Keeps a part whose MAP is made for its memory. The parts that wait stay as they are.
+    pub(crate) fn keep_spent(&mut self, part: Elements)
+        ensures { self.new ≡ self.old }
+    {
+        self.spent = Some(part);
     }
 }
 

@@ -1,6 +1,6 @@
 //! Writing a MAP.
 
-ghost use Rattle.std.specs.Prelude.{◌≡◌, ℕ, ◌<◌, ◌≤◌, [], ◌∷◌, ◌++◌, map, length, All, IfOk, OnOk};
+ghost use Rattle.std.specs.Prelude.{◌≡◌, ℕ, ◌<◌, ◌≤◌, [], ◌∷◌, ◌++◌, map, length, All, OnOk};
 ghost use Rattle.std.specs.Int.{w32, to_be_bytes};
 ghost use Rattle.slice_scheduler.specs.declared.elements.ElementsFields.{ElementsFields};
 ghost use Rattle.map_assembly.specs.Element.{FitsElement, spelled_element, spelled_elements};
@@ -12,7 +12,7 @@ use crate::element::MapElement;
 use crate::view::MapHeader;
 use crate::wire::{BROADCAST_SID, ELEMENT_BYTES, HEADER_BYTES, NOBODYS_SID, NULL_IUC, RESERVED};
 use slice_scheduler::{Elements, Iuc};
-use std::alloc::{AllocError, Global};
+use std::alloc::AllocError;
 
 /// Adds the head, in which every modem may ask.
 pub(crate) fn push_head(elements: &mut Vec<MapElement>, head: u16) -> Result<(), AllocError>
@@ -91,17 +91,18 @@ pub(crate) fn push_pending(
     Ok(())
 }
 
-/// Returns the bytes of a MAP.
+/// Writes the bytes of a MAP to a list, in place of what it holds.
 pub(crate) fn write_map(
-    alloc: Global,
+    bytes: &mut Vec<u8>,
     header: MapHeader,
     elements: &[MapElement],
-) -> Result<Vec<u8>, AllocError>
+) -> Result<(), AllocError>
     requires few { length elements.now ≤ u8.MAX }
     requires fit { All FitsElement elements.now }
-    ensures { IfOk result (λ bytes. bytes.items ≡ spelled_map header elements.now) }
+    ensures { OnOk result (bytes.new.items ≡ spelled_map header elements.now) }
 {
-    let mut bytes = Vec::with_capacity(alloc, HEADER_BYTES + ELEMENT_BYTES * elements.len())?;
+    bytes.clear();
+    bytes.reserve(HEADER_BYTES + ELEMENT_BYTES * elements.len())?;
     bytes.extend_from_slice(&[header.channel, header.ucd_count, header.elements, RESERVED])?;
     bytes.extend_from_slice(&header.alloc_start.to_be_bytes())?;
     bytes.extend_from_slice(&header.ack_time.to_be_bytes())?;
@@ -114,5 +115,5 @@ pub(crate) fn write_map(
     for element in elements {
         bytes.extend_from_slice(&element.word().to_be_bytes())?;
     }
-    Ok(bytes)
+    Ok(())
 }
