@@ -14,10 +14,11 @@ ghost use Rattle.live_core.specs.Putting.{FitsOldest, PutsOldest, CollectsOldest
 
 use crate::act_plan::ActPlan;
 use crate::core_fault::CoreFault;
+use crate::core_memory::CoreMemory;
 use crate::desk::LiveSlot;
 use dsx_messages::Modem;
 use map_assembly::{Gather, MapBytes};
-use operator_book::{BookFault, FirstRequest, Plan, SpareOutputs};
+use operator_book::{BookFault, FirstRequest, Plan, SpareOutputs, TickMemory};
 use operator_model::{Action, Heard, Output};
 use plant::Op;
 use run_model::Out;
@@ -90,14 +91,35 @@ fn reserve_for(
     }
 }
 
-/// Returns a copy of the first frame among outputs.
+/// Returns a part of this operator that is in a MAP, for its memory, if the assembly kept one and the
+/// outputs end in a frame, as those of a tick do.
 #[inline(always)]
-fn frame_copy(alloc: Global, outputs: &[Output]) -> Result<Option<(u32, Elements)>, AllocError>
+fn spent_part(op: Op, outputs: &[Output], gather: &mut Gather) -> Option<Elements>
+    ensures { gather.new ≡ gather.old }
+{
+    match outputs.last() {
+        Some(
+            Output::Frame {
+                number: _,
+                elements: _,
+            },
+        ) => gather.take_spent(op),
+        _ => None,
+    }
+}
+
+/// Returns a copy of the first frame among outputs, in the memory of another one.
+#[inline(always)]
+fn frame_copy(
+    alloc: Global,
+    outputs: &[Output],
+    spent: Option<Elements>,
+) -> Result<Option<(u32, Elements)>, AllocError>
     ensures { IfOk result (λ frame. frame ≡ slice_get (frames_of outputs.now) 0) }
 {
     for output in outputs {
         if let Output::Frame { number, elements } = output {
-            return Ok(Some((*number, elements.copy(alloc)?)));
+            return Ok(Some((*number, elements.copy_in(alloc, spent)?)));
         }
     }
     Ok(None)
@@ -111,6 +133,7 @@ impl LiveSlot {
         &self,
         alloc: Global,
         spare: SpareOutputs,
+        memory: &mut TickMemory,
         op: Op,
         action: Action,
     ) -> Result<ActPlan, CoreFault>
@@ -125,7 +148,7 @@ impl LiveSlot {
         if self.live.is_spent(&action) {
             return Err(CoreFault::Book(BookFault::FramesSpent));
         }
-        match self.live.plan_allowed(alloc, spare, action) {
+        match self.live.plan_allowed(alloc, spare, memory, action) {
             Ok(plan) => Ok(ActPlan { op, plan }),
             Err(AllocError) => Err(CoreFault::NoMemory),
         }
@@ -182,7 +205,7 @@ impl LiveSlot {
         Ok(())
     }
 
-    /// Commits the plan of an action, and appends its outputs, whose memory is `spare` then. A copy of its frame waits. If memory
+    /// Commits the plan of an action, and appends its outputs, whose memory is used again. A copy of its frame waits. If memory
     /// runs out nothing changes.
     #[inline(always)]
     pub(crate) fn commit(
@@ -191,22 +214,25 @@ impl LiveSlot {
         op: Op,
         plan: Plan,
         outs: &mut Vec<Out>,
-        spare: &mut SpareOutputs,
+        memory: &mut CoreMemory,
+        gather: &mut Gather,
     ) -> Result<(), AllocError>
         requires { IsCommittable self.old.live.sound plan }
         ensures book { OnOk result (self.new.live.sound ≡ after_effect self.old.live.sound plan.effect) }
         ensures waiting { OnOk result (slot_waiting self.new
             ≡ slot_waiting self.old ++ option_to_list (slice_get (frames_of plan.outputs.items) 0)) }
         ensures outputs { OnOk result (outs.new.items ≡ outs.old.items ++ outputs_under op plan.outputs.items) }
+        ensures gather { gather.new ≡ gather.old }
         ensures outs { OnErr result (outs.new.items ≡ outs.old.items) }
         ensures same_book { OnErr result (slot_book self.new ≡ slot_book self.old) }
         ensures same_waiting { OnErr result (slot_waiting self.new ≡ slot_waiting self.old) }
     {
-        let frame = frame_copy(alloc, plan.outputs())?;
+        let spent = spent_part(op, plan.outputs(), gather);
+        let frame = frame_copy(alloc, plan.outputs(), spent)?;
         reserve_for(&mut self.waiting, &frame)?;
         outs.reserve(plan.outputs().len())?;
-        let outputs = self.live.commit(plan)?;
-        *spare = append(alloc, outs, op, outputs);
+        let outputs = self.live.commit(plan, &mut memory.tick)?;
+        memory.outputs = append(alloc, outs, op, outputs);
         if let Some(frame) = frame {
             self.waiting.push_back_reserved(frame);
         }

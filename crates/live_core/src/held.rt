@@ -6,10 +6,10 @@ ghost use Rattle.live_core.specs.Reachable.{core_of};
 ghost use Rattle.live_core.specs.DeskView.{slot_book, slot_waiting};
 ghost use Rattle.live_core.specs.After.{IsReachableFromStart};
 
+use crate::core_memory::CoreMemory;
 use crate::desk::LiveSlot;
 use crate::routes::Routes;
 use map_assembly::Gather;
-use operator_book::SpareOutputs;
 
 /// A plant's core with no history: the plant, each operator's machine with its frames that wait to
 /// be collected, and what is gathered. Contracts speak of `live_view` of it. The type keeps that
@@ -25,8 +25,7 @@ pub struct LiveCore {
     pub(crate) routes: Routes,
     pub(crate) desks: Vec<LiveSlot>,
     pub(crate) gather: Gather,
-    /// Memory for the outputs of the next action that is planned.
-    pub(crate) spare: SpareOutputs,
+    pub(crate) memory: CoreMemory,
     ghost let_go: { has_begun gather ≡ false },
     ghost reached: { ∥ IsReachableFromStart (core_of routes (map slot_book desks.items) (map slot_waiting desks.items) gather) ∥₁ },
 }
@@ -38,7 +37,7 @@ impl Drop for LiveCore {
             routes: _,
             desks: _,
             gather: _,
-            spare: _,
+            memory: _,
         } = self;
     }
 }

@@ -5,6 +5,7 @@
 mod act_plan;
 mod acting;
 mod core_fault;
+mod core_memory;
 mod desk;
 mod giving;
 mod held;

@@ -17,7 +17,7 @@ use crate::act_plan::ActPlan;
 use crate::core_fault::CoreFault;
 use crate::held::LiveCore;
 use dsx_messages::Modem;
-use operator_book::{FirstRequest, SpareOutputs};
+use operator_book::{FirstRequest, SpareOutputs, TickMemory};
 use operator_model::{Action, Heard};
 use plant::Op;
 use run_model::Out;
@@ -40,34 +40,31 @@ impl LiveCore {
         ensures plan { IfOk result (IsActPlan (live_view self.now) op action) }
         ensures fault { IsReported result (act_fault op action (slice_get (live_view self.now).books op)) }
     {
-        self.plan_act_in(alloc, SpareOutputs::new(alloc), op, action)
-    }
-
-    /// Plans an action as `plan_act` does, in memory for its outputs.
-    #[inline(always)]
-    pub(crate) fn plan_act_in(
-        &self,
-        alloc: Global,
-        spare: SpareOutputs,
-        op: Op,
-        action: Action,
-    ) -> Result<ActPlan, CoreFault>
-        requires { IsOfAStep (live_view self.now).plant op action }
-        ensures plan { IfOk result (IsActPlan (live_view self.now) op action) }
-        ensures fault { IsReported result (act_fault op action (slice_get (live_view self.now).books op)) }
-    {
         if op >= self.desks.len() {
             return Err(CoreFault::UnknownOperator { op });
         }
-        self.desks[op].plan(alloc, spare, op, action)
+        let mut memory = TickMemory::new(alloc);
+        self.desks[op].plan(alloc, SpareOutputs::new(alloc), &mut memory, op, action)
     }
 
-    /// Takes the memory for the outputs of an action out of the core.
+    /// Plans an action as `plan_act` does, in the core's memory.
     #[inline(always)]
-    pub(crate) fn take_spare(&mut self, alloc: Global) -> SpareOutputs
-        ensures { live_view self.new ≡ live_view self.old }
+    pub(crate) fn plan_act_in_memory(
+        &mut self,
+        alloc: Global,
+        op: Op,
+        action: Action,
+    ) -> Result<ActPlan, CoreFault>
+        requires { IsOfAStep (live_view self.old).plant op action }
+        ensures plan { IfOk result (IsActPlan (live_view self.old) op action) }
+        ensures fault { IsReported result (act_fault op action (slice_get (live_view self.old).books op)) }
+        ensures core { live_view self.new ≡ live_view self.old }
     {
-        replace(&mut self.spare, SpareOutputs::new(alloc))
+        if self.desks.len() <= op {
+            return Err(CoreFault::UnknownOperator { op });
+        }
+        let spare = replace(&mut self.memory.outputs, SpareOutputs::new(alloc));
+        self.desks[op].plan(alloc, spare, &mut self.memory.tick, op, action)
     }
 
     /// Puts what was received of a modem into the inbox of the operator at this place, which has the modem, and appends the outputs
@@ -170,6 +167,7 @@ impl LiveCore {
         // For the proof: what always holds of `self`.
         self.always();
         let ActPlan { op, plan } = act;
-        self.desks[op].commit(alloc, op, plan, outs, &mut self.spare)
+        let (memory, gather) = (&mut self.memory, &mut self.gather);
+        self.desks[op].commit(alloc, op, plan, outs, memory, gather)
     }
 }

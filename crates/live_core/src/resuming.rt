@@ -10,12 +10,13 @@ ghost use Rattle.live_core.specs.LiveOperator.{sound_of, row_of, current_slice, 
 ghost use Rattle.live_core.specs.LiveView.{live_view};
 ghost use Rattle.live_core.specs.Resumed.{later_of, waits_from, first_from, slices_now, start_with, MayResume, IsOddFault, IsSliceFault, IsResumeFault};
 
+use crate::core_memory::CoreMemory;
 use crate::desk::LiveSlot;
 use crate::held::LiveCore;
 use crate::resume_fault::ResumeFault;
 use crate::routes::Routes;
 use map_assembly::{Gather, first_invalid_slice};
-use operator_book::{Machine, SpareOutputs};
+use operator_book::Machine;
 use plant::{Op, Plant};
 use slice_scheduler::Slice;
 use std::alloc::{AllocError, AllocFailed, Global};
@@ -242,7 +243,7 @@ impl LiveCore {
             routes,
             desks,
             gather,
-            spare: SpareOutputs::new(alloc),
+            memory: CoreMemory::new(alloc),
         })
     }
 }

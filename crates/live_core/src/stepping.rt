@@ -15,22 +15,61 @@ ghost use Rattle.live_core.specs.LiveView.{live_view};
 use crate::core_fault::CoreFault;
 use crate::held::LiveCore;
 use dsx_messages::Modem;
-use operator_model::{Action, Heard};
+use map_assembly::Gather;
+use operator_book::TickMemory;
+use operator_model::{Action, Heard, Output};
 use plant::Op;
 use run_model::{Out, Step};
 use std::alloc::{AllocError, Global};
+use std::mem::replace;
 
-/// Takes all outputs out of a list, which has none after most steps.
-#[inline(always)]
-fn empty(outs: &mut Vec<Out>)
-    ensures { outs.new.items ≡ [] }
+/// Takes the memory of an output back that nobody needs any more: a frame's for the lists of a tick,
+/// and a MAP's for the assembly.
+fn take_back(memory: &mut TickMemory, gather: &mut Gather, out: Out)
+    ensures { gather.new ≡ gather.old }
 {
-    if !outs.is_empty() {
-        outs.clear();
+    match out {
+        Out::Of {
+            op: _,
+            output: Output::Frame {
+                number: _,
+                elements,
+            },
+        } => memory.take_back(elements),
+        Out::Of { op: _, output: _ } => {}
+        Out::Map(made) => gather.take_back(made),
+    }
+}
+
+/// Takes all outputs out of a list, which has none after most steps, and their memory back.
+#[inline(always)]
+fn empty(memory: &mut TickMemory, gather: &mut Gather, outs: &mut Vec<Out>)
+    ensures outs { outs.new.items ≡ [] }
+    ensures gather { gather.new ≡ gather.old }
+{
+    while let Some(out) = outs.pop() {
+        take_back(memory, gather, out);
     }
 }
 
 impl LiveCore {
+    /// Returns a list for outputs, which has none, in memory of the core. `keep_list` gives it back.
+    pub fn take_list(&mut self, alloc: Global) -> Vec<Out>
+        ensures list { result.items ≡ [] }
+        ensures core { live_view self.new ≡ live_view self.old }
+    {
+        let mut list = replace(&mut self.memory.list, Vec::new(alloc));
+        empty(&mut self.memory.tick, &mut self.gather, &mut list);
+        list
+    }
+
+    /// Keeps a list of outputs for its memory.
+    pub fn keep_list(&mut self, outs: Vec<Out>)
+        ensures { live_view self.new ≡ live_view self.old }
+    {
+        self.memory.list = outs;
+    }
+
     /// Performs an action of the operator at this place, if there is one.
     #[inline(always)]
     fn act_if(
@@ -47,8 +86,7 @@ impl LiveCore {
         ensures err { OnErr result (live_view self.new ≡ live_view self.old) }
         ensures fault { IsReported result (act_fault op action (slice_get (live_view self.old).books op)) }
     {
-        let spare = self.take_spare(alloc);
-        let act = self.plan_act_in(alloc, spare, op, action)?;
+        let act = self.plan_act_in_memory(alloc, op, action)?;
         match self.commit_act(alloc, act, outs) {
             Ok(()) => Ok(()),
             Err(AllocError) => Err(CoreFault::NoMemory),
@@ -161,7 +199,7 @@ impl LiveCore {
     {
         // For the proof: what always holds of `self`.
         self.always();
-        empty(outs);
+        empty(&mut self.memory.tick, &mut self.gather, outs);
         self.step_into(alloc, step, outs)?;
         Ok(())
     }

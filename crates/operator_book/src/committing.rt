@@ -11,28 +11,34 @@ ghost use Rattle.operator_book.specs.Planned.{MayCommit, MayHandle, MayRespond, 
 use crate::boxed_verdict::BoxedVerdict;
 use crate::machine::MachineState;
 use crate::plan::{Effect, HandledEffect, Plan};
+use crate::tick_memory::TickMemory;
 use dsx_messages::{Kind, Modem};
 use operator_model::Output;
 use std::alloc::AllocError;
 use tlv24::Bytes;
 
 impl MachineState {
-    /// Commits a plan, and returns its outputs. If memory runs out nothing changes.
+    /// Commits a plan, and returns its outputs. The memory of a tick's grants is given back. If memory
+    /// runs out nothing changes.
     #[inline(always)]
-    pub(crate) fn commit(&mut self, plan: Plan) -> Result<Vec<Output>, AllocError>
+    pub(crate) fn commit(
+        &mut self,
+        plan: Plan,
+        memory: &mut TickMemory,
+    ) -> Result<Vec<Output>, AllocError>
         requires { MayCommit self.old plan.effect }
         ensures state { OnOk result (self.new ≡ after_effect self.old plan.effect) }
         ensures outputs { IfOk result (λ outputs. outputs.items ≡ plan.outputs.items) }
         ensures err { OnErr result (self.new ≡ self.old) }
     {
         let Plan { outputs, effect } = plan;
-        self.commit_effect(effect)?;
+        self.commit_effect(effect, memory)?;
         Ok(outputs)
     }
 
     /// Makes the effect of a plan.
     #[inline(always)]
-    fn commit_effect(&mut self, effect: Effect) -> Result<(), AllocError>
+    fn commit_effect(&mut self, effect: Effect, memory: &mut TickMemory) -> Result<(), AllocError>
         requires { MayCommit self.old effect }
         ensures ok { OnOk result (self.new ≡ after_effect self.old effect) }
         ensures err { OnErr result (self.new ≡ self.old) }
@@ -51,6 +57,7 @@ impl MachineState {
             }
             Effect::Ticked { granted, given_up } => {
                 self.pass_frame(granted.as_slice(), given_up.as_slice());
+                memory.take_back_grants(granted);
                 Ok(())
             }
             Effect::Resliced { from, row } => {

@@ -25,6 +25,7 @@ mod row_fault;
 mod share_fault;
 mod state_fault;
 mod state_view;
+mod tick_memory;
 mod ticking;
 mod verdict;
 
@@ -40,3 +41,4 @@ pub use plan::{Plan, SpareOutputs, output_copies};
 pub use row_fault::row_faults;
 pub use state_fault::StateFault;
 pub use state_view::StateView;
+pub use tick_memory::TickMemory;

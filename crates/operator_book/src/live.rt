@@ -19,6 +19,7 @@ use crate::machine::MachineState;
 use crate::plan::{Plan, SpareOutputs};
 use crate::state_fault::StateFault;
 use crate::state_view::StateView;
+use crate::tick_memory::TickMemory;
 use dsx_messages::Modem;
 use grant_policy::Ranking;
 use operator_model::{Action, Heard, NextShare, Output, Share, SliceRow, Unfit, step_keeps_sound};
@@ -113,6 +114,7 @@ impl SoundMachine {
         &self,
         alloc: Global,
         spare: SpareOutputs,
+        memory: &mut TickMemory,
         ranking: &Ranking,
         action: Action,
     ) -> Result<Plan, AllocError>
@@ -123,18 +125,19 @@ impl SoundMachine {
     {
         // For the proof: an action that is not refused leaves a sound state.
         step_keeps_sound();
-        self.machine.plan(alloc, spare, ranking, action)
+        self.machine.plan(alloc, spare, memory, ranking, action)
     }
 
-    /// Commits a plan, and returns its outputs. If memory runs out nothing changes.
+    /// Commits a plan, and returns its outputs. The memory of a tick's grants is given back. If memory
+    /// runs out nothing changes.
     #[inline(always)]
-    fn commit(&mut self, plan: Plan) -> Result<Vec<Output>, AllocError>
+    fn commit(&mut self, plan: Plan, memory: &mut TickMemory) -> Result<Vec<Output>, AllocError>
         requires { IsCommittable self.old plan }
         ensures state { OnOk result (self.new ≡ after_effect self.old plan.effect) }
         ensures outputs { IfOk result (λ outputs. outputs.items ≡ plan.outputs.items) }
         ensures err { OnErr result (self.new ≡ self.old) }
     {
-        self.machine.commit(plan)
+        self.machine.commit(plan, memory)
     }
 
     /// Puts what was received of a modem of the row at the end of the inbox, and returns the outputs
@@ -270,16 +273,18 @@ impl Machine {
         if let Err(fault) = self.sound.machine.judge(&action) {
             return Err(fault);
         }
-        Ok(self.plan_allowed(alloc, SpareOutputs::new(alloc), action)?)
+        let mut memory = TickMemory::new(alloc);
+        Ok(self.plan_allowed(alloc, SpareOutputs::new(alloc), &mut memory, action)?)
     }
 
     /// Plans an action as `plan` does, for a caller that knows that it is not refused, and has memory
-    /// for the outputs.
+    /// for the outputs and for the lists of a tick.
     #[inline(always)]
     pub fn plan_allowed(
         &self,
         alloc: Global,
         spare: SpareOutputs,
+        memory: &mut TickMemory,
         action: Action,
     ) -> Result<Plan, AllocError>
         requires { IsAllowed self.now.sound action }
@@ -287,19 +292,19 @@ impl Machine {
         ensures plan { IfOk result (IsPlanOf self.now.sound action) }
         ensures committable { IfOk result (IsCommittable self.now.sound) }
     {
-        self.sound.plan(alloc, spare, &self.ranking, action)
+        self.sound.plan(alloc, spare, memory, &self.ranking, action)
     }
 
-    /// Commits a plan, and returns its outputs. If memory runs out nothing changes. The caller knows
-    /// that the plan was made for the machine as it is.
+    /// Commits a plan, and returns its outputs. The memory of a tick's grants is given back. If memory
+    /// runs out nothing changes. The caller knows that the plan was made for the machine as it is.
     #[inline(always)]
-    pub fn commit(&mut self, plan: Plan) -> Result<Vec<Output>, AllocError>
+    pub fn commit(&mut self, plan: Plan, memory: &mut TickMemory) -> Result<Vec<Output>, AllocError>
         requires { IsCommittable self.old.sound plan }
         ensures state { OnOk result (self.new.sound ≡ after_effect self.old.sound plan.effect) }
         ensures outputs { IfOk result (λ outputs. outputs.items ≡ plan.outputs.items) }
         ensures err { OnErr result (self.new.sound ≡ self.old.sound) }
     {
-        self.sound.commit(plan)
+        self.sound.commit(plan, memory)
     }
 
     /// Puts what was received of a modem of the row at the end of the inbox, and returns the outputs
@@ -362,7 +367,7 @@ impl Machine {
         ensures err { OnErr result (self.new.sound ≡ self.old.sound) }
     {
         match self.plan(alloc, action) {
-            Ok(plan) => Ok(self.commit(plan)?),
+            Ok(plan) => Ok(self.commit(plan, &mut TickMemory::new(alloc))?),
             Err(fault) => Err(fault),
         }
     }

@@ -10,6 +10,7 @@ ghost use Rattle.operator_model.specs.Sound.{IsSound};
 use crate::history::History;
 use crate::machine::MachineState;
 use crate::plan::{SpareOutputs, output_copies};
+use crate::tick_memory::TickMemory;
 use grant_policy::Ranking;
 use operator_model::{Action, Entry, Output, Outputs, SliceRow, replay_is_sound};
 use plant::{Consts, OperatorRow};
@@ -74,11 +75,13 @@ impl RecordedMachine {
         self.always();
         self.history.make_room()?;
         let recorded = action.copy(alloc)?;
+        let mut memory = TickMemory::new(alloc);
+        let spare = SpareOutputs::new(alloc);
         let plan = self
             .machine
-            .plan(alloc, SpareOutputs::new(alloc), ranking, action)?;
+            .plan(alloc, spare, &mut memory, ranking, action)?;
         let copies = output_copies(alloc, plan.outputs())?;
-        let outputs = self.machine.commit(plan)?;
+        let outputs = self.machine.commit(plan, &mut memory)?;
         self.history.push(Entry {
             action: recorded,
             outputs: Outputs::from_vec(copies),

@@ -7,6 +7,7 @@ ghost use Rattle.operator_book.specs.Planned.{IsPlanOf};
 
 use crate::machine::MachineState;
 use crate::plan::{Effect, Plan, SpareOutputs};
+use crate::tick_memory::TickMemory;
 use grant_policy::Ranking;
 use operator_model::Action;
 use std::alloc::{AllocError, Global};
@@ -19,6 +20,7 @@ impl MachineState {
         &self,
         alloc: Global,
         spare: SpareOutputs,
+        memory: &mut TickMemory,
         ranking: &Ranking,
         action: Action,
     ) -> Result<Plan, AllocError>
@@ -34,7 +36,7 @@ impl MachineState {
             Action::Tick => {
                 // For the proof: what the type of `self.frame` keeps.
                 let _frame = self.frame;
-                self.tick_plan(alloc, spare, ranking)
+                self.tick_plan(alloc, spare, memory, ranking)
             }
             Action::Reslice { from, row } => Ok(Plan {
                 outputs: spare.into_list(),

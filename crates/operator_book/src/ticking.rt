@@ -11,6 +11,7 @@ ghost use Rattle.operator_book.specs.Planned.{IsPlanFor, state_after_tick};
 
 use crate::machine::MachineState;
 use crate::plan::{Effect, Plan, SpareOutputs};
+use crate::tick_memory::TickMemory;
 use grant_policy::Ranking;
 use operator_model::{Output, given_up_have_no_grants, schedule_can_serve};
 use slice_scheduler::{At, AtFields, Elements, Served, schedule};
@@ -40,7 +41,12 @@ fn frame_outputs(
 impl MachineState {
     /// Returns the schedule of the frame. What is abandoned has no grants, so that it may be
     /// scheduled before anything is undone.
-    fn frame_schedule(&self, alloc: Global, ranking: &Ranking) -> Result<Served, AllocError>
+    fn frame_schedule(
+        &self,
+        alloc: Global,
+        memory: &mut TickMemory,
+        ranking: &Ranking,
+    ) -> Result<Served, AllocError>
         requires sound { IsSound self.now }
         requires policy { ranking.now.policy ≡ self.now.row.policy }
         ensures elements { IfOk result (λ served. served.elements ≡ frame_elements self.now) }
@@ -50,14 +56,15 @@ impl MachineState {
         schedule_can_serve();
         given_up_have_no_grants();
         let consts = self.consts.get_fields();
-        let flowing = self.flows.flowing(alloc)?;
+        self.flows.flowing_into(&mut memory.flowing)?;
         let at = At::new(AtFields {
             slice: self.share.slice,
             frame: self.frame,
             short_max: consts.short_max,
             units: consts.units,
         });
-        let served = schedule(alloc, flowing.as_slice(), &at, ranking)?;
+        let flowing = memory.flowing.as_slice();
+        let served = schedule(alloc, &mut memory.schedule, flowing, &at, ranking)?;
         Ok(served)
     }
 
@@ -113,6 +120,7 @@ impl MachineState {
         &self,
         alloc: Global,
         spare: SpareOutputs,
+        memory: &mut TickMemory,
         ranking: &Ranking,
     ) -> Result<Plan, AllocError>
         requires sound { IsSound self.now }
@@ -120,7 +128,7 @@ impl MachineState {
         requires not_spent { self.now.state.frame < 4294967295 }
         ensures { IfOk result (IsPlanFor self.now (tick_result self.now)) }
     {
-        let Served { elements, granted } = self.frame_schedule(alloc, ranking)?;
+        let Served { elements, granted } = self.frame_schedule(alloc, memory, ranking)?;
         let Ticked { resend, given_up } = self.kept.due(alloc)?;
         Ok(Plan {
             outputs: frame_outputs(spare, resend, self.frame, elements)?,

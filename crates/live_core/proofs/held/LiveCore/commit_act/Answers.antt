@@ -22,9 +22,9 @@ invariant_of-self g c =
     let one = acts_one slot_book slot_waiting c.commit.result core.desks.items core.desks.len c.args.act.op c.index_mut.result.now c.commit.new.self _ _ core.desks.ok.0 within c.index_mut.ensures.value
     (on_ok_weaker c.commit.result (λ same. ap book_of same) did.book) did.same_book did.waiting did.same_waiting in
     record {
-      let_go = core.let_go;
-      reached = committed_reaches core.routes core.gather _ _ _ _ c.args.act _ _ one.book_is one.waiting_is (bare_seen slot_book core.desks.items (λ desk. refl)) c.always.ensures.gathering c.commit.result c.always.ensures.plant c.requires
-          one.books one.queues one.same_books one.same_queues core.reached;
+      let_go = rw did.gather core.let_go;
+      reached = rw did.gather (committed_reaches core.routes core.gather _ _ _ _ c.args.act _ _ one.book_is one.waiting_is (bare_seen slot_book core.desks.items (λ desk. refl)) c.always.ensures.gathering c.commit.result c.always.ensures.plant c.requires
+          one.books one.queues one.same_books one.same_queues core.reached);
     }
 
 pub returns-clause-ok : goal.returns-clause-ok
@@ -34,7 +34,7 @@ returns-clause-ok g c =
     let within = planned_within slot_book core.routes core.gather _ core.desks.items core.desks.len c.args.act core.desks.ok.0 c.requires in
     let one = acts_one slot_book slot_waiting c.commit.result core.desks.items core.desks.len c.args.act.op c.index_mut.result.now c.commit.new.self _ _ core.desks.ok.0 within c.index_mut.ensures.value
     (on_ok_weaker c.commit.result (λ same. ap book_of same) did.book) did.same_book did.waiting did.same_waiting in
-    committed_on core.routes core.gather _ _ _ _ c.args.act _ _ one.book_is one.waiting_is (bare_seen slot_book core.desks.items (λ desk. refl)) c.always.ensures.gathering c.commit.result _ _ one.books one.queues did.outputs
+    rw did.gather (committed_on core.routes core.gather _ _ _ _ c.args.act _ _ one.book_is one.waiting_is (bare_seen slot_book core.desks.items (λ desk. refl)) c.always.ensures.gathering c.commit.result _ _ one.books one.queues did.outputs)
 
 pub returns-clause-err : goal.returns-clause-err
 returns-clause-err g c =
@@ -43,4 +43,4 @@ returns-clause-err g c =
     let within = planned_within slot_book core.routes core.gather _ core.desks.items core.desks.len c.args.act core.desks.ok.0 c.requires in
     let one = acts_one slot_book slot_waiting c.commit.result core.desks.items core.desks.len c.args.act.op c.index_mut.result.now c.commit.new.self _ _ core.desks.ok.0 within c.index_mut.ensures.value
     (on_ok_weaker c.commit.result (λ same. ap book_of same) did.book) did.same_book did.waiting did.same_waiting in
-    same_if c.commit.result core.routes core.gather _ _ _ _ one.same_books one.same_queues
+    rw did.gather (same_if c.commit.result core.routes core.gather _ _ _ _ one.same_books one.same_queues)

@@ -4,7 +4,7 @@ use Rattle.live_core.proofs.PlaceLemmas.{seen_at}
 use Rattle.live_core.proofs.StepLemmas.{told_at}
 use Rattle.live_core.proofs.PartLemmas.{acts_as_its_own}
 use Rattle.live_core.proofs.PlanLemmas.{planned_if}
-use Rattle.live_core.proofs.held.LiveCore.plan_act_in.Goals as goal
+use Rattle.live_core.proofs.held.LiveCore.plan_act.Goals as goal
 
 pub plan-requires-clause-mine : goal.plan-requires-clause-mine
 plan-requires-clause-mine g c =

@@ -1,0 +1,32 @@
+//! Memory for the lists of a tick.
+
+use slice_scheduler::{Elements, Flowing, Grants, ScheduleMemory};
+use std::alloc::Global;
+
+/// Memory for the lists of a tick, used again from tick to tick, by whichever operator ticks. A list
+/// takes memory only where it is longer than those before it.
+#[derive(Drop)]
+pub struct TickMemory {
+    pub(crate) flowing: Vec<Flowing>,
+    pub(crate) schedule: ScheduleMemory,
+}
+
+impl TickMemory {
+    /// Returns memory for no list yet. Takes none.
+    pub fn new(alloc: Global) -> TickMemory {
+        TickMemory {
+            flowing: Vec::new(alloc),
+            schedule: ScheduleMemory::new(alloc),
+        }
+    }
+
+    /// Takes the memory of a frame's elements back that nobody needs any more.
+    pub fn take_back(&mut self, elements: Elements) {
+        self.schedule.take_back_elements(elements);
+    }
+
+    /// Takes the memory of a frame's grants back that nobody needs any more.
+    pub(crate) fn take_back_grants(&mut self, granted: Grants) {
+        self.schedule.take_back_grants(granted);
+    }
+}
