@@ -18,6 +18,7 @@ use crate::step_notes::StepNotes;
 use crate::steps_end::{StepsEnd, end_of};
 use live_core::LiveCore;
 use plant::Plant;
+use run_model::Out;
 use script_format::{FieldError, FieldFault, LineStep, put_line, write_outs};
 use std::alloc::Global;
 use std::io;
@@ -44,6 +45,32 @@ pub fn steps_said(
     }
 }
 
+/// Does steps as `run_steps` does, in a list for the outputs of each.
+fn run_steps_in<W: Write, N: StepNotes<W>>(
+    alloc: Global,
+    core: &mut LiveCore,
+    steps: Vec<LineStep>,
+    outs: &mut Vec<Out>,
+    notes: &N,
+    writer: &mut W,
+) -> io::Result<StepsEnd>
+    requires reached { IsReachableFromStart (live_view core.old) }
+    ensures { IfOk result (λ end. BehindEachRun (live_view core.old) (λ plant start before shown. HasDone plant start before shown
+        steps.items (live_view core.new) end (W.contents writer.old) (W.contents writer.new))) }
+{
+    for LineStep { number, step } in steps {
+        let Ok(()) = notes.note_step(alloc, core, &step, writer) else {
+            return Ok(StepsEnd::NoMemory);
+        };
+        match core.step_over(alloc, step, outs) {
+            Ok(()) if outs.is_empty() => {}
+            Ok(()) => write_outs(writer, core.plant(), outs.as_slice())?,
+            Err(fault) => return Ok(end_of(number, fault)),
+        }
+    }
+    Ok(StepsEnd::Done)
+}
+
 /// Does steps up to the first that the core does not do: notes each, and writes what it outputs. Returns how that ended: no step is
 /// left, the next one is refused, or it is not refused and an allocation for it or for its note failed. A step that is not done has
 /// changed nothing, and those before it remain done. An error is one of the writer's; then no clause says how much was done.
@@ -59,18 +86,10 @@ pub fn run_steps<W: Write, N: StepNotes<W>>(
     ensures { IfOk result (λ end. BehindEachRun (live_view core.old) (λ plant start before shown. HasDone plant start before shown
         steps.items (live_view core.new) end (W.contents writer.old) (W.contents writer.new))) }
 {
-    let mut outs = Vec::new(alloc);
-    for LineStep { number, step } in steps {
-        let Ok(()) = notes.note_step(alloc, core, &step, writer) else {
-            return Ok(StepsEnd::NoMemory);
-        };
-        match core.step_over(alloc, step, &mut outs) {
-            Ok(()) if outs.is_empty() => {}
-            Ok(()) => write_outs(writer, core.plant(), outs.as_slice())?,
-            Err(fault) => return Ok(end_of(number, fault)),
-        }
-    }
-    Ok(StepsEnd::Done)
+    let mut outs = core.take_list(alloc);
+    let end = run_steps_in(alloc, core, steps, &mut outs, notes, writer)?;
+    core.keep_list(outs);
+    Ok(end)
 }
 
 /// Returns how a line ends whose steps ended so.

@@ -97,7 +97,7 @@ fn three_error(line: &[u8], error: FieldError) -> FieldError
 
 /// Returns the sender in a line's first field, and what is after it. An address has 12 digits: no
 /// space is searched for.
-#[tactic(auto, using(crate::proofs::FirstFields::sender_lacks, crate::proofs::FirstFields::sender_unparted))]
+#[tactic(auto, using(crate::proofs::FirstFields::sender_lacks, crate::proofs::FirstFields::sender_unseparated))]
 #[inline(always)]
 fn sender_first<'a>(plant: &Plant, line: &'a [u8]) -> Result<(Sender, &'a [u8]), FieldError>
     ensures { result_map (λ p. (p.0, line_fields p.1.now)) result ≡ sender_first plant.now (line_fields line.now) }
@@ -238,6 +238,7 @@ fn put_all_ticks(
     ensures said { Gives field_cause (λ _. steps.new.items) result (behind steps.old.items (Ok (all_ticks number rows.now 0))) }
     ensures memory { IfErr result (λ fault. fault ≡ NoMemory) }
 {
+    steps.reserve(rows.len().saturating_mul(2))?;
     for op in 0..rows.len() {
         put_tick(number, op, steps)?;
     }

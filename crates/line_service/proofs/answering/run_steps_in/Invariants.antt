@@ -1,6 +1,6 @@
 use Rattle.line_service.proofs.Common.{Start, into_iter_items, into_iter_len, PlantFields, Out, Step, IsAfterFrom, live_view, IsHalfDone}
 use Rattle.std.proofs.Common.{◌≡◌, length, List}
-use Rattle.line_service.proofs.answering.run_steps.Given as goal
+use Rattle.line_service.proofs.answering.run_steps_in.Given as goal
 
 abbrev pub invariant-loop-number : goal.invariant-loop-number
 invariant-loop-number g l = record {
