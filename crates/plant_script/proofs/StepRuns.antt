@@ -15,6 +15,15 @@ slice_get_there [] k lt = absurd (omega arith)
 slice_get_there (x ∷ xs) zero lt = (x, refl)
 slice_get_there (x ∷ xs) (suc k) lt = slice_get_there xs k (omega arith)
 
+-- ---- no step yet
+
+pub none_run : (lines : List LineStep) (core : CoreView) → IsStateAfter core.plant [] [] core → IsHalfDone core.plant lines (λ told. []) core [] lines
+none_run lines core opened = record {
+  at = zero;
+  done = record { outs = []; reached = opened; text_is = refl };
+  left_are = refl;
+}
+
 -- ---- one step more
 
 module _ (plant : PlantFields) (lines : List LineStep) (say : List Out → List ℕ) (old new : CoreView) (text : List ℕ) (line : LineStep) (rest : List LineStep) (now : List Out)

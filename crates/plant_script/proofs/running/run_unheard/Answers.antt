@@ -1,7 +1,17 @@
-use Rattle.std.proofs.Common.{◌≡◌, ◌∷◌, [], sym, ◌∙◌}
+use Rattle.std.proofs.Common.{◌≡◌, ◌∷◌, [], length, ap, sym, ◌∙◌}
 use Rattle.plant_script.proofs.Common.{nil_from_length, into_iter_items, into_iter_len, Vec, Out, core_view, step_fault, if_ok, count_next, fault_is_told}
-use Rattle.plant_script.proofs.StepRuns.{unheard_more, all_done, line_refused}
+use Rattle.plant_script.proofs.StepRuns.{none_run, unheard_more, all_done, line_refused}
 use Rattle.plant_script.proofs.running.run_unheard.Goals as goal
+
+pub loop-number-init : goal.loop-number-init
+loop-number-init g c =
+    let gives = c.into_iter-number-iterator.ensures.into_iter_gives in
+    record {
+      next = tt;
+      finite = tt;
+      count = gives.1 ∙ c.args.lines.ok.0 ∙ ap length (sym gives.0);
+      half = rw gives.0 (none_run c.args.lines.items (core_view c.args.core.now) c.requires);
+    }
 
 pub loop-number-preserved : goal.loop-number-preserved
 loop-number-preserved g c =
