@@ -1,25 +1,31 @@
 """Tries must-fail edits, many at once: the prover must refuse each function that an edit changes.
 
-    tools/ci/edits [--all] [--unedited] [--jobs N] [--libraries FOLDER] [CRATE | CRATE/NAME] .. [--while COMMAND ..]
+    tools/ci/edits [--all | --eighth N] [--unedited | --edits-alone] [--jobs N] [--libraries FOLDER] [CRATE | CRATE/NAME] .. [--while COMMAND ..]
+    tools/ci/edits --check
+    tools/ci/edits --counts
 
-Tries the edits of all crates if none is named. With --all it also tries those in the folders must-fail/more, which CI does not try. An edit
-that is named is tried in either folder. All crates below have to be built: run `rt ci` first, or name a folder of crates where it was run.
+Without names it does what CI does: it tries the edits in the folders must-fail and edits of all crates, and one eighth of those in
+edits/more. The number of commits chooses the eighth, so each is tried within eight runs. With --all it tries all. An edit that is named is
+tried in any folder, and a crate that is named without edits/more, except with --all. tools/ci/edit_files.py says what an edit is. All
+crates below have to be built: run `rt ci` first, or name a folder of crates where it was run.
 
 With --while, a command runs that proves the crates (`rt ci`). The edits of a crate are tried as soon as the command prints that the crate
 is proved, by processors that have nothing else to do. What became of the edits is printed when the command has ended. If it fails, its
 status is the status of this tool, and the other edits are not tried.
-
-An edit is a file in the folder must-fail of a crate. It has lines `file: PATH`, `old: TEXT` and `new: TEXT`, each TEXT one line that is
-in the file once. Each pair is applied to the result of the pairs before it. If an edit changes no function, such as one of a constant, a
-line `function: PATH` names the function that must be refused.
 
 Edits of different functions are applied to one copy of the crate. In this copy the body and the proof of every other function are left
 out, and its contract stays: the edited functions are proved over the contracts of what they call, as in any check, and nothing else is
 proved. If an edited function calls another edited one and no goal of its own is refused, it is tried again without that one. An edit that
 changes something outside of functions is tried alone.
 
-Prints for each edit the function and the goals that the prover refused. Exits with 1 if an edit is not refused, cannot be applied or does
-not compile. --unedited tries the same functions as they are. Each must be proved: so what refuses an edit is the edit, and not the holes.
+Two things must be proved in such a copy, so that an edit is refused for its wrong value and for nothing else. One is the twin of an edit,
+if it has one: a harmless change of the same form. The other is each function that has no twin, as it is. With names, the functions are
+tried as they are only with --unedited. --unedited leaves out the edits themselves, and --edits-alone the functions as they are.
+
+Prints for each edit the function and the goals that the prover refused. Exits with 1 if an edit is not refused, cannot be applied, does not
+compile or is not judged, or if a twin or a function as it is is not proved. Without names it also compares the number of edits of each crate
+with tools/ci/edit_counts.txt, and exits with 1 if they differ, or if an edit adds a loop or a call, has no twin and is not in
+tools/ci/edits_without_twin.txt. --check does only this, and reads all edits. --counts writes that file.
 """
 
 import argparse
@@ -33,93 +39,24 @@ import subprocess
 import sys
 import time
 
-from tools.proving.functions import functions_of, modules_of_types, texts_of, with_holes
-from tools.proving.prover import Prover, Report, crates_of, is_proved, kit_folder, reports_of
+from tools.ci import edit_files
+from tools.ci.edit_files import Edit, WrongEdit, applied
+from tools.proving.functions import texts_of, with_holes
+from tools.proving.prover import Prover, crates_of, is_proved, kit_folder, reports_of
 
 ROOT = pathlib.Path(__file__).resolve().parents[2]
+COUNTS = "tools/ci/edit_counts.txt"
+WITHOUT_TWIN = "tools/ci/edits_without_twin.txt"
 PROVED = re.compile(r"rt: (\w+) (?:proved|is kept)\b")
 NOT_FOUND = re.compile(r"has no field|is not in scope|has no `|was not admitted|has-holes")
 
 
-class WrongEdit(Exception):
-    """An edit that cannot be applied."""
-
-
-@dataclasses.dataclass(frozen=True)
-class Edit:
-    """An edit: its crate and name, its pairs of texts with their files, and the functions of which one must be refused.
-
-    It is local if it changes nothing outside of functions.
-    """
-
-    crate: str
-    name: str
-    pairs: tuple
-    functions: tuple
-    is_local: bool
-
-    def __str__(self):
-        return f"{self.crate}/{self.name}"
-
-
 @dataclasses.dataclass(frozen=True)
 class Outcome:
-    """What became of an edit: whether it was refused, and what the prover said."""
+    """What became of an edit: whether it is as it must be, refused or proved, and what the prover said."""
 
-    is_refused: bool
+    is_right: bool
     said: str
-
-
-def lines_of(path):
-    """Returns the lines of an edit, each by its kind: the word before the colon."""
-    lines = [line.partition(":") for line in path.read_text().splitlines()]
-    return [(kind, text.removeprefix(" ")) for kind, _, text in lines if kind in ("file", "old", "new", "function")]
-
-
-def applied(texts, file, old, new):
-    """Returns the texts with one of them changed at the one place where it has the old text."""
-    if file not in texts:
-        raise WrongEdit(f"there is no file {file}")
-    count = texts[file].count(old)
-    if count != 1:
-        raise WrongEdit(f"a text after `old:` is in {file} {count} times, and not once")
-    return texts | {file: texts[file].replace(old, new)}
-
-
-def changed_functions(texts, file, old):
-    """Returns the paths of the functions that contain a text, or are contained in it."""
-    start = texts[file].find(old)
-    end = start + len(old.rstrip())
-    functions = functions_of(texts[file], file, modules_of_types(texts))
-    return [it.path for it in functions if it.start <= start and end <= it.end or start <= it.start and it.end <= end]
-
-
-def read_edit(crate, path, texts):
-    """Returns the edit of a file, or raises an error if it cannot be applied."""
-    pairs, functions, named = [], [], []
-    file, old, is_local = None, None, True
-    for kind, text in lines_of(path):
-        if kind == "function":
-            named.append(text)
-        elif kind == "file":
-            file = text
-        elif kind == "old":
-            old = text
-        else:
-            if not file or not old:
-                raise WrongEdit("a line `new:` stands before any `file:` or `old:`")
-            changed = applied(texts, file, old, text)
-            inside = changed_functions(texts, file, old)
-            functions += inside
-            is_local = is_local and bool(inside)
-            pairs.append((file, old, text))
-            texts, old = changed, None
-    if not pairs:
-        raise WrongEdit("it has no lines `old:` and `new:`")
-    functions = tuple(dict.fromkeys(named or functions))
-    if not functions:
-        raise WrongEdit("it changes no function: add a line `function: PATH`, with the function that must be refused")
-    return Edit(crate, path.stem, tuple(pairs), functions, is_local)
 
 
 def refused_goals(crate, path, report, printed):
@@ -140,9 +77,11 @@ def judged(edit, reports, printed):
     own = {path: reports[path] for path in edit.functions if path in reports}
     for path, report in own.items():
         if goals := refused_goals(edit.crate, path, report, printed):
-            return Outcome(True, f"{path}: {', '.join(goals)}")
-    if own and all(map(is_proved, own.values())):
-        return Outcome(False, f"NOT REFUSED: {', '.join(own)} is proved with it")
+            said = f"{path}: {', '.join(goals)}"
+            return Outcome(False, f"NOT PROVED: {said}") if edit.is_harmless else Outcome(True, f"refused: {said}")
+    if own and all(map(is_proved, own.values())) and (len(own) == len(edit.functions) or not edit.is_harmless):
+        said = f"{', '.join(own)} is proved with it"
+        return Outcome(True, f"proved: {', '.join(own)}") if edit.is_harmless else Outcome(False, f"NOT REFUSED: {said}")
     return None
 
 
@@ -151,7 +90,7 @@ def unjudged(edit, reports, printed):
     lines = printed.splitlines()
     errors = [line for line in lines if re.match(r"\S+: error\b|error\b", line)]
     said = [f"{path}: {reports[path].said}" for path in edit.functions if path in reports]
-    if errors and said and all(NOT_FOUND.search(error) for error in errors):
+    if errors and said and all(NOT_FOUND.search(error) for error in errors) and not edit.is_harmless:
         return Outcome(False, f"SAYS LITTLE: a proof file names what it takes away. Change a value and keep the names: {errors[0][:400]}")
     return Outcome(False, f"NOT JUDGED: {(errors or said or lines[-1:] or ['the prover said nothing'])[0][:400]}")
 
@@ -179,11 +118,16 @@ def halves(edits):
     return [edits[:middle], edits[middle:]]
 
 
+def groups_of(edits):
+    """Returns the edits in groups that can be tried together: each that is not local, all harmless ones, and all others."""
+    together = [[edit for edit in edits if edit.is_local and edit.is_harmless == is_harmless] for is_harmless in (True, False)]
+    return [[edit] for edit in edits if not edit.is_local] + [group for group in together if group]
+
+
 def try_edits(prover, crate, edits):
     """Tries edits of one crate. Yields each with what became of it."""
     texts = texts_of(ROOT / "crates" / crate)
-    together = [edit for edit in edits if edit.is_local]
-    waiting = [[edit] for edit in edits if not edit.is_local] + [together] * bool(together)
+    waiting = groups_of(edits)
     while waiting:
         group = waiting.pop(0)
         batch, changed = batch_of(group, texts)
@@ -201,60 +145,35 @@ def try_edits(prover, crate, edits):
             waiting.append(left)
 
 
-def try_unedited(prover, crate, edits):
-    """Tries the functions that edits change as they are. Yields each path that is not proved, with what the prover said."""
-    texts = texts_of(ROOT / "crates" / crate)
-    kept = {path for edit in edits for path in edit.functions}
-    reports = reports_of(prover.check(crate, with_holes(crate, texts, kept), sorted(kept)))
-    for path in sorted(kept):
-        report = reports.get(path, Report("the prover said nothing of it", ()))
-        if not is_proved(report):
-            yield path, report.said
+def unedited(edits):
+    """Returns the functions that some edits change, as they are, except for those that a local twin shows to be proved."""
+    shown = {path for edit in edits if edit.is_harmless and edit.is_local for path in edit.functions}
+    paths = dict.fromkeys(path for edit in edits for path in edit.functions if path not in shown)
+    return [Edit(edits[0].crate, f"{path}, as it is", (), (path,), True, is_harmless=True) for path in paths]
 
 
-def edit_files(crate, names, with_more):
-    """Returns the files of the edits of a crate that are wanted: those with a name that is given, or all if none is."""
-    folder = ROOT / "crates" / crate / "must-fail"
-    for path in sorted([*folder.glob("*.*"), *folder.glob("more/*.*")], key=lambda path: path.stem):
-        is_wanted = not names or crate in names
-        if f"{crate}/{path.stem}" in names or is_wanted and (with_more or path.parent == folder):
-            yield path
+def tried_of(edits, wants_edits, wants_unedited):
+    """Returns what is to be tried of some edits of one crate: the edits, their twins, and their functions as they are."""
+    harmless = [edit for edit in edits if edit.is_harmless]
+    wrong = [edit for edit in edits if not edit.is_harmless]
+    return harmless + (unedited(edits) if wants_unedited else []) + (wrong if wants_edits else [])
 
 
-def read_edits(crates, names, with_more):
-    """Returns the edits that are wanted, of each crate in order, and what is wrong with those that cannot be applied."""
-    found, wrong = {}, []
-    for crate in crates:
-        folder = ROOT / "crates" / crate
-        texts = None
-        for path in edit_files(crate, names, with_more):
-            texts = texts or texts_of(folder)
-            try:
-                edit = read_edit(crate, path, texts)
-            except WrongEdit as error:
-                wrong.append(f"{crate}/{path.stem}: CANNOT BE APPLIED: {error}")
-            else:
-                found.setdefault(crate, []).append(edit)
-    return found, wrong
-
-
-def fits(name, edits, wrong):
-    """Returns whether a name of a crate or of an edit fits one of these."""
-    known = [str(edit) for group in edits.values() for edit in group] + [line.partition(":")[0] for line in wrong]
-    return any(it == name or it.startswith(f"{name}/") for it in known)
-
-
-def try_crate(prover, crate, edits, unedited):
-    """Tries the edits of a crate. Returns lines of what became of them, and how many are wrong."""
+def try_crate(prover, crate, edits):
+    """Tries edits of a crate. Returns those that were judged, lines of what became of them, and how many are not as they must be."""
     start = time.monotonic()
-    if unedited:
-        lines = [f"{crate}: {path}: NOT PROVED as it is: {said[:400]}" for path, said in try_unedited(prover, crate, edits)]
-        wrong = len(lines)
-    else:
-        outcomes = list(try_edits(prover, crate, edits))
-        lines = [f"{edit}: {'refused: ' if outcome.is_refused else ''}{outcome.said}" for edit, outcome in outcomes]
-        wrong = sum(not outcome.is_refused for _, outcome in outcomes)
-    return [*lines, f"{crate}: {len(edits)} edits, {wrong} wrong, {time.monotonic() - start:.0f} s"], wrong
+    outcomes = dict(try_edits(prover, crate, edits))
+    lines = [f"{edit}: {outcome.said}" for edit, outcome in outcomes.items() if edit.pairs or not outcome.is_right]
+    wrong = sum(not outcome.is_right for outcome in outcomes.values())
+    return outcomes.keys(), [*lines, f"{crate}: {said_of(outcomes)}, {wrong} wrong, {time.monotonic() - start:.0f} s"], wrong
+
+
+def said_of(edits):
+    """Returns how many edits, twins and functions as they are some are."""
+    twins = sum(edit.is_harmless and bool(edit.pairs) for edit in edits)
+    functions = sum(not edit.pairs for edit in edits)
+    parts = [f"{twins} twins"] * bool(twins) + [f"{functions} functions as they are"] * bool(functions)
+    return ", ".join([*parts, f"{len(edits) - twins - functions} edits"])
 
 
 def follow(command, begin):
@@ -267,14 +186,14 @@ def follow(command, begin):
     return running.returncode
 
 
-def try_all(prover, edits, unedited, jobs, command):
-    """Tries the edits of each crate, some crates at a time, and prints what became of them. Returns how many are wrong."""
+def try_all(prover, edits, jobs, command):
+    """Tries the edits of each crate, some crates at a time, and prints what became of them. Returns those that were judged, and how many are wrong."""
     running = {}
     with concurrent.futures.ThreadPoolExecutor(max(jobs, 1)) as pool:
 
         def begin(crate):
             if crate in edits and crate not in running:
-                running[crate] = pool.submit(try_crate, prover, crate, edits[crate], unedited)
+                running[crate] = pool.submit(try_crate, prover, crate, edits[crate])
 
         status = follow(command, begin) if command else 0
         if status:
@@ -285,37 +204,98 @@ def try_all(prover, edits, unedited, jobs, command):
         prover.gives_way = False
         for crate in sorted(edits, key=lambda it: -len(edits[it])):
             begin(crate)
-        count = 0
+        found, count = set(), 0
         for done in concurrent.futures.as_completed(running.values()):
-            lines, wrong = done.result()
+            tried, lines, wrong = done.result()
             print(*lines, sep="\n", flush=True)
+            found.update(tried)
             count += wrong
-    return count
+    return found, count
+
+
+def wanted(given, crates):
+    """Returns a function that says of the file of an edit whether it is to be tried, and prints which eighth of edits/more is."""
+    if given.names:
+        return lambda path: name_of(path) in given.names or crate_of(path) in given.names and (given.all or not edit_files.is_more(path))
+    if given.all:
+        return lambda path: True
+    more = [path for crate in crates for path in edit_files.edit_paths(ROOT, crate) if edit_files.is_more(path)]
+    eighth = edit_files.eighth_of_commits(ROOT) if given.eighth is None else given.eighth
+    of_eighth = edit_files.of_eighth(more, eighth)
+    print(f"tools/ci/edits: of the {len(more)} edits in edits/more, eighth {eighth} of 0 to {edit_files.EIGHTHS - 1} is tried: {len(of_eighth)}")
+    return lambda path: not edit_files.is_more(path) or path in of_eighth
+
+
+def crate_of(path):
+    """Returns the name of the crate of an edit."""
+    return path.relative_to(ROOT / "crates").parts[0]
+
+
+def name_of(path):
+    """Returns the name of an edit with that of its crate."""
+    return f"{crate_of(path)}/{path.stem}"
 
 
 def arguments():
     """Returns what the command line asks for."""
     parser = argparse.ArgumentParser(prog="edits", description=__doc__, formatter_class=argparse.RawDescriptionHelpFormatter, allow_abbrev=False)
     parser.add_argument("names", nargs="*", metavar="CRATE | CRATE/NAME")
-    parser.add_argument("--all", action="store_true", help="try also the edits that CI does not try, in must-fail/more")
-    parser.add_argument("--unedited", action="store_true", help="try the same functions as they are: each must be proved")
+    parser.add_argument("--all", action="store_true", help="try all edits in edits/more, and not one eighth of them")
+    parser.add_argument("--eighth", type=int, choices=range(edit_files.EIGHTHS), help="which eighth of edits/more to try (default: by the number of commits)")
+    parser.add_argument("--unedited", action="store_true", help="try only the twins, and the functions as they are: each must be proved")
+    parser.add_argument("--edits-alone", action="store_true", help="do not try functions as they are")
+    parser.add_argument("--check", action="store_true", help="try nothing: read all edits, and compare their number with the pinned one")
+    parser.add_argument("--counts", action="store_true", help="try nothing: write the number of edits of each crate into edit_counts.txt")
     parser.add_argument("--jobs", type=int, default=len(os.sched_getaffinity(0)), help="how many crates at a time (default: one a processor)")
     parser.add_argument("--libraries", type=pathlib.Path, default=ROOT / "crates", help="the crates as they were built (default: crates)")
     parser.add_argument("--while", nargs=argparse.REMAINDER, default=[], dest="command", metavar="COMMAND", help="try edits while this runs")
     return parser.parse_args()
 
 
+def print_lines(lines):
+    """Prints lines, if there are any."""
+    if lines:
+        print(*lines, sep="\n", flush=True)
+
+
+def list_faults(crates):
+    """Returns what is wrong with the list of all edits."""
+    return [*edit_files.count_faults(ROOT, crates, ROOT / COUNTS), *edit_files.twin_faults(ROOT, crates, ROOT / WITHOUT_TWIN)]
+
+
+def check(crates, edits, broken):
+    """Prints what is wrong with the edits, which were all read. Returns the exit status."""
+    faults = [*list_faults(crates), *(said for _, said in broken)]
+    print_lines(faults)
+    print(f"{said_of([edit for group in edits.values() for edit in group])}, {len(faults)} faults")
+    return 1 if faults else 0
+
+
 def main():
     given = arguments()
     crates = crates_of(ROOT)
-    edits, wrong = read_edits(crates, given.names, given.all)
-    if unknown := [name for name in given.names if not fits(name, edits, wrong)]:
+    if given.counts:
+        (ROOT / COUNTS).write_text(edit_files.HEAD + "".join(f"{line}\n" for line in edit_files.counts(ROOT, crates)))
+        return 0
+    if given.check:
+        return check(crates, *edit_files.read_edits(ROOT, crates, lambda path: True))
+    is_wanted = wanted(given, crates)
+    chosen = {path for crate in crates for path in edit_files.edit_paths(ROOT, crate) if is_wanted(path)}
+    if unknown := [name for name in given.names if not any(name in (name_of(path), crate_of(path)) for path in chosen)]:
         raise SystemExit(f"tools/ci/edits: no edit fits {', '.join(unknown)}")
-    print(*wrong, sep="\n", end="\n" if wrong else "", flush=True)
+    edits, broken = edit_files.read_edits(ROOT, crates, is_wanted)
+    faults = [said for path, said in broken if path in chosen or not given.names]
+    faults += [] if given.names else list_faults(crates)
+    print_lines(faults)
+    wants_unedited = given.unedited or not given.names and not given.edits_alone
+    tried = {crate: tried_of(group, not given.unedited, wants_unedited) for crate, group in edits.items()}
     prover = Prover(kit_folder(), given.libraries.resolve(), crates, gives_way=bool(given.command))
-    count = len(wrong) + try_all(prover, edits, given.unedited, given.jobs, given.command)
-    print(f"{sum(map(len, edits.values()))} edits, {count} wrong")
-    return 1 if count else 0
+    found, wrong = try_all(prover, tried, given.jobs, given.command)
+    lost = [f"{edit}: NOT JUDGED: nothing is known of it" for group in tried.values() for edit in group if edit not in found]
+    print_lines(lost)
+    wrong += len(faults) + len(lost)
+    print(f"{said_of(found)}, {wrong} wrong")
+    return 1 if wrong or not found else 0
 
 
 if __name__ == "__main__":

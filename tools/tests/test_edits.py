@@ -4,13 +4,16 @@ import contextlib
 import io
 import os
 import pathlib
+import re
+import subprocess
 import tempfile
 import time
 import unittest
 from unittest import mock
 
-from tools.ci import edits
-from tools.ci.edits import Edit, WrongEdit, batch_of, read_edit, refused_goals, try_edits
+from tools.ci import edit_files, edits
+from tools.ci.edit_files import Edit, WrongEdit, of_eighth, read_edit
+from tools.ci.edits import batch_of, refused_goals, try_edits
 from tools.proving import prover as proving
 from tools.proving.functions import functions_of, functions_of_crate, name_of_impl, with_holes
 from tools.proving.prover import Prover, crates_of, is_proved, reports_of
@@ -60,7 +63,8 @@ PATHS = ["held::first", "held::Held::copy", "held::HeldDisplay::fmt", "held::Rul
 
 def edit_in(folder, text, name="wrong"):
     """Writes an edit into a folder, and returns its path."""
-    path = pathlib.Path(folder) / f"{name}.md"
+    path = pathlib.Path(folder) / f"{name}.edit"
+    path.parent.mkdir(parents=True, exist_ok=True)
     path.write_text(text)
     return path
 
@@ -100,6 +104,9 @@ class Reading(unittest.TestCase):
     texts = {"src/held.rt": SOURCE}
 
     def read(self, text):
+        return self.read_all(text)[0]
+
+    def read_all(self, text):
         with tempfile.TemporaryDirectory() as folder:
             return read_edit("lists", edit_in(folder, text), self.texts)
 
@@ -122,6 +129,9 @@ class Reading(unittest.TestCase):
             ("file: src/none.rt\nold: a\nnew: b\n", "no file src/none.rt"),
             ("old: let done\nnew: let none\n", "before any `file:`"),
             ("file: src/held.rt\n", "no lines `old:` and `new:`"),
+            ("file: src/held.rt\ntwin: let done\n", "`twin:` does not follow a line `new:`"),
+            ("file: src/held.rt\nold: let done\nnew: let over\nold: let over\nnew: let none\ntwin: let done\n", "its twin: .* 0 times"),
+            ("A wrong name.\nfile: src/held.rt\nold: let done\nnew: let over\n", "a line is none of .* nor a comment: A wrong name"),
         ):
             with self.subTest(text=text), self.assertRaisesRegex(WrongEdit, said):
                 self.read(text)
@@ -129,6 +139,18 @@ class Reading(unittest.TestCase):
     def test_the_next_pair_is_applied_to_what_the_last_made(self):
         edit = self.read("file: src/held.rt\nold: let done\nnew: let over\nold: let over\nnew: let none\n")
         self.assertEqual(edit.functions, ("held::Held::copy",))
+
+    def test_a_twin_has_its_own_texts_and_leaves_out_pairs_without_one(self):
+        text = "# A comment.\nfile: src/held.rt\nold: let done\nnew: let over\ntwin: let none\nold:     fn last() {}\nnew:     fn last() { first(&[]); }\n"
+        edit, twin = self.read_all(text)
+        self.assertEqual((len(edit.pairs), edit.is_harmless), (2, False))
+        self.assertEqual((str(twin), twin.pairs, twin.is_harmless), ("lists/wrong, twin", (("src/held.rt", "let done", "let none"),), True))
+        self.assertEqual(twin.functions, ("held::Held::copy",))
+
+    def test_each_edit_is_in_one_eighth(self):
+        paths = [pathlib.Path(str(number)) for number in range(21)]
+        self.assertEqual(set().union(*(of_eighth(paths, eighth) for eighth in range(8))), set(paths))
+        self.assertEqual(sum(len(of_eighth(paths, eighth)) for eighth in range(8)), 21)
 
 
 class Holes(unittest.TestCase):
@@ -220,8 +242,8 @@ class Kit:
         return f"{note}fn {crate}::{path}: {said}\n"
 
 
-def edit_of(name, *functions, old="a", is_local=True):
-    return Edit("lists", name, (("src/held.rt", old, old.upper()),), functions, is_local)
+def edit_of(name, *functions, old="a", is_local=True, is_harmless=False):
+    return Edit("lists", name, (("src/held.rt", old, old.upper()),), functions, is_local, is_harmless)
 
 
 class Trying(unittest.TestCase):
@@ -234,8 +256,9 @@ class Trying(unittest.TestCase):
         kit = Kit(lambda path, _: REFUSED)
         outcomes = self.tried(kit, group)
         self.assertEqual(kit.tried, [["f", "g"], ["f"]])
-        self.assertEqual({name: outcome.said for name, outcome in outcomes.items()}, dict.fromkeys(["one", "two"], "f: returns") | {"three": "g: returns"})
-        self.assertTrue(all(outcome.is_refused for outcome in outcomes.values()))
+        said = {"one": "refused: f: returns", "two": "refused: f: returns", "three": "refused: g: returns"}
+        self.assertEqual({name: outcome.said for name, outcome in outcomes.items()}, said)
+        self.assertTrue(all(outcome.is_right for outcome in outcomes.values()))
 
     def test_an_edit_outside_of_functions_is_tried_alone(self):
         kit = Kit(lambda path, _: REFUSED)
@@ -256,11 +279,30 @@ class Trying(unittest.TestCase):
         kit = Kit(say)
         outcomes = self.tried(kit, [edit_of("caller", "f"), edit_of("called", "g", old="b")])
         self.assertEqual(kit.tried, [["f", "g"], ["f"]])
-        self.assertTrue(outcomes["caller"].is_refused and outcomes["called"].is_refused)
+        self.assertTrue(outcomes["caller"].is_right and outcomes["called"].is_right)
 
     def test_an_edit_that_is_proved_is_not_refused(self):
         outcomes = self.tried(Kit(lambda path, _: "depends on a hole in `x`"), [edit_of("one", "f")])
-        self.assertEqual((outcomes["one"].is_refused, outcomes["one"].said), (False, "NOT REFUSED: f is proved with it"))
+        self.assertEqual((outcomes["one"].is_right, outcomes["one"].said), (False, "NOT REFUSED: f is proved with it"))
+
+    def test_harmless_changes_are_tried_apart_from_edits_and_must_be_proved(self):
+        kit = Kit(lambda path, functions: "no holes" if functions == ["f", "g"] else REFUSED)
+        group = [edit_of("one", "f"), edit_of("twin", "f", old="b", is_harmless=True), edit_of("as it is", "g", old="c", is_harmless=True)]
+        outcomes = self.tried(kit, group)
+        self.assertEqual(kit.tried, [["f", "g"], ["f"]])
+        self.assertEqual({name: outcome.said for name, outcome in outcomes.items()}, {"twin": "proved: f", "as it is": "proved: g", "one": "refused: f: returns"})
+
+    def test_a_twin_that_is_refused_is_wrong(self):
+        outcomes = self.tried(Kit(lambda path, _: REFUSED), [edit_of("twin", "f", is_harmless=True)])
+        self.assertEqual((outcomes["twin"].is_right, outcomes["twin"].said), (False, "NOT PROVED: f: returns"))
+
+    def test_a_twin_of_two_functions_is_judged_by_both(self):
+        class Silent(Kit):
+            def check(self, crate, texts, functions):
+                return super().check(crate, texts, ["f"])
+
+        outcomes = self.tried(Silent(lambda path, _: "no holes"), [edit_of("twin", "f", "g", is_harmless=True)])
+        self.assertEqual((outcomes["twin"].is_right, outcomes["twin"].said), (False, "NOT JUDGED: f: no holes"))
 
     def test_an_edit_that_does_not_compile_is_found_among_others(self):
         class Compiler(Kit):
@@ -271,7 +313,7 @@ class Trying(unittest.TestCase):
         kit = Compiler(lambda path, _: REFUSED)
         group = [edit_of("one", "f"), edit_of("two", "g", old="b"), edit_of("three", "h", old="c"), edit_of("four", "i", old="d")]
         outcomes = self.tried(kit, group)
-        self.assertEqual({name for name, outcome in outcomes.items() if outcome.is_refused}, {"one", "two", "four"})
+        self.assertEqual({name for name, outcome in outcomes.items() if outcome.is_right}, {"one", "two", "four"})
         self.assertEqual(outcomes["three"].said, "NOT JUDGED: src/held.rt:1:1: error[E0425]: no `C` in scope")
 
     def test_an_edit_that_takes_a_name_away_says_little(self):
@@ -286,7 +328,7 @@ class Trying(unittest.TestCase):
 
     def test_a_limit_of_the_prover_is_no_refusal(self):
         outcomes = self.tried(Kit(lambda path, _: "could not tell"), [edit_of("one", "f")])
-        self.assertEqual((outcomes["one"].is_refused, outcomes["one"].said), (False, "NOT JUDGED: f: could not tell"))
+        self.assertEqual((outcomes["one"].is_right, outcomes["one"].said), (False, "NOT JUDGED: f: could not tell"))
 
 
 # A program in the place of the prover: it refuses `listed::push` if the text has `wrong`, and proves it if not.
@@ -299,6 +341,10 @@ else
     echo 'fn lists::listed::push: no holes'
 fi
 """
+
+
+# An edit that it refuses.
+WRONG = "file: src/listed.rt\nold: right\nnew: wrong\n"
 
 
 class Command(unittest.TestCase):
@@ -316,65 +362,170 @@ class Command(unittest.TestCase):
             file.parent.mkdir(parents=True, exist_ok=True)
             file.write_text(text)
             file.chmod(0o755)
-        (self.root / "crates/lists/must-fail").mkdir()
+        self.folder = self.root / "crates/lists/edits"
+        self.folder.mkdir()
+        (self.root / "tools/ci").mkdir(parents=True)
+
+    def pin(self):
+        """Pins the number of edits as it is."""
+        self.assertEqual(self.run_tool("--counts"), (0, ""))
 
     def run_tool(self, *arguments):
         """Runs the tool on the crates of this test. Returns its status and what it prints."""
         out = io.StringIO()
         path = f"{self.root / 'kit/bin'}:{os.environ['PATH']}"
         with mock.patch.object(edits, "ROOT", self.root), mock.patch.dict(os.environ, PATH=path):
-            with mock.patch("sys.argv", ["edits", *arguments]), contextlib.redirect_stdout(out):
+            with mock.patch.object(edit_files, "eighth_of_commits", return_value=3), mock.patch("sys.argv", ["edits", *arguments]), contextlib.redirect_stdout(out):
                 return edits.main(), out.getvalue()
 
     def test_a_refused_edit_is_well(self):
-        edit_in(self.root / "crates/lists/must-fail", "file: src/listed.rt\nold: right\nnew: wrong\n")
+        edit_in(self.folder, WRONG)
+        self.pin()
         status, printed = self.run_tool()
         self.assertEqual(status, 0)
         self.assertIn("lists/wrong: refused: listed::push: returns\n", printed)
-        self.assertTrue(printed.endswith("1 edits, 0 wrong\n"))
+        self.assertTrue(printed.endswith("1 functions as they are, 1 edits, 0 wrong\n"))
+
+    def test_a_twin_must_be_proved(self):
+        edit_in(self.folder, WRONG + "twin: left\n")
+        self.pin()
+        status, printed = self.run_tool()
+        self.assertEqual(status, 0)
+        self.assertIn("lists/wrong, twin: proved: listed::push\n", printed)
+        self.assertTrue(printed.endswith("1 twins, 1 edits, 0 wrong\n"))
+        edit_in(self.folder, WRONG + "twin: wrong as well\n")
+        status, printed = self.run_tool("lists/wrong")
+        self.assertEqual(status, 1)
+        self.assertIn("lists/wrong, twin: NOT PROVED: listed::push: returns\n", printed)
 
     def test_an_edit_that_is_not_refused_fails(self):
-        edit_in(self.root / "crates/lists/must-fail", "file: src/listed.rt\nold: right\nnew: left\n")
+        edit_in(self.folder, "file: src/listed.rt\nold: right\nnew: left\n")
         status, printed = self.run_tool("lists/wrong")
         self.assertEqual(status, 1)
         self.assertIn("lists/wrong: NOT REFUSED: listed::push is proved with it\n", printed)
 
     def test_an_edit_that_cannot_be_applied_fails(self):
-        edit_in(self.root / "crates/lists/must-fail", "file: src/listed.rt\nold: up\nnew: down\n")
+        edit_in(self.folder, "file: src/listed.rt\nold: up\nnew: down\n")
         status, printed = self.run_tool("lists")
         self.assertEqual(status, 1)
         self.assertIn("lists/wrong: CANNOT BE APPLIED: a text after `old:` is in src/listed.rt 0 times", printed)
         self.assertTrue(printed.endswith("0 edits, 1 wrong\n"))
 
     def test_the_functions_are_proved_as_they_are(self):
-        edit_in(self.root / "crates/lists/must-fail", "file: src/listed.rt\nold: right\nnew: left\n")
+        edit_in(self.folder, "file: src/listed.rt\nold: right\nnew: left\n")
+        self.pin()
         self.assertEqual(self.run_tool("--unedited")[0], 0)
         (self.root / "crates/lists/src/listed.rt").write_text("fn push() { right(wrong) }\n")
-        status, printed = self.run_tool("--unedited")
-        self.assertEqual(status, 1)
-        self.assertIn("lists: listed::push: NOT PROVED as it is: no proof", printed)
-
-    def test_more_edits_are_tried_if_all_or_they_are_asked_for(self):
-        more = self.root / "crates/lists/must-fail/more"
-        more.mkdir()
-        edit_in(more, "file: src/listed.rt\nold: right\nnew: wrong\n", "seldom")
-        for arguments, count in (((), 0), (("--all",), 1), (("--all", "lists"), 1), (("lists/seldom",), 1)):
+        for arguments in ((), ("--unedited",), ("--unedited", "lists")):
             with self.subTest(arguments=arguments):
-                self.assertTrue(self.run_tool(*arguments)[1].endswith(f"{count} edits, 0 wrong\n"))
+                status, printed = self.run_tool(*arguments)
+                self.assertEqual(status, 1)
+                self.assertIn("lists/listed::push, as it is: NOT PROVED: listed::push: returns\n", printed)
+
+    def test_one_eighth_of_more_edits_is_tried(self):
+        for number in range(9):
+            edit_in(self.folder / "more", WRONG, f"seldom_{number}")
+        self.pin()
+        for arguments, names in (
+            ((), "3"),
+            (("--eighth", "0"), "08"),
+            (("--all",), "012345678"),
+            (("--all", "lists"), "012345678"),
+            (("lists/seldom_5",), "5"),
+        ):
+            with self.subTest(arguments=arguments):
+                status, printed = self.run_tool(*arguments)
+                self.assertEqual(status, 0)
+                self.assertEqual("".join(re.findall(r"lists/seldom_(\d): refused", printed)), names)
+        self.assertIn("of the 9 edits in edits/more, eighth 3 of 0 to 7 is tried: 1\n", self.run_tool()[1])
+
+    def test_the_commits_choose_the_eighth_or_the_day_does(self):
+        for shallow, eighth in (("false\n", 2), ("true\n", 3)):
+            done = [subprocess.CompletedProcess([], 0, stdout=said) for said in (shallow, "978\n")]
+            with mock.patch.object(edit_files.subprocess, "run", side_effect=done), mock.patch.object(edit_files.time, "time", return_value=86_400 * 11):
+                self.assertEqual(edit_files.eighth_of_commits(self.root), eighth)
+
+    def test_an_edit_that_adds_a_loop_or_a_call_needs_a_twin(self):
+        for new, is_wrong in (
+            ("wrong(left())", True),
+            ("{ for it in wrong { right() } }", True),
+            ("wrong()", False),
+            ("Some(wrong())", False),
+            ('wrong("left()")', False),
+            ("match (wrong) { _ => right() }", False),
+        ):
+            edit_in(self.folder, f"file: src/listed.rt\nold: right()\nnew: {new}\n")
+            self.pin()
+            with self.subTest(new=new):
+                status, printed = self.run_tool("--check")
+                self.assertEqual((status, "lists/wrong adds a loop or a call and has no line `twin:`\n" in printed), (int(is_wrong), is_wrong))
+        edit_in(self.folder, "file: src/listed.rt\nold: right()\nnew: wrong(left())\ntwin: right(left())\n")
+        self.assertEqual(self.run_tool("--check")[0], 0)
+
+    def fails_with(self, said, *arguments):
+        """Checks that the tool fails and says this."""
+        for words in (arguments, ("--check",)):
+            with self.subTest(arguments=words):
+                status, printed = self.run_tool(*words)
+                self.assertEqual(status, 1)
+                self.assertIn(said, printed)
+
+    def test_the_number_of_edits_is_pinned(self):
+        edit_in(self.folder, WRONG)
+        edit_in(self.folder / "more", WRONG, "seldom")
+        self.pin()
+        self.assertEqual((self.root / edits.COUNTS).read_text().splitlines()[1:], ["lists 0 1 1"])
+        self.assertEqual(self.run_tool("--check"), (0, "2 edits, 0 faults\n"))
+        (self.folder / "more/seldom.edit").rename(self.folder / "seldom.edit")
+        self.fails_with("edit_counts.txt says `lists 0 1 1`, which is not so\nedit_counts.txt does not say `lists 0 2 0`\n")
+        (self.folder / "seldom.edit").unlink()
+        self.fails_with("edit_counts.txt does not say `lists 0 1 0`\n")
+
+    def test_no_edits_and_an_empty_list_fail(self):
+        self.fails_with("edit_counts.txt lists no edits\n")
+        self.pin()
+        self.fails_with("edit_counts.txt lists no edits\n")
+        edit_in(self.folder, WRONG)
+        self.pin()
+        (self.folder / "wrong.edit").unlink()
+        self.fails_with("edit_counts.txt says `lists 0 1 0`, which is not so\n")
+
+    def test_a_file_that_is_not_where_edits_are_fails(self):
+        edit_in(self.folder, WRONG)
+        edit_in(self.root / "crates/lists/must-fail", WRONG, "wrong_too")
+        self.pin()
+        self.assertEqual(self.run_tool("--check")[0], 0)
+        for path in ("edits/wrong.md", "edits/even/more/wrong.edit", "must-fail/more/wrong.edit", "src/wrong.edit", "edits/more/wrong.edit"):
+            file = self.root / "crates/lists" / path
+            file.parent.mkdir(parents=True, exist_ok=True)
+            file.write_text(WRONG)
+            self.fails_with(f"crates/lists/{path} is no edit of its own name in must-fail/NAME.edit, edits/NAME.edit, edits/more/NAME.edit\n")
+            file.unlink()
+
+    def test_an_edit_that_is_not_judged_fails(self):
+        edit_in(self.folder, WRONG)
+        edit_in(self.folder, WRONG, "lost")
+        self.pin()
+        every = edits.try_edits
+        with mock.patch.object(edits, "try_edits", lambda *given: (it for it in every(*given) if it[0].name != "lost")):
+            status, printed = self.run_tool()
+        self.assertEqual((status, "lists/lost: NOT JUDGED: nothing is known of it\n" in printed), (1, True))
 
     def test_edits_are_tried_while_a_command_proves_crates(self):
-        edit_in(self.root / "crates/lists/must-fail", "file: src/listed.rt\nold: right\nnew: wrong\n")
+        edit_in(self.folder, WRONG)
+        self.pin()
         status, printed = self.run_tool("--while", "sh", "-c", "echo 'rt: lists proved'; echo 'rt: lists: its tests are proved'; echo '2 passed, 0 failed'")
         self.assertEqual(status, 0)
         self.assertIn("2 passed, 0 failed\nlists/wrong: refused: listed::push: returns\n", printed)
 
     def test_a_crate_that_the_command_does_not_name_is_tried_after_it(self):
-        edit_in(self.root / "crates/lists/must-fail", "file: src/listed.rt\nold: right\nnew: left\n")
+        edit_in(self.folder, "file: src/listed.rt\nold: right\nnew: left\n")
+        self.pin()
         status, printed = self.run_tool("--while", "true")
         self.assertEqual((status, "lists/wrong: NOT REFUSED" in printed), (1, True))
 
     def test_a_command_that_fails_ends_the_tool(self):
-        edit_in(self.root / "crates/lists/must-fail", "file: src/listed.rt\nold: right\nnew: wrong\n")
+        edit_in(self.folder, WRONG)
         (self.root / "kit/bin/rattle").write_text("#!/bin/sh\nexec sleep 60\n")
         start = time.monotonic()
         with self.assertRaises(SystemExit) as ended:
@@ -390,7 +541,8 @@ class Command(unittest.TestCase):
         self.assertEqual(asked.call_count, 2)
 
     def test_checks_wait_for_memory_only_while_the_command_runs(self):
-        edit_in(self.root / "crates/lists/must-fail", "file: src/listed.rt\nold: right\nnew: wrong\n")
+        edit_in(self.folder, WRONG)
+        self.pin()
         with mock.patch.object(proving, "free_memory", return_value=0):
             status, printed = self.run_tool("--while", "sh", "-c", "echo 'rt: lists proved'; sleep 1")
         self.assertEqual((status, "lists/wrong: refused" in printed), (0, True))
