@@ -7,4 +7,4 @@ mod ranking;
 
 pub use policy::{AgingStep, Policy};
 pub use rank_input::RankInput;
-pub use ranking::{Ranker, Ranking, rank_at_most_63, rank_by};
+pub use ranking::{Ranker, Ranking, Ranks, rank_at_most_63, rank_by};

@@ -7,6 +7,48 @@ use crate::{Policy, RankInput};
 /// A closure that ranks a flow, 0 to 63; it is made by the program that calls `Ranking::new`.
 pub type Ranker = Box<dyn Fn(RankInput) -> u8 + Send>;
 
+/// What ranks the flows of an operator: a policy, or a ranking with a closure of the caller's. Code
+/// that is generic over it says what it does by the policy alone.
+pub trait Ranks: Drop {
+    ghost use Rattle.grant_policy.specs.declared.policy.Policy.{Policy};
+
+    /// The policy that the ranks follow.
+    ghost policy: { Self → Policy };
+
+    /// Returns the policy that the ranks follow.
+    fn policy(&self) -> Policy
+        ensures { result ≡ policy self.now };
+
+    /// Returns the rank of a flow, 0 to 63: the greater goes first.
+    fn rank(&self, input: &RankInput) -> u8
+        ensures value { result ≡ rank_of (policy self.now) input.now }
+        ensures bound { result ≤ 63 };
+}
+
+impl Ranks for Policy {
+    ghost policy = { λ policy. policy };
+
+    fn policy(&self) -> Policy {
+        *self
+    }
+
+    fn rank(&self, input: &RankInput) -> u8 {
+        rank_by(*self, input)
+    }
+}
+
+impl Ranks for Ranking {
+    ghost policy = { λ ranking. ranking.policy };
+
+    fn policy(&self) -> Policy {
+        Ranking::policy(self)
+    }
+
+    fn rank(&self, input: &RankInput) -> u8 {
+        Ranking::rank(self, input)
+    }
+}
+
 /// A policy with the closure that ranks flows by it: whatever the closure is, it answers this
 /// policy's ranks.
 #[derive(Drop)]

@@ -1,21 +1,13 @@
 -- What a schedule gives, it gives to the flows that ask: those that do not ask may be left out before anything is shared.
-use Rattle.std.proofs.Common.{◌≡◌, ℕ, zero, suc, ◌-◌, ◌+◌, ◌<◌, ◌≤◌, inl, inr, Bool, true, false, cond, List, [], ◌∷◌, ◌++◌, refl, sym, ap, ◌∙◌, arith, filter, map, min, sum_by, eq-zero-or-pos, take, get_or, length, All, subst}
-use Rattle.slice_scheduler.proofs.Common.{nat_lt, ◌==◌, flat_map, lt-ltb, le-ltb, take_more, map-append, append-nil, filter-append, All-push, sum_by-cons, Policy, Claim, Award, AtFields, Flowing, claim_of, claims_of, room_of, goes_before, award_of, awards_of, IsClaim, asking}
+use Rattle.std.proofs.Common.{◌≡◌, ℕ, zero, suc, ◌-◌, ◌+◌, ◌<◌, inl, inr, Bool, true, false, cond, List, [], ◌∷◌, ◌++◌, refl, sym, ap, ◌∙◌, arith, filter, map, min, sum_by, eq-zero-or-pos, take, get_or, length}
+use Rattle.slice_scheduler.proofs.Common.{nat_lt, ◌==◌, flat_map, lt-ltb, le-ltb, take_more, map-append, filter-append, sum_by-cons, Policy, Claim, Award, AtFields, Flowing, claim_of, claims_of, room_of, goes_before, award_of, awards_of, asking}
 use Rattle.slice_scheduler.specs.Schedule.{ranked_below, by_rank, award_pieces}
+use Rattle.slice_scheduler.proofs.SumLemmas.{kept-map}
 
 -- ---- lists with some left out
 
--- what is left out of a list is left out of what it is mapped to
-kept-map : {X Y : Type 0} (g : X → Y) (q : X → Bool) (p : Y → Bool) → ((x : X) → p (g x) ≡ q x) → (xs : List X) → map g (filter q xs) ≡ filter p (map g xs)
-kept-map g q p same [] = refl
-kept-map {Y} g q p same (x ∷ xs) = one (kept-map g q p same xs) (q x) ∙ ap (λ (b : Bool). cond b (g x ∷ filter p (map g xs)) (filter p (map g xs))) (sym (same x))
-  where
-    one : map g (filter q xs) ≡ filter p (map g xs) → (b : Bool) → map g (cond b (x ∷ filter q xs) (filter q xs)) ≡ cond b (g x ∷ filter p (map g xs)) (filter p (map g xs))
-    one rest true = ap (λ (ys : List Y). g x ∷ ys) rest
-    one rest false = rest
-
 -- leaving out what a second test leaves out too changes nothing
-pub kept-filter : {X : Type 0} (p s : X → Bool) → ((x : X) → p x ≡ false → s x ≡ false) → (xs : List X) → filter s (filter p xs) ≡ filter s xs
+kept-filter : {X : Type 0} (p s : X → Bool) → ((x : X) → p x ≡ false → s x ≡ false) → (xs : List X) → filter s (filter p xs) ≡ filter s xs
 kept-filter p s none [] = refl
 kept-filter {X} p s none (x ∷ xs) = one (kept-filter p s none xs) (p x) refl
   where
@@ -24,7 +16,7 @@ kept-filter {X} p s none (x ∷ xs) = one (kept-filter p s none xs) (p x) refl
     one rest false e = rest ∙ sym (ap (λ (b : Bool). cond b (x ∷ filter s xs) (filter s xs)) (none x e))
 
 -- nor does leaving out what gives nothing
-pub kept-flat_map : {X Y : Type 0} (p : X → Bool) (g : X → List Y) → ((x : X) → p x ≡ false → g x ≡ []) → (xs : List X) → flat_map g (filter p xs) ≡ flat_map g xs
+kept-flat_map : {X Y : Type 0} (p : X → Bool) (g : X → List Y) → ((x : X) → p x ≡ false → g x ≡ []) → (xs : List X) → flat_map g (filter p xs) ≡ flat_map g xs
 kept-flat_map p g none [] = refl
 kept-flat_map {X} {Y} p g none (x ∷ xs) = one (kept-flat_map p g none xs) (p x) refl
   where
@@ -78,10 +70,10 @@ kept-sum {X} {Y} f t g q none (x ∷ xs) = one (kept-sum f t g q none xs) (q x) 
 abbrev pub counts : Award → Bool
 counts a = nat_lt 0 (a.backlog + a.grant)
 
-pub none_counts : (n : ℕ) → nat_lt 0 n ≡ false → n ≡ 0
+none_counts : (n : ℕ) → nat_lt 0 n ≡ false → n ≡ 0
 none_counts n e = grind (arith, lt-ltb)
 
-pub uncounted : (a : Award) → counts a ≡ false → (a.backlog ≡ 0) × (a.grant ≡ 0)
+uncounted : (a : Award) → counts a ≡ false → (a.backlog ≡ 0) × (a.grant ≡ 0)
 uncounted a e = let none = none_counts (a.backlog + a.grant) e in (omega (arith, none), omega (arith, none))
 
 -- the award of a flow counts where it asks
@@ -142,28 +134,9 @@ asking-granted awards = kept-filter counts (λ (a : Award). nat_lt 0 a.grant) no
 
 -- ---- the loop over the flows
 
-asked_more : (flows : List Flowing) (i : ℕ) (f : Flowing) → i < length flows → f ≡ get_or flows i f
-    → asking (take (i + 1) flows) ≡ asking (take i flows) ++ cond (nat_lt 0 f.backlog) (f ∷ []) []
-asked_more flows i f lt is =
-    ap asking (take_more flows i f lt ∙ ap (λ (g : Flowing). take i flows ++ g ∷ []) (sym is))
-    ∙ filter-append (λ (g : Flowing). nat_lt 0 g.backlog) (take i flows) (f ∷ [])
-
-pub claims-more : (policy : Policy) (at : AtFields) (flows : List Flowing) (i : ℕ) (f : Flowing) (before after : List Claim) → i < length flows → f ≡ get_or flows i f → 0 < f.backlog
-    → before ≡ claims_of policy at (asking (take i flows)) → after ≡ before ++ claim_of policy at f ∷ [] → after ≡ claims_of policy at (asking (take (i + 1) flows))
-claims-more policy at flows i f before after lt is asks so_far put =
-    put ∙ (ap (λ (cs : List Claim). cs ++ claim_of policy at f ∷ []) so_far
-    ∙ (sym (map-append (claim_of policy at) (asking (take i flows)) (f ∷ []))
-    ∙ ap (map (claim_of policy at)) (ap (λ (b : Bool). asking (take i flows) ++ cond b (f ∷ []) []) (sym (lt-ltb 0 f.backlog asks)) ∙ sym (asked_more flows i f lt is))))
-
-pub claims-same : (policy : Policy) (at : AtFields) (flows : List Flowing) (i : ℕ) (f : Flowing) (before : List Claim) → i < length flows → f ≡ get_or flows i f → f.backlog ≤ 0
-    → before ≡ claims_of policy at (asking (take i flows)) → before ≡ claims_of policy at (asking (take (i + 1) flows))
-claims-same policy at flows i f before lt is none so_far =
-    so_far ∙ ap (map (claim_of policy at))
-    (sym (append-nil (asking (take i flows))) ∙ (ap (λ (b : Bool). asking (take i flows) ++ cond b (f ∷ []) []) (sym (le-ltb 0 f.backlog none)) ∙ sym (asked_more flows i f lt is)))
-
-pub sound-more : (policy : Policy) (at : AtFields) (flows : List Flowing) (i : ℕ) (f : Flowing) → i < length flows → f ≡ get_or flows i f
-    → All IsClaim (claims_of policy at (take i flows)) → IsClaim (claim_of policy at f) → All IsClaim (claims_of policy at (take (i + 1) flows))
-sound-more policy at flows i f lt is so_far here =
-    subst (λ (cs : List Claim). All IsClaim cs)
-    (sym (ap (map (claim_of policy at)) (take_more flows i f lt ∙ ap (λ (g : Flowing). take i flows ++ g ∷ []) (sym is)) ∙ map-append (claim_of policy at) (take i flows) (f ∷ [])))
-    (All-push IsClaim (claims_of policy at (take i flows)) (claim_of policy at f) so_far here)
+pub claims-next : (policy : Policy) (at : AtFields) (flows : List Flowing) (i : ℕ) (f : Flowing) → i < length flows → f ≡ get_or flows i f
+    → claims_of policy at (asking (take (i + 1) flows)) ≡ claims_of policy at (asking (take i flows)) ++ claims_of policy at (asking (f ∷ []))
+claims-next policy at flows i f lt is =
+    ap (λ (fs : List Flowing). claims_of policy at (asking fs)) (take_more flows i f lt ∙ ap (λ (g : Flowing). take i flows ++ g ∷ []) (sym is))
+    ∙ (ap (map (claim_of policy at)) (filter-append (λ (g : Flowing). nat_lt 0 g.backlog) (take i flows) (f ∷ []))
+    ∙ map-append (claim_of policy at) (asking (take i flows)) (asking (f ∷ [])))

@@ -10,7 +10,7 @@ pub use Rattle.slice_scheduler.specs.Due.{is_due, due_pieces, pieces_when_due, i
 pub use Rattle.slice_scheduler.specs.Schedule.{by_rank, award_pieces, pieces_of, idle, spans_from, minislots_in, spans_of, pending_of, granted_of, elements_of, ranked_below}
 pub use Rattle.slice_scheduler.specs.Servable.{AsksWhereItMay, elements_needed, Ascends, SfidsAscend, need_at, total_need, IsOfItsKind}
 pub use Rattle.slice_scheduler.specs.Tiles.{Tiles, IsTiled}
-pub use Rattle.slice_scheduler.specs.Wanted.{IsClaim, asking, HasMinislots, HaveNoRank, wanted_at, wanted_from, AreWanted, AreRooms, award_with}
+pub use Rattle.slice_scheduler.specs.Wanted.{IsClaim, asking, HasMinislots, AreBuckets, award_with, served}
 pub use Rattle.slice_scheduler.specs.declared.award.Award.{Award}
 pub use Rattle.slice_scheduler.specs.declared.claim.Claim.{Claim}
 pub use Rattle.slice_scheduler.specs.declared.flowing.AtFields.{AtFields}

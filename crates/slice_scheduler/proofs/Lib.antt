@@ -3,11 +3,11 @@ pub mod SumLemmas
 pub mod RankLemmas
 pub mod ShareLemmas
 pub mod PackedLemmas
-pub mod WantedLemmas
 pub mod TotalLemmas
 pub mod GrantedLemmas
 pub mod AskingLemmas
-pub mod RoomLemmas
+pub mod OrderLemmas
+pub mod ScheduleLemmas
 pub mod ServableLemmas
 pub mod TiledLemmas
 pub mod MoreLemmas

@@ -7,8 +7,8 @@ pub All-joined : {A : Type 0} (P : A → Type 0) (xs ys zs : List A) → zs ≡ 
 All-joined P xs ys zs eq px py = subst (All P) (sym eq) (All-append P xs ys px py)
 
 module _ {X : Type 0} (xs : List X) (i : ℕ) (x d : X) (lt : i < length xs) (is : x ≡ get_or xs i d) where
-  next : take (i + 1) xs ≡ take i xs ++ x ∷ []
-  next = take_more xs i d lt ∙ ap (λ y. take i xs ++ y ∷ []) (sym is)
+  pub take-next : take (i + 1) xs ≡ take i xs ++ x ∷ []
+  take-next = take_more xs i d lt ∙ ap (λ y. take i xs ++ y ∷ []) (sym is)
 
   pub sum_by-more : (f : X → ℕ) → sum_by f (take (i + 1) xs) ≡ sum_by f (take i xs) + f x
   sum_by-more f = sum_by_more f xs i d lt ∙ ap (λ y. sum_by f (take i xs) + f y) (sym is)
@@ -17,12 +17,12 @@ module _ {X : Type 0} (xs : List X) (i : ℕ) (x d : X) (lt : i < length xs) (is
   flat_map-more f ys eq =
       ap (λ zs. zs ++ f x) eq
       ∙ (ap (λ zs. flat_map f (take i xs) ++ zs) (sym (append-nil (f x)))
-      ∙ (sym (flat_map-append f (take i xs) (x ∷ [])) ∙ ap (flat_map f) (sym next)))
+      ∙ (sym (flat_map-append f (take i xs) (x ∷ [])) ∙ ap (flat_map f) (sym take-next)))
 
   filter-more : (p : X → Bool) (b : Bool) → p x ≡ b → filter p (take i xs) ++ cond b (x ∷ []) [] ≡ filter p (take (i + 1) xs)
   filter-more p b eq =
       ap (λ c. filter p (take i xs) ++ cond c (x ∷ []) []) (sym eq)
-      ∙ (sym (filter-append p (take i xs) (x ∷ [])) ∙ ap (filter p) (sym next))
+      ∙ (sym (filter-append p (take i xs) (x ∷ [])) ∙ ap (filter p) (sym take-next))
 
   -- the next element is kept
   pub filter-kept : (p : X → Bool) → p x ≡ true → filter p (take i xs) ++ x ∷ [] ≡ filter p (take (i + 1) xs)

@@ -103,3 +103,12 @@ recursion-replicate P (suc n) x h = (h, recursion-replicate P n x h)
 pub recursion-each : {X : Type 0} (P : X → Type 0) → ((x : X) → P x) → (xs : List X) → AllByRecursion P xs
 recursion-each P h [] = tt
 recursion-each P h (x ∷ xs) = (h x, recursion-each P h xs)
+
+-- what is left out of a list is left out of what it is mapped to
+pub kept-map : {X Y : Type 0} (g : X → Y) (q : X → Bool) (p : Y → Bool) → ((x : X) → p (g x) ≡ q x) → (xs : List X) → map g (filter q xs) ≡ filter p (map g xs)
+kept-map g q p same [] = refl
+kept-map {Y} g q p same (x ∷ xs) = one (kept-map g q p same xs) (q x) ∙ ap (λ (b : Bool). cond b (g x ∷ filter p (map g xs)) (filter p (map g xs))) (sym (same x))
+  where
+    one : map g (filter q xs) ≡ filter p (map g xs) → (b : Bool) → map g (cond b (x ∷ filter q xs) (filter q xs)) ≡ cond b (g x ∷ filter p (map g xs)) (filter p (map g xs))
+    one rest true = ap (λ (ys : List Y). g x ∷ ys) rest
+    one rest false = rest

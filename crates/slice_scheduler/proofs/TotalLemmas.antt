@@ -1,11 +1,10 @@
 -- All that is granted fits the slice.
-use Rattle.std.proofs.Common.{◌≡◌, ℕ, zero, suc, ◌+◌, ◌*◌, ◌<◌, ◌≤◌, ◌⊎◌, inl, inr, Bool, true, false, cond, List, [], ◌∷◌, refl, sym, ap, ◌∙◌, zero-add, arith, map, sum_by, replicate, All, length, get_or, subst}
-use Rattle.slice_scheduler.proofs.Common.{AllByRecursion, flat_map, eq-eqb, ne_eqb, cases_eq, le-leb, recursion_from_All, sum_by-cons, sum_by-append, minislots_of, Scheduling, BestEffort, NonRealTimePolling, RealTimePolling, UnsolicitedGrant, Policy, Piece, Claim, Award, AtFields, Flowing, is_due, due_minislots, minislots_when_due, due_pieces, pieces_when_due, iuc_of, claim_of, claims_of, base_of, taken_of, room_of, goes_before, wanted_before, award_of, awards_of, granted_share, ranked_below, by_rank, award_pieces, pieces_of, minislots_in, SfidsAscend, IsClaim, wanted_from, nat_le, nat_lt, filter, nat_tests, get_or-map, length-map}
-use Rattle.slice_scheduler.proofs.SumLemmas.{sum_by-add, sum_by-flat_map, filtered-all, filtered-le, filtered-map, filtered-without, recursion-map, recursion-weaker}
-use Rattle.slice_scheduler.proofs.WantedLemmas.{wanted_from-none}
+use Rattle.std.proofs.Common.{◌≡◌, ℕ, zero, suc, ◌+◌, ◌-◌, ◌*◌, ◌<◌, ◌≤◌, ◌⊎◌, inl, inr, Bool, true, false, cond, List, [], ◌∷◌, refl, sym, ap, ◌∙◌, zero-add, arith, map, sum_by, replicate, All, length, get_or, subst}
+use Rattle.slice_scheduler.proofs.Common.{AllByRecursion, flat_map, eq-eqb, ne_eqb, cases_eq, sum_by-cons, sum_by-append, minislots_of, Scheduling, BestEffort, NonRealTimePolling, RealTimePolling, UnsolicitedGrant, Policy, Piece, Claim, Award, AtFields, Flowing, is_due, due_minislots, minislots_when_due, due_pieces, pieces_when_due, iuc_of, claim_of, claims_of, base_of, taken_of, room_of, goes_before, wanted_before, award_of, awards_of, granted_share, ranked_below, by_rank, award_pieces, pieces_of, minislots_in, SfidsAscend, IsClaim, nat_lt, nat_tests, get_or-map, length-map}
+use Rattle.slice_scheduler.proofs.SumLemmas.{sum_by-add, sum_by-flat_map, filtered-le, filtered-without, recursion-map, recursion-weaker}
 use Rattle.slice_scheduler.specs.Busy.{LeavesNothingIdle}
 use Rattle.slice_scheduler.proofs.RankLemmas.{sum_by-ranked_below, sum_by-ranked, Ascends-map}
-use Rattle.slice_scheduler.proofs.ShareLemmas.{ClaimsAscend, shares_below-fit}
+use Rattle.slice_scheduler.proofs.ShareLemmas.{ClaimsAscend, wanted_from, served-grants, served-below, served-by_rank}
 
 pub sum_by-map : {X Y : Type 0} (f : Y → ℕ) (g : X → Y) (xs : List X) → sum_by f (map g xs) ≡ sum_by (λ x. f (g x)) xs
 sum_by-map f g [] = refl
@@ -45,49 +44,30 @@ award_is at a = by (cases_eq a.grant 0)
 -- what is granted of the ranks that are served is at most the bases and the room
 awards-all : (room : ℕ) (claims : List Claim) → ClaimsAscend claims
     → sum_by (λ (a : Award). a.grant) (by_rank (map (award_of room claims) claims)) ≤ sum_by (λ (c : Claim). c.base) claims + room
-awards-all room claims ascend = omega (
+awards-all room claims ascend = rw (← served-below room claims 64 ascend) (omega (
   arith,
-  sum_by-ranked_below (λ (a : Award). a.grant) (λ (a : Award). a.rank) 64 (map (award_of room claims) claims),
-  filtered-map (λ (a : Award). a.grant) (λ a. nat_lt a.rank 64) (award_of room claims) claims,
-  sum_by-add (λ (c : Claim). c.base + granted_share room claims c) (λ (c : Claim). c.base) (granted_share room claims) (λ c. refl) (filter (λ (c : Claim). nat_lt c.rank 64) claims),
+  served-grants (room - wanted_from claims 64) (ranked_below (λ (c : Claim). c.rank) 64 claims),
+  sum_by-ranked_below (λ (c : Claim). c.base) (λ (c : Claim). c.rank) 64 claims,
   filtered-le (λ (c : Claim). c.base) (λ c. nat_lt c.rank 64) claims,
-  sum_by-ranked_below (granted_share room claims) (λ (c : Claim). c.rank) 64 claims,
-  shares_below-fit room claims 64 ascend,
-)
+))
 
 -- a claim that is not all granted leaves no room
 itself : (c : Claim) → goes_before c c ≡ false
 itself c = grind (arith, nat_tests)
 
-wanted-from_zero : (claims : List Claim) → wanted_from claims 0 ≡ sum_by (λ (c : Claim). c.left) claims
-wanted-from_zero claims = filtered-all (λ (c : Claim). c.left) (λ c. nat_le 0 c.rank) claims (every claims)
-  where
-    every : (cs : List Claim) → AllByRecursion (λ c. nat_le 0 c.rank ≡ true) cs
-    every [] = tt
-    every (c ∷ cs) = (le-leb 0 c.rank (omega arith), every cs)
-
-shares-full : (room : ℕ) (claims : List Claim) (i : ℕ) (e : Claim) → AllByRecursion IsClaim claims → ClaimsAscend claims → i < length claims
-    → granted_share room claims (get_or claims i e) < (get_or claims i e).left → sum_by (granted_share room claims) claims ≡ room
-shares-full room claims i e sound ascend lt less =
-    let same : sum_by (granted_share room claims) (ranked_below (λ c. c.rank) 64 claims) ≡ sum_by (granted_share room claims) claims =
-    sum_by-ranked (granted_share room claims) (λ (c : Claim). c.rank) 64 claims (recursion-weaker IsClaim (λ c. c.rank < 64) (λ c h. omega (arith, h.rank)) claims sound) in
-    let before : wanted_before claims (get_or claims i e) + (get_or claims i e).left ≤ sum_by (λ (c : Claim). c.left) claims =
-    filtered-without (λ (c : Claim). c.left) (λ d. goes_before d (get_or claims i e)) claims i e lt (itself (get_or claims i e)) in
-    omega (arith, shares_below-fit room claims 64 ascend, wanted_from-none claims sound, wanted-from_zero claims)
-
 awards-full : (room : ℕ) (claims : List Claim) (i : ℕ) (e : Claim) → AllByRecursion IsClaim claims → ClaimsAscend claims → i < length claims
     → granted_share room claims (get_or claims i e) < (get_or claims i e).left
     → sum_by (λ (a : Award). a.grant) (by_rank (map (award_of room claims) claims)) ≡ sum_by (λ (c : Claim). c.base) claims + room
 awards-full room claims i e sound ascend lt less =
-    let ranked : AllByRecursion (λ (a : Award). a.rank < 64) (map (award_of room claims) claims) =
-    recursion-map (λ (a : Award). a.rank < 64) (award_of room claims) claims (recursion-weaker IsClaim (λ c. c.rank < 64) (λ c h. omega (arith, h.rank)) claims sound) in
-    omega (
+    let ranked : AllByRecursion (λ (c : Claim). c.rank < 64) claims = recursion-weaker IsClaim (λ c. c.rank < 64) (λ c h. omega (arith, h.rank)) claims sound in
+    let before : wanted_before claims (get_or claims i e) + (get_or claims i e).left ≤ sum_by (λ (c : Claim). c.left) claims =
+    filtered-without (λ (c : Claim). c.left) (λ d. goes_before d (get_or claims i e)) claims i e lt (itself (get_or claims i e)) in
+    rw (← served-by_rank room claims sound ascend) (omega (
       arith,
-      sum_by-ranked (λ (a : Award). a.grant) (λ (a : Award). a.rank) 64 (map (award_of room claims) claims) ranked,
-      sum_by-map (λ (a : Award). a.grant) (award_of room claims) claims,
-      sum_by-add (λ (c : Claim). c.base + granted_share room claims c) (λ (c : Claim). c.base) (granted_share room claims) (λ c. refl) claims,
-      shares-full room claims i e sound ascend lt less,
-    )
+      served-grants room (ranked_below (λ (c : Claim). c.rank) 64 claims),
+      sum_by-ranked (λ (c : Claim). c.base) (λ (c : Claim). c.rank) 64 claims ranked,
+      sum_by-ranked (λ (c : Claim). c.left) (λ (c : Claim). c.rank) 64 claims ranked,
+    ))
 
 -- ---- all of it
 
@@ -120,7 +100,7 @@ parts policy at flows =
     sum_by-append (λ (q : Piece). q.len) (flat_map (due_pieces at) flows) (flat_map (award_pieces at) (by_rank (awards_of policy at flows))) in
     omega arith
 
-pub nothing-idle : (policy : Policy) (at : AtFields) (flows : List Flowing) → All IsClaim (claims_of policy at flows) → SfidsAscend flows → sum_by (taken_of at) flows ≤ at.slice.length
+pub nothing-idle : (policy : Policy) (at : AtFields) (flows : List Flowing) → AllByRecursion (λ f. IsClaim (claim_of policy at f)) flows → SfidsAscend flows → sum_by (taken_of at) flows ≤ at.slice.length
     → All (LeavesNothingIdle policy at flows) flows
 nothing-idle policy at flows sound ascend fits i e lt less =
     let f : Flowing = get_or flows i e in
@@ -131,6 +111,6 @@ nothing-idle policy at flows sound ascend fits i e lt less =
     subst (λ (c : Claim). granted_share (room_of at flows) claims c < c.left) (sym here) wants in
     let inside : i < length claims = omega (arith, length-map flows (claim_of policy at)) in
     let full : sum_by (λ (a : Award). a.grant) (by_rank (awards_of policy at flows)) ≡ sum_by (λ (c : Claim). c.base) claims + room_of at flows =
-    awards-full (room_of at flows) claims i (claim_of policy at e) (recursion_from_All IsClaim claims sound) (claims-ascend policy at flows ascend) inside wants_here in
+    awards-full (room_of at flows) claims i (claim_of policy at e) (recursion-map IsClaim (claim_of policy at) flows sound) (claims-ascend policy at flows ascend) inside wants_here in
     let bases : sum_by (λ (c : Claim). c.base) claims ≡ sum_by (base_of at) flows = sum_by-map (λ (c : Claim). c.base) (claim_of policy at) flows in
     omega (arith, parts policy at flows)

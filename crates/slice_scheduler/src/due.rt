@@ -1,12 +1,10 @@
 //! What due flows are granted, whatever they ask.
 
-ghost use Rattle.std.specs.Prelude.{◌≡◌, ◌≤◌, ◌++◌, All, OnOk, replicate};
-ghost use Rattle.std.specs.List.{flat_map};
-ghost use Rattle.slice_scheduler.specs.Due.{interval_of, ends_after, is_due, due_pieces, iuc_of};
+ghost use Rattle.std.specs.Prelude.{◌≡◌, ◌++◌, All, IfOk, OnOk, min, replicate};
+ghost use Rattle.slice_scheduler.specs.Due.{interval_of, ends_after, is_due, due_minislots, due_pieces, iuc_of};
 ghost use Rattle.slice_scheduler.specs.Servable.{IsPast};
 ghost use Rattle.slice_scheduler.specs.Wanted.{HasMinislots};
 
-use crate::emptying::empty_for;
 use crate::flowing::{At, Flowing};
 use crate::piece::Piece;
 use crate::span::Iuc;
@@ -69,23 +67,27 @@ fn push_many(pieces: &mut Vec<Piece>, piece: Piece, times: u8) -> Result<(), All
     Ok(())
 }
 
-/// Adds the grants that a flow has whatever it asks.
-fn push_due(pieces: &mut Vec<Piece>, flow: &Flowing, at: &At) -> Result<(), AllocError>
+/// Adds the grants that a flow has whatever it asks. Returns their minislots, at most 65,535.
+pub(crate) fn push_due(pieces: &mut Vec<Piece>, flow: &Flowing, at: &At) -> Result<u16, AllocError>
     requires { IsPast at.now.frame flow.now }
     ensures items { OnOk result (pieces.new.items ≡ pieces.old.items ++ due_pieces at.now flow.now) }
     ensures some { OnOk result (All HasMinislots (due_pieces at.now flow.now)) }
+    ensures minislots { IfOk result (λ minislots. minislots ≡ min 65535 (due_minislots at.now flow.now)) }
 {
     if !due_now(at, flow) {
-        return Ok(());
+        return Ok(0);
     }
     let fields = flow.set.get_fields();
     match fields.scheduling {
-        Scheduling::BestEffort => {}
-        Scheduling::NonRealTimePolling | Scheduling::RealTimePolling => pieces.push(Piece {
-            sid: flow.sid,
-            iuc: Iuc::Request,
-            len: 1,
-        })?,
+        Scheduling::BestEffort => Ok(0),
+        Scheduling::NonRealTimePolling | Scheduling::RealTimePolling => {
+            pieces.push(Piece {
+                sid: flow.sid,
+                iuc: Iuc::Request,
+                len: 1,
+            })?;
+            Ok(1)
+        }
         Scheduling::UnsolicitedGrant => {
             let len = at.get_units().minislots(u32::from(fields.grant_size)) as u16;
             let piece = Piece {
@@ -94,21 +96,7 @@ fn push_due(pieces: &mut Vec<Piece>, flow: &Flowing, at: &At) -> Result<(), Allo
                 len,
             };
             push_many(pieces, piece, fields.grants_per_interval)?;
+            Ok(u16::from(fields.grants_per_interval).saturating_mul(len))
         }
     }
-    Ok(())
-}
-
-/// Fills a list with the grants that flows have whatever they ask, in the flows' order.
-pub(crate) fn all_due(pieces: &mut Vec<Piece>, flows: &[Flowing], at: &At) -> Result<(), AllocError>
-    requires { All (IsPast at.now.frame) flows.now }
-    ensures items { OnOk result (pieces.new.items ≡ flat_map (due_pieces at.now) flows.now) }
-    ensures some { OnOk result (All HasMinislots pieces.new.items) }
-{
-    // Room for what is due, and for the awards that are added.
-    empty_for(pieces, flows.len().saturating_mul(2))?;
-    for flow in flows {
-        push_due(pieces, flow, at)?;
-    }
-    Ok(())
 }

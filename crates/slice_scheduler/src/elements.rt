@@ -63,7 +63,7 @@ impl Elements {
         self.fields.slice
     }
 
-    /// Schedules a frame: returns who is granted which minislots, in their order.
+    /// Returns who is granted which minislots of the slice, in their order.
     pub fn get_spans(&self) -> &[Span]
         ensures { result.now ≡ self.now.spans }
     {

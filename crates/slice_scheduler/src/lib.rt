@@ -3,6 +3,7 @@
 
 mod award;
 mod awarding;
+mod buckets;
 mod claim;
 mod claiming;
 mod due;
@@ -10,11 +11,11 @@ mod elements;
 mod emptying;
 mod flowing;
 mod laws;
-mod memory;
-mod ordering;
 mod packing;
 mod piece;
 mod planning;
+mod scheduler;
+mod separating;
 mod served;
 mod slice;
 mod span;
@@ -25,8 +26,8 @@ pub use laws::{
     base_is_granted, elements_are_few, elements_are_tiled, elements_name_flows,
     grant_is_within_backlog, granted_by_flow,
 };
-pub use memory::ScheduleMemory;
 pub use planning::schedule;
+pub use scheduler::Scheduler;
 pub use served::{Grants, Served};
 pub use slice::Slice;
 pub use span::{Iuc, Span, Spans};
