@@ -1,17 +1,24 @@
--- What the flows in the boxes are, where the list of boxes is looked at or edited.
-use Rattle.std.proofs.Common.{◌≡◌, ℕ, true, false, cond, List, [], ◌∷◌, get_or, set, Some, None, option_map, refl, sym, ap, ◌∙◌, subst}
+-- What the flows in the boxes are, where the map of boxes is looked at or edited.
+use Rattle.std.proofs.Common.{◌≡◌, ℕ, true, false, cond, List, [], ◌∷◌, length, Option, Some, None, IsSome, option_map, refl, sym, ap, ◌∙◌, subst}
 use Rattle.std.specs.Global.{Box}
-use Rattle.std.specs.List.{insert, remove}
-use Rattle.admission.specs.Place.{StandsAt, IsGap}
-use Rattle.flow_table.proofs.Common.{IsStrictlySortedBy, nat_cmp, is_eq, remove_entry, keys_of, lookup, insert_entry, is_at, UnitSizes, Flow, flow_at, with_flow, flows_of, change_if, change_at, told_of}
-use Rattle.flow_table.proofs.EntryLemmas.{ascending_put, ascending_taken, taken_none}
+use Rattle.flow_table.proofs.Common.{IsStrictlySortedBy, nat_cmp, is_eq, remove_entry, keys_of, lookup, length-map, set_value, insert_entry, is_at, UnitSizes, Flow, Moved, flow_at, with_flow, flows_of, change_if, change_at, told_of}
 use Rattle.flow_table.proofs.RowLemmas.{put_by, taken_by}
+use Rattle.flow_table.proofs.EntryLemmas.{written}
 
 -- ---- what is there
 
 pub boxed_keys : (es : List (ℕ × Box Flow)) → keys_of (flows_of es) ≡ keys_of es
 boxed_keys [] = refl
 boxed_keys (e ∷ es) = ap (λ (ks : List ℕ). e.0 ∷ ks) (boxed_keys es)
+
+pub boxed_length : (es : List (ℕ × Box Flow)) → length (flows_of es) ≡ length es
+boxed_length es = length-map es (λ (e : ℕ × Box Flow). (e.0, e.1.value))
+
+pub boxed_ascend : (es : List (ℕ × Box Flow)) → IsStrictlySortedBy nat_cmp (keys_of (flows_of es)) → IsStrictlySortedBy nat_cmp (keys_of es)
+boxed_ascend es s = subst (IsStrictlySortedBy nat_cmp) (boxed_keys es) s
+
+flows_ascend : (es : List (ℕ × Box Flow)) → IsStrictlySortedBy nat_cmp (keys_of es) → IsStrictlySortedBy nat_cmp (keys_of (flows_of es))
+flows_ascend es s = subst (IsStrictlySortedBy nat_cmp) (sym (boxed_keys es)) s
 
 boxed_at : (es : List (ℕ × Box Flow)) (k : ℕ) → flow_at k (flows_of es) ≡ option_map (λ b. b.value) (lookup (is_at (nat_cmp k)) es)
 boxed_at [] k = refl
@@ -38,54 +45,44 @@ pub boxed_taken : (es after : List (ℕ × Box Flow)) (k : ℕ) → after ≡ re
     → flows_of after ≡ remove_entry (is_at (nat_cmp k)) (flows_of es)
 boxed_taken es after k is = ap flows_of is ∙ sym (taken_by (λ (b : Box Flow). b.value) es k)
 
--- ---- at the place where a search ends
+boxed_written : (es : List (ℕ × Box Flow)) (k : ℕ) (b : Box Flow)
+    → flows_of (set_value (is_at (nat_cmp k)) es b) ≡ set_value (is_at (nat_cmp k)) (flows_of es) b.value
+boxed_written [] k b = refl
+boxed_written (e ∷ es) k b =
+    elim (is_eq (nat_cmp k e.0)) as (λ t. flows_of (cond t ((e.0, b) ∷ es) (e ∷ set_value (is_at (nat_cmp k)) es b))
+    ≡ cond t ((e.0, b.value) ∷ flows_of es) ((e.0, e.1.value) ∷ set_value (is_at (nat_cmp k)) (flows_of es) b.value)) [
+      | true ↦ refl
+      | false ↦ ap (λ (l : List (ℕ × Flow)). (e.0, e.1.value) ∷ l) (boxed_written es k b)
+    ]
 
-module _ (es : List (ℕ × Box Flow)) (sfid place : ℕ) where
-  module _ (at : StandsAt es sfid place) where
-    pub stood_flow : (row : ℕ × Box Flow) → row ≡ get_or es place row → flow_at sfid (flows_of es) ≡ Some row.1.value
-    stood_flow row is = boxed_some es sfid row.1 (at.there row ∙ ap (λ (r : ℕ × Box Flow). Some r.1) (sym is))
+-- ---- the flow in a box is changed, where there is one
 
-    pub stood_put : (b : Box Flow) → flows_of (set es place (sfid, b)) ≡ with_flow sfid b.value (flows_of es)
-    stood_put b = boxed_put es (set es place (sfid, b)) sfid b (at.written b)
+moved_some : (flows : List (ℕ × Flow)) (sfid : ℕ) (change : Flow → Flow) (old : Flow) → IsStrictlySortedBy nat_cmp (keys_of flows) → flow_at sfid flows ≡ Some old
+    → set_value (is_at (nat_cmp sfid)) flows (change old) ≡ change_at sfid change flows
+moved_some flows sfid change old s at =
+    written flows sfid (change old) s (subst IsSome (sym at) refl) ∙ sym (ap (change_if sfid change flows) at)
 
-    pub stood_ascends : (b : Box Flow) → IsStrictlySortedBy nat_cmp (keys_of es) → IsStrictlySortedBy nat_cmp (keys_of (set es place (sfid, b)))
-    stood_ascends b s = subst (λ (l : List (ℕ × Box Flow)). IsStrictlySortedBy nat_cmp (keys_of l)) (sym (at.written b)) (ascending_put es sfid b s)
+moved_none : (flows : List (ℕ × Flow)) (sfid : ℕ) (change : Flow → Flow) → flow_at sfid flows ≡ None → flows ≡ change_at sfid change flows
+moved_none flows sfid change at = sym (ap (change_if sfid change flows) at)
 
-    -- the flow of the row is changed, under its own SFID
-    module _ (row : ℕ × Box Flow) (is : row ≡ get_or es place row) (b : Box Flow) where
-      same_row : set es place (row.0, b) ≡ set es place (sfid, b)
-      same_row = ap (λ (k : ℕ). set es place (k, b)) (ap (λ (r : ℕ × Box Flow). r.0) is ∙ at.key row)
+pub boxed_changed : (es after : List (ℕ × Box Flow)) (sfid : ℕ) (change : Flow → Flow) (old new : Box Flow)
+    → IsStrictlySortedBy nat_cmp (keys_of es) → lookup (is_at (nat_cmp sfid)) es ≡ Some old
+    → new.value ≡ change old.value → after ≡ set_value (is_at (nat_cmp sfid)) es new → flows_of after ≡ change_at sfid change (flows_of es)
+boxed_changed es after sfid change old new s at is e =
+    ap flows_of e
+    ∙ (boxed_written es sfid new
+    ∙ (ap (set_value (is_at (nat_cmp sfid)) (flows_of es)) is
+    ∙ moved_some (flows_of es) sfid change old.value (flows_ascend es s) (boxed_some es sfid old at)))
 
-      pub stood_changed : (change : Flow → Flow) → b.value ≡ change row.1.value → flows_of (set es place (row.0, b)) ≡ change_at sfid change (flows_of es)
-      stood_changed change changed =
-          ap flows_of same_row
-          ∙ (stood_put b
-          ∙ (ap (λ (f : Flow). with_flow sfid f (flows_of es)) changed ∙ sym (ap (change_if sfid change (flows_of es)) (stood_flow row is))))
+pub boxed_absent : (es after : List (ℕ × Box Flow)) (sfid : ℕ) (change : Flow → Flow)
+    → lookup (is_at (nat_cmp sfid)) es ≡ None → after ≡ es → flows_of after ≡ change_at sfid change (flows_of es)
+boxed_absent es after sfid change at same = ap flows_of same ∙ moved_none (flows_of es) sfid change (boxed_none es sfid at)
 
-      pub changed_ascends : IsStrictlySortedBy nat_cmp (keys_of es) → IsStrictlySortedBy nat_cmp (keys_of (set es place (row.0, b)))
-      changed_ascends s = subst (λ (l : List (ℕ × Box Flow)). IsStrictlySortedBy nat_cmp (keys_of l)) (sym same_row) (stood_ascends b s)
+pub told_some : (es : List (ℕ × Box Flow)) (units : UnitSizes) (sfid : ℕ) (change : Flow → Flow) (old : Box Flow) (flow : Flow) (r : Option Moved)
+    → lookup (is_at (nat_cmp sfid)) es ≡ Some old → flow ≡ old.value → r ≡ told_of units change (Some flow)
+    → r ≡ told_of units change (flow_at sfid (flows_of es))
+told_some es units sfid change old flow r at same is = is ∙ ap (told_of units change) (ap (λ (f : Flow). Some f) same ∙ sym (boxed_some es sfid old at))
 
-      pub stood_told : (units : UnitSizes) (change : Flow → Flow) (flow : Flow) → flow ≡ row.1.value → told_of units change (Some flow) ≡ told_of units change (flow_at sfid (flows_of es))
-      stood_told units change flow same = ap (told_of units change) (ap (λ (f : Flow). Some f) same ∙ sym (stood_flow row is))
-
-    pub stood_taken : flows_of (remove es place) ≡ remove_entry (is_at (nat_cmp sfid)) (flows_of es)
-    stood_taken = boxed_taken es (remove es place) sfid at.removed
-
-    pub taken_ascends : IsStrictlySortedBy nat_cmp (keys_of es) → IsStrictlySortedBy nat_cmp (keys_of (remove es place))
-    taken_ascends s = subst (λ (l : List (ℕ × Box Flow)). IsStrictlySortedBy nat_cmp (keys_of l)) (sym at.removed) (ascending_taken es sfid s)
-
-  module _ (gap : IsGap es sfid place) where
-    pub gap_flow : flow_at sfid (flows_of es) ≡ None
-    gap_flow = boxed_none es sfid gap.absent
-
-    pub gap_put : (b : Box Flow) → flows_of (insert es place (sfid, b)) ≡ with_flow sfid b.value (flows_of es)
-    gap_put b = boxed_put es (insert es place (sfid, b)) sfid b (gap.inserted b)
-
-    pub gap_ascends : (b : Box Flow) → IsStrictlySortedBy nat_cmp (keys_of es) → IsStrictlySortedBy nat_cmp (keys_of (insert es place (sfid, b)))
-    gap_ascends b s = subst (λ (l : List (ℕ × Box Flow)). IsStrictlySortedBy nat_cmp (keys_of l)) (sym (gap.inserted b)) (ascending_put es sfid b s)
-
-    pub gap_stays : (change : Flow → Flow) → flows_of es ≡ change_at sfid change (flows_of es)
-    gap_stays change = sym (ap (change_if sfid change (flows_of es)) gap_flow)
-
-    pub gap_untaken : flows_of es ≡ remove_entry (is_at (nat_cmp sfid)) (flows_of es)
-    gap_untaken = sym (taken_none (flows_of es) sfid gap_flow)
+pub told_none : (es : List (ℕ × Box Flow)) (units : UnitSizes) (sfid : ℕ) (change : Flow → Flow) (r : Option Moved)
+    → lookup (is_at (nat_cmp sfid)) es ≡ None → r ≡ None → r ≡ told_of units change (flow_at sfid (flows_of es))
+told_none es units sfid change r at is = is ∙ ap (told_of units change) (sym (boxed_none es sfid at))

@@ -1,6 +1,6 @@
 -- What a list of entries by ascending numbers holds after an edit.
 use Rattle.std.proofs.Common.{◌≡◌, ◌≢◌, ℕ, ◌+◌, ◌<◌, ◌≤◌, true, false, cond, List, [], ◌∷◌, length, Option, Some, None, IsSome, IsNone, refl, sym, ap, ◌∙◌, subst, arith, inl, inr}
-use Rattle.flow_table.proofs.Common.{AllByRecursion, Ordering, Less, Equal, Greater, nat_cmp, is_eq, match_ordering, lookup, remove_entry, keys_of, insert_entry, is_at, cases_order, ranked, nat_cmp_total, eq_by_cmp_equiv, All-from_recursion, recursion_from_All, none-some, same_Some, IsDistinct-from_sorted, sorted_tail}
+use Rattle.flow_table.proofs.Common.{AllByRecursion, Ordering, Less, Equal, Greater, nat_cmp, is_eq, match_ordering, lookup, remove_entry, set_value, keys_of, insert_entry, is_at, cases_order, ranked, nat_cmp_total, eq_by_cmp_equiv, All-from_recursion, recursion_from_All, none-some, same_Some, IsDistinct-from_sorted, sorted_tail}
 use Rattle.admission.proofs.PlaceLemmas.{nat_cmp_less, nat_cmp_equal, nat_cmp_greater, put_as, look_as, take_out_as}
 use Rattle.std.specs.List.Sorted.{IsStrictlySortedBy}
 use Rattle.std.proofs.lemmas.Map.{lookup-none}
@@ -90,6 +90,22 @@ module _ {X : Type 0} where
         take_out_as e es k Less (nat_cmp_less k e.0 below) ∙ ap (λ (l : List (ℕ × X)). e ∷ l) (taken_none es k (sym (looked_past e es k (omega arith)) ∙ none))
     | inr (inr above) ↦
         take_out_as e es k Greater (nat_cmp_greater k e.0 above) ∙ ap (λ (l : List (ℕ × X)). e ∷ l) (taken_none es k (sym (looked_past e es k (omega arith)) ∙ none))
+  ]
+
+  -- ---- a value is written
+
+  write_as : (e : ℕ × X) (es : List (ℕ × X)) (k : ℕ) (v : X) (o : Ordering) → nat_cmp k e.0 ≡ o → set_value (is_at (nat_cmp k)) (e ∷ es) v ≡ cond (is_eq o) ((e.0, v) ∷ es) (e ∷ set_value (is_at (nat_cmp k)) es v)
+  write_as e es k v o h = ap (λ (r : Ordering). cond (is_eq r) ((e.0, v) ∷ es) (e ∷ set_value (is_at (nat_cmp k)) es v)) h
+
+  pub written : (es : List (ℕ × X)) (k : ℕ) (v : X) → IsStrictlySortedBy nat_cmp (keys_of es) → IsSome (lookup (is_at (nat_cmp k)) es) → set_value (is_at (nat_cmp k)) es v ≡ insert_entry nat_cmp es k v
+  written [] k v s there = absurd (cc)
+  written (e ∷ es) k v s there = elim (cases_order k e.0) [
+    | inl same ↦ write_as e es k v Equal (nat_cmp_equal k e.0 same) ∙ sym (put_as e es k v Equal (nat_cmp_equal k e.0 same))
+    | inr (inl below) ↦ let none : IsSome {T = X} None = subst IsSome (none_before e es k s below) there in absurd (cc)
+    | inr (inr above) ↦
+        write_as e es k v Greater (nat_cmp_greater k e.0 above)
+        ∙ (ap (λ (l : List (ℕ × X)). e ∷ l) (written es k v (sorted_tail nat_cmp e.0 (keys_of es) s) (subst IsSome (looked_past e es k (omega arith)) there))
+        ∙ sym (put_as e es k v Greater (nat_cmp_greater k e.0 above)))
   ]
 
   -- what is there is put in again

@@ -1,7 +1,6 @@
 -- The first number that an ascending list of numbers leaves out.
 use Rattle.std.proofs.Common.{◌≡◌, ◌≢◌, ◌||◌, ℕ, zero, suc, ◌+◌, ◌-◌, ◌<◌, ◌≤◌, nat_le, nat_eq, true, false, cond, List, [], ◌∷◌, length, Option, Some, None, refl, sym, ap, ◌∙◌, subst, arith, inl, inr}
-use Rattle.flow_table.proofs.Common.{All, AllByRecursion, keys_of, Ordering, length-map, recursion_from_All, IsStrictlySortedBy, same_Some, Less, Equal, Greater, nat_cmp, is_lt, is_gt, cases_order, cases_lt, cases_eq, eq-eqb, ne_eqb, lt-ltb, le-ltb, le-leb, lt-leb, ranked, sorted_head, sorted_tail, gap_from, first_free_past, first_free_unused, first_free_zero}
-use Rattle.std.specs.Prelude.{slice_get}
+use Rattle.flow_table.proofs.Common.{All, AllByRecursion, keys_of, Ordering, length-map, recursion_from_All, IsStrictlySortedBy, Less, Equal, Greater, nat_cmp, is_lt, is_gt, cases_order, cases_lt, cases_eq, eq-eqb, ne_eqb, lt-ltb, le-ltb, le-leb, lt-leb, ranked, sorted_head, sorted_tail, gap_from, first_free_past, first_free_unused, first_free_zero}
 use Rattle.admission.specs.Free.{Numbers, is_used, first_free, least_free_of}
 
 -- a number that is above the next is left out
@@ -158,31 +157,3 @@ packed_keys {X} es f lo hi s low high from to len =
     let count_is : length (keys_of es) ≡ length es = length-map es (λ (e : ℕ × X). e.0) in
     let end : hi + 1 ≡ f + length (keys_of es) = omega arith in
     end ∙ sym (packed_gap f (keys_of es) s (all_from f lo (keys_of es) from (recursion_from_All _ (keys_of es) low)) (all_below hi (f + length (keys_of es)) (keys_of es) (omega arith) (recursion_from_All _ (keys_of es) high)))
-
--- ---- rows with no gap
-
-module _ {X : Type 0} where
-  -- ascending rows reach at least as far as there are rows after the first one
-  spans : (e : ℕ × X) (es : List (ℕ × X)) (last : ℕ × X) → IsStrictlySortedBy nat_cmp (keys_of (e ∷ es)) → slice_get (e ∷ es) (length es) ≡ Some last → e.0 + length es ≤ last.0
-  spans e [] last s at = omega (arith, ap (λ (r : ℕ × X). r.0) (same_Some e last at))
-  spans e (x ∷ es) last s at =
-      let next : e.0 < x.0 = ranked e.0 x.0 Less (sym (sorted_head nat_cmp e.0 (keys_of (x ∷ es)) s).0) in
-      omega (arith, next, spans x es last (sorted_tail nat_cmp e.0 (keys_of (x ∷ es)) s) at)
-
-  -- rows that ascend from f on, the last one as far from f as there are rows before it, leave none out
-  no_gap : (e : ℕ × X) (es : List (ℕ × X)) (last : ℕ × X) (f : ℕ) → IsStrictlySortedBy nat_cmp (keys_of (e ∷ es)) → slice_get (e ∷ es) (length es) ≡ Some last
-      → f ≤ e.0 → last.0 ≤ f + length es → gap_from f (keys_of (e ∷ es)) ≡ f + length (e ∷ es)
-  no_gap e [] last f s at from to = gap_at f e.0 [] (omega (arith, from, to, spans e [] last s at)) ∙ omega arith
-  no_gap e (x ∷ es) last f s at from to =
-      let next : e.0 < x.0 = ranked e.0 x.0 Less (sym (sorted_head nat_cmp e.0 (keys_of (x ∷ es)) s).0) in
-      gap_at f e.0 (keys_of (x ∷ es)) (omega (arith, from, to, spans e (x ∷ es) last s at))
-      ∙ (no_gap x es last (suc f) (sorted_tail nat_cmp e.0 (keys_of (x ∷ es)) s) at (omega (arith, from, next)) (omega (arith, to)) ∙ omega arith)
-
-  pub packed_rows : (es : List (ℕ × X)) (f : ℕ) (first last : ℕ × X) → IsStrictlySortedBy nat_cmp (keys_of es) → Some first ≡ slice_get es 0 → Some last ≡ slice_get es (length es - 1)
-      → f ≤ first.0 → f ≤ last.0 → last.0 - f + 1 ≡ length es → last.0 + 1 ≡ gap_from f (keys_of es)
-  packed_rows [] f first last s at_first at_last from to len = absurd (omega (arith, len))
-  packed_rows (e ∷ es) f first last s at_first at_last from to len =
-      let head : first.0 ≡ e.0 = ap (λ (r : ℕ × X). r.0) (same_Some first e at_first) in
-      let count : length (e ∷ es) - 1 ≡ length es = omega arith in
-      let end : slice_get (e ∷ es) (length es) ≡ Some last = subst (λ (n : ℕ). slice_get (e ∷ es) n ≡ Some last) count (sym at_last) in
-      omega (arith, from, to, len, no_gap e es last f s end (omega (arith, head, from)) (omega (arith, to, len)))

@@ -6,4 +6,5 @@ pub mod StandLemmas
 pub mod MovedLemmas
 pub mod GapLemmas
 pub mod UsedLemmas
+pub mod ActiveLemmas
 pub mod BoxedLemmas

@@ -1,6 +1,6 @@
 -- That a table stays one where a flow's backlog changes.
 use Rattle.std.proofs.Common.{◌≡◌, ◌≤◌, ℕ, cond, List, length, Option, Some, None, IsSome, IfSome, refl, sym, ap, ◌∙◌, subst, arith}
-use Rattle.flow_table.proofs.Common.{nat_cmp, remove_entry, insert_entry, is_at, none-some, same_Some, LedgerView, UnitSizes, Flow, Moved, committed_of, flow_at, sid_if, with_flow, IsIndex, IsFlowTable, without_sid_of, budgets_of, change_if, change_at, told_of}
+use Rattle.flow_table.proofs.Common.{nat_cmp, remove_entry, insert_entry, is_at, none-some, same_Some, LedgerView, UnitSizes, Flow, Moved, activity_of, committed_of, flow_at, sid_if, with_flow, IsIndex, IsFlowTable, without_sid_of, budgets_of, change_if, change_at, told_of}
 use Rattle.flow_table.proofs.EntryLemmas.{put_same, length_put_there}
 use Rattle.flow_table.proofs.RowLemmas.{rows_put}
 use Rattle.flow_table.proofs.IndexLemmas.{index_changed, is_sid_yes, changed_room, row_room, table_put}
@@ -51,7 +51,7 @@ module _ {capacity : ℕ} {units : UnitSizes} {flows : List (ℕ × Flow)} {inde
       by None at told = absurd (none-some moved (sym told))
       by (Some old) at told =
           subst (λ (m : Moved). length (insert_entry nat_cmp ledger.rows sfid m.committed) ≤ ledger.room)
-          (sym (same_Some moved (record { had = old.sid; has = (change old).sid; committed = committed_of units (change old) }) told))
+          (sym (same_Some moved (record { had = old.sid; has = (change old).sid; activity = activity_of (change old); committed = committed_of units (change old) }) told))
           (row_room kept sfid (change old) (changed_room kept sfid (change old) (subst IsSome (sym at) refl)))
 
   pub told_table : ((old : Flow) → flow_at sfid flows ≡ Some old → IfSome (change old).sid (λ sid. sid_if (flow_at sfid flows) ≡ Some sid))
@@ -71,5 +71,5 @@ module _ {capacity : ℕ} {units : UnitSizes} {flows : List (ℕ × Flow)} {inde
           (index_changed kept.indexed sfid (change old) (keeps old at)) in
           subst (λ (m : Moved). IsFlowTable capacity units (with_flow sfid (change old) flows) (without_sid_of m.had m.has index)
           (record { room = ledger.room; rows = insert_entry nat_cmp ledger.rows sfid m.committed }))
-          (sym (same_Some moved (record { had = old.sid; has = (change old).sid; committed = committed_of units (change old) }) told))
+          (sym (same_Some moved (record { had = old.sid; has = (change old).sid; activity = activity_of (change old); committed = committed_of units (change old) }) told))
           (table_put kept sfid (change old) _ (changed_room kept sfid (change old) there) indexed)

@@ -6,6 +6,8 @@ use Rattle.param_sets.specs.Need.{need_if}
 use Rattle.param_sets.specs.declared.scheduling.Scheduling.{Scheduling}
 use Rattle.param_sets.specs.declared.scheduling.Scheduling.TheVariants.{UnsolicitedGrant}
 use Rattle.param_sets.specs.declared.param_set.ParamFields.{ParamFields}
+use Rattle.flow_table.specs.declared.flow.Activity.{Activity}
+use Rattle.flow_table.specs.declared.flow.Activity.TheVariants.{Idle, Active}
 use Rattle.flow_table.specs.declared.flow.Flow.{Flow}
 use Rattle.flow_table.specs.declared.flow.Pending.{Pending}
 
@@ -33,6 +35,12 @@ is_unsolicited kind = false
 abbrev pub asks_for_grants : Option ParamFields → Bool
 asks_for_grants None = false
 asks_for_grants (Some set) = if is_unsolicited set.scheduling then false else true
+
+-- ---- who is scheduled
+
+-- whether a flow has an active set
+abbrev pub activity_of : Flow → Activity
+activity_of flow = if is_some flow.sets.active then Active else Idle
 
 -- ---- an acknowledgement, and none
 

@@ -1,7 +1,7 @@
 //! A service flow.
 
 ghost use Rattle.std.specs.Prelude.{◌≡◌, ◌==◌, ◌+◌, ◌<◌, if◌then◌else◌, is_some, IfSome, Some, None};
-ghost use Rattle.flow_table.specs.Flow.{committed_of, asks_for_grants, flow_after_ack, taken_back, flow_after_request, flow_after_grant};
+ghost use Rattle.flow_table.specs.Flow.{committed_of, asks_for_grants, flow_after_ack, taken_back, flow_after_request, flow_after_grant, activity_of};
 
 use admission::Budget;
 use dsx_messages::Modem;
@@ -46,6 +46,15 @@ pub struct Asker {
     pub may_ask: bool,
 }
 
+/// Whether a flow has an active set.
+#[derive(Clone, Copy, Debug, PartialEq, Eq)]
+pub(crate) enum Activity {
+    /// It has none, and is not scheduled.
+    Idle,
+    /// It has one.
+    Active,
+}
+
 /// Returns whether a flow with this active set asks for its grants: it has one, and its grants are
 /// not unsolicited.
 fn asks_for_grants(active: Option<ParamSet>) -> bool
@@ -81,6 +90,16 @@ impl Flow {
         ensures { result ≡ asks_for_grants self.now.sets.active }
     {
         asks_for_grants(self.sets.get_active())
+    }
+
+    /// Returns whether it has an active set.
+    pub(crate) fn activity(&self) -> Activity
+        ensures { result ≡ activity_of self.now }
+    {
+        match self.sets.get_active() {
+            None => Activity::Idle,
+            Some(_) => Activity::Active,
+        }
     }
 
     /// Makes the pending sets the flow's, acknowledged in this frame: its intervals count from this frame, its SID is free

@@ -46,7 +46,7 @@ impl Model for Flows {
 }
 
 impl Flows {
-    /// Returns no flows, and room for `capacity` of them.
+    /// Creates an empty table with room for `capacity` flows.
     pub fn new(alloc: Global, capacity: u32, units: Units) -> Result<Flows, AllocError>
         ensures { IfOk result (λ flows. flows ≡ record { capacity = capacity; units = units; flows = [] }) }
     {
@@ -200,7 +200,7 @@ impl Flows {
     }
 
     /// Puts the flows that have an active set in place of what is in `flowing`, ascending by SFID, as
-    /// they are scheduled. Takes memory only where the list has too little.
+    /// they are scheduled. Looks at these flows alone. Takes memory only where the list has too little.
     pub fn flowing_into(&self, flowing: &mut Vec<Flowing>) -> Result<(), AllocError>
         ensures { OnOk result (flowing.new.items ≡ flowing_in self.now.flows) }
     {

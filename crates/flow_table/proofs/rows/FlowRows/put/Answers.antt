@@ -1,25 +1,22 @@
-use Rattle.std.proofs.Common.{sym, ap, ◌∙◌}
-use Rattle.flow_table.proofs.Common.{sid_if, Flow}
-use Rattle.flow_table.proofs.BoxedLemmas.{gap_flow, gap_put, gap_ascends, stood_flow, stood_put, stood_ascends}
+use Rattle.std.proofs.Common.{◌≤◌, ◌+◌, length, arith}
+use Rattle.std.specs.Prelude.{vec_capacity}
+use Rattle.flow_table.proofs.Common.{flows_of}
+use Rattle.flow_table.proofs.BoxedLemmas.{boxed_length}
+use Rattle.flow_table.proofs.ActiveLemmas.{active_ascends, put_room, put_rows}
 use Rattle.flow_table.proofs.rows.FlowRows.put.Goals as goal
 
-pub invariant_of-self-in-Err : goal.invariant_of-self-in-Err
-invariant_of-self-in-Err c = rw (c.insert_row.ensures.items, c.reserve.ensures.items) (gap_ascends _ _ _ (rw c.deref.ensures.value at c.in-Err.ensures.absent) c.args.flow c.self.invariant)
+pub mark-requires-clause-ascending : goal.mark-requires-clause-ascending
+mark-requires-clause-ascending c = rw c.make_room.ensures.items (active_ascends c.self.invariant)
 
-pub invariant_of-self-in-Ok : goal.invariant_of-self-in-Ok
-invariant_of-self-in-Ok c = stood_ascends _ _ _ (rw c.deref.ensures.value at c.in-Ok.ensures.found) c.args.flow c.self.invariant
+pub mark-requires-clause-room : goal.mark-requires-clause-room
+mark-requires-clause-room c =
+    let entries = c.self.inside.by_sfid.entries in
+    let room : length (flows_of entries) + 1 ≤ vec_capacity c.make_room.new.active = omega (arith, c.in_ok-make_room.ensures.ok, c.len.ensures.len, boxed_length entries) in
+    rw (c.make_room.ensures.items, c.activity-activity.ensures, c.deref.ensures) (put_room c.self.invariant c.args.sfid c.args.flow.value _ room)
 
-pub returns-in_ok-list-in-Err-clause-had : goal.returns-in_ok-list-in-Err-clause-had
-returns-in_ok-list-in-Err-clause-had c = rw (← c.self.view_is) (sym (ap sid_if (gap_flow _ _ _ (rw c.deref.ensures.value at c.in-Err.ensures.absent))))
-
-pub returns-in_ok-list-in-Err-clause-flows : goal.returns-in_ok-list-in-Err-clause-flows
-returns-in_ok-list-in-Err-clause-flows c =
-    rw (← c.self.view_is, c.insert_row.ensures.items, c.reserve.ensures.items) (gap_put _ _ _ (rw c.deref.ensures.value at c.in-Err.ensures.absent) c.args.flow)
-
-pub returns-in_ok-list-in-Ok-clause-had : goal.returns-in_ok-list-in-Ok-clause-had
-returns-in_ok-list-in-Ok-clause-had c =
-    rw (← c.self.view_is)
-    (ap (λ (f : Flow). f.sid) c.deref-in-Ok.ensures ∙ sym (ap sid_if (stood_flow _ _ _ (rw c.deref.ensures.value at c.in-Ok.ensures.found) c.index.result.now c.index.ensures)))
-
-pub returns-in_ok-list-in-Ok-clause-flows : goal.returns-in_ok-list-in-Ok-clause-flows
-returns-in_ok-list-in-Ok-clause-flows c = rw (← c.self.view_is) (stood_put _ _ _ (rw c.deref.ensures.value at c.in-Ok.ensures.found) c.args.flow)
+pub invariant_of-self-2 : goal.invariant_of-self-2
+invariant_of-self-2 c =
+    let entries = c.self.inside.by_sfid.entries in
+    let room : length (flows_of entries) + 1 ≤ vec_capacity c.make_room.new.active = omega (arith, c.in_ok-make_room.ensures.ok, c.len.ensures.len, boxed_length entries) in
+    rw (c.in_ok-had.ensures.flows, c.mark.ensures.items, c.mark.ensures.capacity)
+    (rw (c.make_room.ensures.items, c.activity-activity.ensures, c.deref.ensures) (put_rows c.self.invariant c.args.sfid c.args.flow.value _ room))

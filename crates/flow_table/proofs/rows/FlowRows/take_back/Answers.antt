@@ -1,23 +1,6 @@
-use Rattle.std.proofs.Common.{sym, ◌∙◌, ap}
-use Rattle.flow_table.proofs.Common.{taken_back, told_of}
-use Rattle.flow_table.proofs.BoxedLemmas.{gap_flow, gap_stays, stood_changed, changed_ascends, stood_told}
+use Rattle.flow_table.proofs.Common.{taken_back}
+use Rattle.flow_table.proofs.ActiveLemmas.{same_active, back_active}
 use Rattle.flow_table.proofs.rows.FlowRows.take_back.Goals as goal
 
-pub returns-in_default-clause-flows : goal.returns-in_default-clause-flows
-returns-in_default-clause-flows c = rw (← c.self.view_is) (gap_stays _ _ _ (rw c.deref.ensures.value at c.in_default.ensures.absent) taken_back)
-
-pub returns-in_default-clause-told : goal.returns-in_default-clause-told
-returns-in_default-clause-told c = rw (← c.self.view_is) (sym (ap (told_of c.args.units taken_back) (gap_flow _ _ _ (rw c.deref.ensures.value at c.in_default.ensures.absent))))
-
 pub invariant_of-self : goal.invariant_of-self
-invariant_of-self c = changed_ascends _ _ _ (rw c.deref.ensures.value at c.in-Ok.ensures.found) c.index_mut.result.now c.index_mut.ensures.value _ c.self.invariant
-
-pub returns-clause-flows : goal.returns-clause-flows
-returns-clause-flows c =
-    rw (← c.self.view_is)
-    (stood_changed _ _ _ (rw c.deref.ensures.value at c.in-Ok.ensures.found) c.index_mut.result.now c.index_mut.ensures.value _ taken_back (c.take_back.ensures.value ∙ ap taken_back c.as_mut-flow.ensures.value))
-
-pub returns-clause-told : goal.returns-clause-told
-returns-clause-told c =
-    rw (← c.self.view_is, c.committed-committed.ensures, c.take_back.ensures.value)
-    (stood_told _ _ _ (rw c.deref.ensures.value at c.in-Ok.ensures.found) c.index_mut.result.now c.index_mut.ensures.value c.index_mut.result.now.1 c.args.units taken_back c.as_mut-flow.result.now c.as_mut-flow.ensures.value)
+invariant_of-self c = rw c.take_back_in.ensures.flows (same_active c.self.invariant c.args.sfid taken_back back_active)

@@ -1,6 +1,6 @@
-use Rattle.std.proofs.Common.{◌≡◌, ◌++◌, drop}
+use Rattle.std.proofs.Common.{◌≡◌, ◌++◌}
 use Rattle.flow_table.specs.Index.{flows_of}
 use Rattle.flow_table.proofs.rows.FlowRows.to_vec.Given as goal
 
-abbrev pub invariant-loop-row : goal.invariant-loop-row
-invariant-loop-row l = l.flows.items ++ flows_of (drop l.row-index l.row-items) ≡ l.self
+abbrev pub invariant-loop-sfid : goal.invariant-loop-sfid
+invariant-loop-sfid l = l.flows.items ++ flows_of l.sfid-iterator ≡ l.self
