@@ -2,6 +2,8 @@
 use Rattle.std.proofs.Common.{◌≡◌, ℕ, List, [], ◌∷◌, ◌++◌, None, ap, sym, ◌∙◌, refl, subst}
 use Rattle.operator_book.proofs.Common.{map-append, ConstsFields, RowFields, Action, OperatorState, opened_state, Operator, operator, actions_of, AreTold, IsReplay}
 use Rattle.operator_model.specs.declared.action.Entry.{Entry}
+use Rattle.operator_model.specs.declared.output.Output.{Output}
+use Rattle.operator_model.specs.Replay.{BookView, operator_of_book, book_after_action}
 use Rattle.operator_model.specs.declared.action.SliceRow.{SliceRow}
 use Rattle.operator_model.specs.declared.action.Action.TheVariants as actions
 use Rattle.operator_model.specs.Machine.{reslice_result, unfit_from, own_step, own_run, IsAllowed}
@@ -30,6 +32,12 @@ replay_push consts row history state after entry replay allowed is outputs = rec
       (subst (λ (s : OperatorState). IsAllowed (operator consts row s) entry.action) replay.state_is allowed)
       (outputs ∙ ap (λ (s : OperatorState). (own_step (operator consts row s) entry.action).outputs) replay.state_is);
 }
+
+-- a book next to one more entry, whose state and outputs are the machine's, is the book after the action
+pub recorded_is : (b : BookView) (action : Action) (after : OperatorState) (outputs : List Output)
+    → after ≡ (own_step (operator_of_book b) action).state → outputs ≡ (own_step (operator_of_book b) action).outputs
+    → ◌≡◌ {A = BookView} record { row = b.row; consts = b.consts; state = after; history = b.history ++ record { action = action; outputs = outputs } ∷ [] } (book_after_action b action)
+recorded_is b action after outputs state_is outputs_is = rw (state_is, outputs_is) refl
 
 pub resliced_is : (op : Operator) (from : ℕ) (slice : SliceRow)
     → own_step op (actions.Reslice from slice) ≡ reslice_result op.state from slice

@@ -1,9 +1,8 @@
 -- When a machine can go on from a state under a row, and which fault is reported where it cannot (implementation-specific).
-use Rattle.std.specs.Prelude.{◌≡◌, ◌≢◌, ◌⊎◌, ◌==◌, ◌&&◌, ◌||◌, ◌+◌, ℕ, Bool, true, false, not, nat_le, nat_lt, is_some, List, [], ◌∷◌, ◌++◌, length, All, Option, Some, None, IfSome, find, if◌then◌else◌}
+use Rattle.std.specs.Prelude.{◌≡◌, ◌==◌, ◌&&◌, ◌||◌, ◌+◌, ℕ, Bool, true, false, not, nat_le, nat_lt, is_some, List, [], ◌∷◌, ◌++◌, length, All, Option, Some, None, IfSome, find, if◌then◌else◌}
 use Rattle.std.specs.List.{list_any}
 use Rattle.std.specs.Option.{option_or}
 use Rattle.admission.specs.Free.{Numbers}
-use Rattle.grant_policy.specs.declared.policy.Policy.{Policy}
 use Rattle.dsx_messages.specs.declared.kind.Kind.{Kind}
 use Rattle.dsx_messages.specs.declared.kind.Kind.TheVariants.{Dsa, Dsc, Dsd}
 use Rattle.dsx_messages.specs.declared.modem.Modem.{Modem}
@@ -241,7 +240,3 @@ state_fault consts row state =
     (option_or (sids_fault [] state.flows)
     (option_or (table_fault consts row state)
     (entries_fault [] state.kept)))
-
--- what a fault says: the policies differ, or the state has this fault; out of memory says nothing
-abbrev pub IsStateFault : Policy → ConstsFields → RowFields → OperatorState → StateFault → Type 0
-IsStateFault policy consts row state fault = ((fault ≡ faults.PolicyMismatch) × (policy ≢ row.policy)) ⊎ ((fault ≡ faults.NoMemory) ⊎ (state_fault consts row state ≡ Some fault))

@@ -26,7 +26,7 @@ impl Model for History {
 }
 
 impl History {
-    /// Returns a history of no entries. Takes no memory.
+    /// Creates an empty history. Takes no memory.
     pub fn new(alloc: Global) -> History
         ensures { result.entries ≡ [] }
     {

@@ -10,10 +10,10 @@ ghost use Rattle.operator_model.specs.Machine.{stranger_of, is_spent, unfit_of, 
 ghost use Rattle.operator_model.specs.Sound.{IsSound};
 ghost use Rattle.operator_book.specs.declared.handling.FirstRequest.{FirstRequest};
 ghost use Rattle.operator_book.specs.Planned.{IsFirstRequest, IsPlanOf, IsCommittable, after_effect};
-ghost use Rattle.operator_book.specs.Resuming.{state_fault, IsStateFault, IsStateUnder};
+ghost use Rattle.operator_book.specs.Resuming.{state_fault, IsStateUnder};
 ghost use Rattle.operator_book.specs.declared.state_fault.StateFault.TheVariants.{NoMemory};
 
-use crate::book::{BookFault, OpenFault};
+use crate::book::BookFault;
 use crate::handling::FirstRequest;
 use crate::machine::MachineState;
 use crate::plan::{Plan, SpareOutputs};
@@ -21,7 +21,7 @@ use crate::state_fault::StateFault;
 use crate::state_view::StateView;
 use crate::tick_memory::TickMemory;
 use dsx_messages::Modem;
-use grant_policy::Ranking;
+use grant_policy::Ranks;
 use operator_model::{Action, Heard, NextShare, Output, Share, SliceRow, Unfit, step_keeps_sound};
 use plant::{Consts, OperatorRow};
 use std::alloc::{AllocError, Global};
@@ -44,23 +44,17 @@ impl Model for SoundMachine {
     ghost invariant = { λ s. IsSound s.machine };
 }
 
-/// One operator's machine at work, with the ranking of its flows and no history: what a `Book` is
-/// except what it remembers, so that its memory does not grow with what is done. What contracts say
-/// of it they say of `sound`: what all operators share, the row and the state, which is sound. The
-/// type keeps that the ranking follows the row's policy.
+/// One operator's machine at work, with no history and no ranking: what a `Book` is except its ranking
+/// and what it remembers, so that its memory does not grow with what is done. What contracts say of it
+/// they say of `sound`: what all operators share, the row and the state, which is sound.
 pub struct Machine {
     sound: SoundMachine,
-    ranking: Ranking,
-    ghost same_policy: { ranking.policy ≡ sound.row.policy },
 }
 
 /// Written out, so that the crates above prove nothing of how the parts of a machine are dropped.
 impl Drop for Machine {
     fn drop(self) {
-        let Machine {
-            sound: _,
-            ranking: _,
-        } = self;
+        let Machine { sound: _ } = self;
     }
 }
 
@@ -110,15 +104,15 @@ impl SoundMachine {
 
     /// Plans an action that is not refused.
     #[inline(always)]
-    fn plan(
+    fn plan<R: Ranks>(
         &self,
         alloc: Global,
         spare: SpareOutputs,
         memory: &mut TickMemory,
-        ranking: &Ranking,
+        ranking: &R,
         action: Action,
     ) -> Result<Plan, AllocError>
-        requires policy { ranking.now.policy ≡ self.now.row.policy }
+        requires policy { R.policy ranking.now ≡ self.now.row.policy }
         requires allowed { IsAllowed self.now action }
         ensures plan { IfOk result (IsPlanOf self.now action) }
         ensures committable { IfOk result (IsCommittable self.now) }
@@ -196,18 +190,12 @@ impl SoundMachine {
 impl Machine {
     /// Returns the machine of an operator with nothing done: its provisioned flows exist, and
     /// nothing else. The caller knows that the row is one of a plant with these constants.
-    pub fn open(
-        alloc: Global,
-        row: &OperatorRow,
-        consts: &Consts,
-        ranking: Ranking,
-    ) -> Result<Machine, OpenFault>
+    pub fn open(alloc: Global, row: &OperatorRow, consts: &Consts) -> Result<Machine, AllocError>
         requires { IsRowOf consts.now row.now }
-        ensures ok { IfOk result (λ live. live.sound ≡ operator consts.now row.now (opened_state consts.now row.now)) }
-        ensures mismatch { (result ≡ Err OpenFault.PolicyMismatch) ↔ (ranking.policy ≢ row.now.policy) }
+        ensures { IfOk result (λ live. live.sound ≡ operator consts.now row.now (opened_state consts.now row.now)) }
     {
         let frame = consts.get_fields().channel.first_frame;
-        Machine::open_before(alloc, row, consts, ranking, frame)
+        Machine::open_before(alloc, row, consts, frame)
     }
 
     /// Returns the machine of an operator that joins a running plant before this frame, with
@@ -217,18 +205,13 @@ impl Machine {
         alloc: Global,
         row: &OperatorRow,
         consts: &Consts,
-        ranking: Ranking,
         frame: u32,
-    ) -> Result<Machine, OpenFault>
+    ) -> Result<Machine, AllocError>
         requires { IsRowOf consts.now row.now }
-        ensures ok { IfOk result (λ live. live.sound ≡ operator consts.now row.now (opened_before frame consts.now row.now)) }
-        ensures mismatch { (result ≡ Err OpenFault.PolicyMismatch) ↔ (ranking.policy ≢ row.now.policy) }
+        ensures { IfOk result (λ live. live.sound ≡ operator consts.now row.now (opened_before frame consts.now row.now)) }
     {
-        if ranking.policy() != row.get_fields().policy {
-            return Err(OpenFault::PolicyMismatch);
-        }
         let sound = SoundMachine::open_before(alloc, row, consts, frame)?;
-        Ok(Machine { sound, ranking })
+        Ok(Machine { sound })
     }
 
     /// Returns the machine of an operator that goes on from a state under this row: a state that was
@@ -238,24 +221,19 @@ impl Machine {
         alloc: Global,
         row: &OperatorRow,
         consts: &Consts,
-        ranking: Ranking,
         state: StateView,
     ) -> Result<Machine, StateFault>
         ensures ok { IfOk result (λ live. live.sound ≡ operator consts.now row.now state) }
-        ensures mismatch { ranking.policy ≢ row.now.policy → result ≡ Err StateFault.PolicyMismatch }
-        ensures fault { IfErr result (IsStateFault ranking.policy consts.now row.now state) }
-        ensures only { IsStateUnder consts.now row.now state → ranking.policy ≡ row.now.policy
-            → IfErr result (λ fault. fault ≡ NoMemory) }
+        ensures fault { IfErr result (λ f. (f ≡ NoMemory) ⊎ (state_fault consts.now row.now state ≡ Some f)) }
+        ensures only { IsStateUnder consts.now row.now state → IfErr result (λ fault. fault ≡ NoMemory) }
     {
-        if ranking.policy() != row.get_fields().policy {
-            return Err(StateFault::PolicyMismatch);
-        }
         let sound = SoundMachine::resume(alloc, row, consts, state)?;
-        Ok(Machine { sound, ranking })
+        Ok(Machine { sound })
     }
 
     /// Plans an action, or says why it is refused. A refusal comes before memory is taken: a stranger
-    /// first, then a tick past the last frame, then a slice that does not fit.
+    /// first, then a tick past the last frame, then a slice that does not fit. A tick ranks the flows by
+    /// the row's policy.
     #[inline(always)]
     pub fn plan(&self, alloc: Global, action: Action) -> Result<Plan, BookFault>
         ensures outputs { IfOk result (λ plan. plan.outputs.items ≡ (own_step self.now.sound action).outputs) }
@@ -278,7 +256,7 @@ impl Machine {
     }
 
     /// Plans an action as `plan` does, for a caller that knows that it is not refused, and has memory
-    /// for the outputs and for the lists of a tick.
+    /// for the outputs and for the lists of a tick. A tick ranks the flows by the row's policy.
     #[inline(always)]
     pub fn plan_allowed(
         &self,
@@ -292,7 +270,28 @@ impl Machine {
         ensures plan { IfOk result (IsPlanOf self.now.sound action) }
         ensures committable { IfOk result (IsCommittable self.now.sound) }
     {
-        self.sound.plan(alloc, spare, memory, &self.ranking, action)
+        let policy = self.row().get_fields().policy;
+        self.plan_allowed_by(alloc, spare, memory, &policy, action)
+    }
+
+    /// Plans an action as `plan_allowed` does. A tick ranks the flows by what the caller gives, which
+    /// follows the row's policy.
+    #[inline(always)]
+    pub fn plan_allowed_by<R: Ranks>(
+        &self,
+        alloc: Global,
+        spare: SpareOutputs,
+        memory: &mut TickMemory,
+        ranking: &R,
+        action: Action,
+    ) -> Result<Plan, AllocError>
+        requires policy { R.policy ranking.now ≡ self.now.sound.row.policy }
+        requires allowed { IsAllowed self.now.sound action }
+        ensures outputs { IfOk result (λ plan. plan.outputs.items ≡ (own_step self.now.sound action).outputs) }
+        ensures plan { IfOk result (IsPlanOf self.now.sound action) }
+        ensures committable { IfOk result (IsCommittable self.now.sound) }
+    {
+        self.sound.plan(alloc, spare, memory, ranking, action)
     }
 
     /// Commits a plan, and returns its outputs. The memory of a tick's grants is given back. If memory
@@ -351,7 +350,8 @@ impl Machine {
         self.sound.take_request(alloc, first)
     }
 
-    /// Plans an action and commits the plan. A refused action changes nothing.
+    /// Plans an action and commits the plan. A refused action changes nothing. A tick ranks the flows by
+    /// the row's policy.
     pub fn act(&mut self, alloc: Global, action: Action) -> Result<Vec<Output>, BookFault>
         ensures state { OnOk result (self.new.sound ≡ after_step self.old.sound action) }
         ensures outputs { IfOk result (λ outputs. outputs.items ≡ (own_step self.old.sound action).outputs) }

@@ -11,7 +11,7 @@ use crate::history::History;
 use crate::machine::MachineState;
 use crate::plan::{SpareOutputs, output_copies};
 use crate::tick_memory::TickMemory;
-use grant_policy::Ranking;
+use grant_policy::Ranks;
 use operator_model::{Action, Entry, Output, Outputs, SliceRow, replay_is_sound};
 use plant::{Consts, OperatorRow};
 use std::alloc::{AllocError, Global};
@@ -58,13 +58,13 @@ impl RecordedMachine {
     }
 
     /// Does an action that is not refused, and reports what it outputs.
-    pub(crate) fn act(
+    pub(crate) fn act<R: Ranks>(
         &mut self,
         alloc: Global,
-        ranking: &Ranking,
+        ranking: &R,
         action: Action,
     ) -> Result<Vec<Output>, AllocError>
-        requires policy { ranking.now.policy ≡ self.old.book.row.policy }
+        requires policy { R.policy ranking.now ≡ self.old.book.row.policy }
         requires allowed { IsAllowed (operator_of_book self.old.book) action }
         ensures state { OnOk result (self.new.book ≡ book_after_action self.old.book action) }
         ensures outputs { IfOk result (λ outputs. outputs.items

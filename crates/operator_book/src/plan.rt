@@ -72,7 +72,7 @@ pub(crate) enum HandledEffect {
 }
 
 impl SpareOutputs {
-    /// Returns a list that has no memory yet.
+    /// Creates an empty list that has no memory yet.
     #[inline(always)]
     pub fn new(alloc: Global) -> SpareOutputs {
         SpareOutputs {

@@ -8,7 +8,7 @@ ghost use Rattle.operator_book.specs.Planned.{IsPlanOf};
 use crate::machine::MachineState;
 use crate::plan::{Effect, Plan, SpareOutputs};
 use crate::tick_memory::TickMemory;
-use grant_policy::Ranking;
+use grant_policy::Ranks;
 use operator_model::Action;
 use std::alloc::{AllocError, Global};
 
@@ -16,16 +16,16 @@ impl MachineState {
     /// Plans an action that is not refused. Fails only if memory runs out.
     #[tactic(auto, unfolding(operator_model::specs::Machine::own_step))]
     #[inline(always)]
-    pub(crate) fn plan(
+    pub(crate) fn plan<R: Ranks>(
         &self,
         alloc: Global,
         spare: SpareOutputs,
         memory: &mut TickMemory,
-        ranking: &Ranking,
+        ranking: &R,
         action: Action,
     ) -> Result<Plan, AllocError>
         requires sound { IsSound self.now }
-        requires policy { ranking.now.policy ≡ self.now.row.policy }
+        requires policy { R.policy ranking.now ≡ self.now.row.policy }
         requires not_spent { is_spent self.now.state action ≡ false }
         requires fit { unfit_of self.now action ≡ None }
         ensures { IfOk result (IsPlanOf self.now action) }

@@ -6,12 +6,10 @@ ghost use Rattle.operator_book.specs.declared.state_fault.StateFault.TheVariants
 use dsx_messages::Modem;
 use std::alloc::AllocError;
 
-/// Why a machine cannot go on from a state under a row: `PolicyMismatch` is tried first, then the others in the order in
-/// which `state_fault` names them, and each names the number that disagrees.
+/// Why a machine cannot go on from a state under a row. The faults are tried in the order in which `state_fault` names them, and
+/// each names the number that disagrees.
 #[derive(Clone, Copy, Debug, PartialEq, Eq)]
 pub enum StateFault {
-    /// The ranking follows another policy than the row's.
-    PolicyMismatch,
     /// There are more flows than the row allows.
     TooManyFlows { flows: usize },
     /// There are more cached responses than the row allows.

@@ -1,6 +1,6 @@
 //! Memory for the lists of a tick.
 
-use slice_scheduler::{Elements, Flowing, Grants, ScheduleMemory};
+use slice_scheduler::{Elements, Flowing, Grants, Scheduler};
 use std::alloc::Global;
 
 /// Memory for the lists of a tick, used again from tick to tick, by whichever operator ticks. A list
@@ -8,25 +8,25 @@ use std::alloc::Global;
 #[derive(Drop)]
 pub struct TickMemory {
     pub(crate) flowing: Vec<Flowing>,
-    pub(crate) schedule: ScheduleMemory,
+    pub(crate) scheduler: Scheduler,
 }
 
 impl TickMemory {
-    /// Returns memory for no list yet. Takes none.
+    /// Creates memory with empty lists. Takes none.
     pub fn new(alloc: Global) -> TickMemory {
         TickMemory {
             flowing: Vec::new(alloc),
-            schedule: ScheduleMemory::new(alloc),
+            scheduler: Scheduler::new(alloc),
         }
     }
 
     /// Takes the memory of a frame's elements back that nobody needs any more.
     pub fn take_back(&mut self, elements: Elements) {
-        self.schedule.take_back_elements(elements);
+        self.scheduler.take_back_elements(elements);
     }
 
     /// Takes the memory of a frame's grants back that nobody needs any more.
     pub(crate) fn take_back_grants(&mut self, granted: Grants) {
-        self.schedule.take_back_grants(granted);
+        self.scheduler.take_back_grants(granted);
     }
 }

@@ -12,9 +12,9 @@ ghost use Rattle.operator_book.specs.Planned.{IsPlanFor, state_after_tick};
 use crate::machine::MachineState;
 use crate::plan::{Effect, Plan, SpareOutputs};
 use crate::tick_memory::TickMemory;
-use grant_policy::Ranking;
+use grant_policy::Ranks;
 use operator_model::{Output, given_up_have_no_grants, schedule_can_serve};
-use slice_scheduler::{At, AtFields, Elements, Served, schedule};
+use slice_scheduler::{At, AtFields, Elements, Served};
 use std::alloc::{AllocError, Global};
 use transactions::{GivenUp, Resends, Ticked};
 
@@ -41,14 +41,14 @@ fn frame_outputs(
 impl MachineState {
     /// Returns the schedule of the frame. What is abandoned has no grants, so that it may be
     /// scheduled before anything is undone.
-    fn frame_schedule(
+    fn frame_schedule<R: Ranks>(
         &self,
         alloc: Global,
         memory: &mut TickMemory,
-        ranking: &Ranking,
+        ranking: &R,
     ) -> Result<Served, AllocError>
         requires sound { IsSound self.now }
-        requires policy { ranking.now.policy ≡ self.now.row.policy }
+        requires policy { R.policy ranking.now ≡ self.now.row.policy }
         ensures elements { IfOk result (λ served. served.elements ≡ frame_elements self.now) }
         ensures granted { IfOk result (λ served. served.granted ≡ frame_grants self.now) }
     {
@@ -64,7 +64,7 @@ impl MachineState {
             units: consts.units,
         });
         let flowing = memory.flowing.as_slice();
-        let served = schedule(alloc, &mut memory.schedule, flowing, &at, ranking)?;
+        let served = memory.scheduler.schedule(alloc, flowing, &at, ranking)?;
         Ok(served)
     }
 
@@ -116,15 +116,15 @@ impl MachineState {
     }
 
     /// Plans a tick. The timers count when it is committed.
-    pub(crate) fn tick_plan(
+    pub(crate) fn tick_plan<R: Ranks>(
         &self,
         alloc: Global,
         spare: SpareOutputs,
         memory: &mut TickMemory,
-        ranking: &Ranking,
+        ranking: &R,
     ) -> Result<Plan, AllocError>
         requires sound { IsSound self.now }
-        requires policy { ranking.now.policy ≡ self.now.row.policy }
+        requires policy { R.policy ranking.now ≡ self.now.row.policy }
         requires not_spent { self.now.state.frame < 4294967295 }
         ensures { IfOk result (IsPlanFor self.now (tick_result self.now)) }
     {

@@ -1,4 +1,4 @@
 use Rattle.operator_book.proofs.live.Machine.first_request.Goals as goal
 
 pub returns : goal.returns
-returns g c = rw (← c.self.view_is) c.first_request.ensures
+returns c = rw (← c.self.view_is) c.first_request.ensures

@@ -17,7 +17,7 @@ returns-clause-elements g c =
     let flows : c.as_slice-flowing.result.now ≡ flowing_in c.args.self.now.state.flows = search rules in
     let left : flowing_in (flows_left c.args.self.now.state) ≡ flowing_in c.args.self.now.state.flows = c.given_up_have_no_grants.ensures c.args.self.now c.requires.sound in
     let at : here ≡ at_frame c.args.self.now = search rules in
-    c.in_ok-served.ensures.elements ∙ same_elements c.args.ranking.now.policy c.args.self.now.row.policy c.new-at.result (at_frame c.args.self.now) c.as_slice-flowing.result.now (flowing_in (flows_left c.args.self.now.state)) c.requires.policy (c.new-at.ensures ∙ at) (flows ∙ sym left)
+    c.in_ok-served.ensures.elements ∙ same_elements (g.R.Ranks.policy c.args.ranking.now) c.args.self.now.row.policy c.new-at.result (at_frame c.args.self.now) c.as_slice-flowing.result.now (flowing_in (flows_left c.args.self.now.state)) c.requires.policy (c.new-at.ensures ∙ at) (flows ∙ sym left)
 
 pub returns-clause-granted : goal.returns-clause-granted
 returns-clause-granted g c =
@@ -25,4 +25,4 @@ returns-clause-granted g c =
     let flows : c.as_slice-flowing.result.now ≡ flowing_in c.args.self.now.state.flows = search rules in
     let left : flowing_in (flows_left c.args.self.now.state) ≡ flowing_in c.args.self.now.state.flows = c.given_up_have_no_grants.ensures c.args.self.now c.requires.sound in
     let at : here ≡ at_frame c.args.self.now = search rules in
-    c.in_ok-served.ensures.granted ∙ same_grants c.args.ranking.now.policy c.args.self.now.row.policy c.new-at.result (at_frame c.args.self.now) c.as_slice-flowing.result.now (flowing_in (flows_left c.args.self.now.state)) c.requires.policy (c.new-at.ensures ∙ at) (flows ∙ sym left)
+    c.in_ok-served.ensures.granted ∙ same_grants (g.R.Ranks.policy c.args.ranking.now) c.args.self.now.row.policy c.new-at.result (at_frame c.args.self.now) c.as_slice-flowing.result.now (flowing_in (flows_left c.args.self.now.state)) c.requires.policy (c.new-at.ensures ∙ at) (flows ∙ sym left)
