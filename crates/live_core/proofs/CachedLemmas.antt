@@ -1,29 +1,56 @@
--- An entry of a route cache gives the operator that lists the modem.
-use Rattle.std.proofs.Common.{◌≡◌, ℕ, ◌<◌, List, ◌∷◌, All, length, slice_index_or, drop, Option, Some, suc, sym, ap, subst, ◌∙◌, inl, inr, arith}
-use Rattle.std.proofs.lemmas.Bool.{cases_lt}
-use Rattle.std.proofs.lemmas.List.{get_or_past}
-use Rattle.std.proofs.lemmas.List.Elements.{All-cons}
-use Rattle.std.proofs.lemmas.Nat.{be_bytes_8}
-use Rattle.dsx_messages.specs.Modem.{address_number}
-use Rattle.live_core.proofs.Common.{Modem, RowFields, holder}
-use Rattle.live_core.specs.Cached.{IsAddress, IsOfHolder, modem_of}
+-- Cached pairs stay right.
+use Rattle.std.proofs.Common.{◌≡◌, ℕ, Bool, true, List, [], ◌∷◌, Result, Ok, Err, Some, OnOk, OnErr, refl, sym, ap, subst, ◌∙◌, inl, inr, arith}
+use Rattle.std.specs.List.{slice_get, Contains}
+use Rattle.std.specs.Map.{lookup}
+use Rattle.std.proofs.lemmas.Slice.Eq.{bytes_eq-Decides}
+use Rattle.dsx_messages.specs.declared.modem.Modem.{Modem}
+use Rattle.plant.specs.declared.operator_row.RowFields.{RowFields}
+use Rattle.plant.specs.Row.{same_modem}
+use Rattle.plant.specs.Roster.{holder}
+use Rattle.lru.specs.LruCache.{LruCache, lru_cache, promoted, put_entries}
+use Rattle.lru.proofs.CallerLemmas.{Contains-promoted, Contains-lookup, Contains-put_entries}
+use Rattle.live_core.specs.Cached.{AreHolders}
 
-byte_at : (bytes : List ℕ) → All (λ byte. byte < 256) bytes → (i : ℕ) → slice_index_or bytes i 0 < 256
-byte_at bytes small i = elim (cases_lt i (length bytes)) [
-  | inl within ↦ small i 0 within
-  | inr past ↦ subst (λ (n : ℕ). n < 256) (sym (get_or_past bytes i 0 past)) (omega arith)
+same_is_equal : (a b : Modem) → same_modem a b ≡ true → a ≡ b
+same_is_equal a b h = ap (λ (bytes : List ℕ). record { 0 = bytes }) ((bytes_eq-Decides a.0 b.0).0 h)
+
+pub promoted_right : (rows : List RowFields) (test : Modem → Bool) (pairs : List (Modem × ℕ)) → AreHolders rows pairs → AreHolders rows (promoted test pairs)
+promoted_right rows test pairs right modem op held = right modem op (Contains-promoted test pairs (modem, op) held)
+
+pub lookup_right : (rows : List RowFields) (modem : Modem) (pairs : List (Modem × ℕ)) (op : ℕ) → AreHolders rows pairs
+    → lookup (same_modem modem) pairs ≡ Some op → holder rows modem ≡ Some op
+lookup_right rows modem pairs op right found =
+    let there = Contains-lookup (same_modem modem) pairs op found in
+    subst (λ (m : Modem). holder rows m ≡ Some op) (sym (same_is_equal modem there.0 there.2)) (right there.0 op there.1)
+
+pub put_right : (rows : List RowFields) (cache : LruCache Modem ℕ) (modem : Modem) (op : ℕ) → AreHolders rows cache.entries → holder rows modem ≡ Some op
+    → AreHolders rows (put_entries same_modem cache modem op)
+put_right rows cache modem op right is other k held = elim (Contains-put_entries same_modem cache modem op (other, k) held) [
+  | inl was ↦ right other k was
+  | inr put ↦ let at : holder rows modem ≡ Some k = is ∙ ap (λ (n : ℕ). Some n) (sym put.0) in elim put.1 [
+    | inl key ↦ subst (λ (m : Modem). holder rows m ≡ Some k) (sym key) at
+    | inr same ↦ subst (λ (m : Modem). holder rows m ≡ Some k) (same_is_equal modem other same.2) at
+  ]
 ]
 
-with_zero : (bytes : List ℕ) → All (λ byte. byte < 256) bytes → All (λ byte. byte < 256) (0 ∷ bytes)
-with_zero bytes = All-cons (λ byte. byte < 256) 0 bytes (omega arith)
+-- whether or not the pair found memory
+pub after_put_right : {X Y : Type 0} (rows : List RowFields) (result : Result X Y) (old new : LruCache Modem ℕ) (modem : Modem) (op : ℕ)
+    → AreHolders rows old.entries → holder rows modem ≡ Some op
+    → OnOk result (new ≡ lru_cache (put_entries same_modem old modem op) old.cap) → OnErr result (new ≡ old) → AreHolders rows new.entries
+after_put_right rows (Ok x) old new modem op right is ok err =
+    subst (λ (c : LruCache Modem ℕ). AreHolders rows c.entries) (sym ok) (put_right rows old modem op right is)
+after_put_right rows (Err y) old new modem op right is ok err =
+    subst (λ (c : LruCache Modem ℕ). AreHolders rows c.entries) (sym err) right
 
-pub modem_of_number : (modem : Modem) (number : ℕ) → IsAddress modem → number ≡ address_number modem.0 → modem_of number ≡ modem
-modem_of_number modem number address is = ap (λ (bytes : List ℕ). record { 0 = drop 2 bytes })
-    (be_bytes_8 (0 ∷ 0 ∷ modem.0) number (ap (λ (n : ℕ). suc (suc n)) address.six)
-    (byte_at (0 ∷ 0 ∷ modem.0) (with_zero (0 ∷ modem.0) (with_zero modem.0 address.bytes))) is)
+same_some : {X : Type 0} (x y : X) → Some x ≡ Some y → x ≡ y
+same_some x y h = cc
 
-pub entry_right : (rows : List RowFields) (entries : List (Option (ℕ × ℕ))) (index : ℕ) (entry : Option (ℕ × ℕ))
-    (known op : ℕ) → All (IsOfHolder rows) entries → index < length entries → entry ≡ slice_index_or entries index entry
-    → entry ≡ Some (known, op) → holder rows (modem_of known) ≡ Some op
-entry_right rows entries index entry known op right within read found =
-    right index entry within known op (sym read ∙ found)
+first_there : {X : Type 0} (xs : List X) (x : X) → slice_get xs 0 ≡ Some x → Contains xs x
+first_there [] x is = cc
+first_there {X} (y ∷ xs) x is = subst (λ (z : X). Contains (z ∷ xs) x) (sym (same_some y x is)) (0, omega arith, refl)
+
+-- the pair that was used last
+pub first_right : (rows : List RowFields) (modem known : Modem) (pairs : List (Modem × ℕ)) (op : ℕ) → AreHolders rows pairs
+    → slice_get pairs 0 ≡ Some (known, op) → same_modem known modem ≡ true → holder rows modem ≡ Some op
+first_right rows modem known pairs op right first same =
+    subst (λ (m : Modem). holder rows m ≡ Some op) (same_is_equal known modem same) (right known op (first_there pairs (known, op) first))

@@ -1,7 +1,6 @@
 mod Common
 pub mod CachedLemmas
 pub mod PlaceLemmas
-pub mod FollowLemmas
 pub mod DeskPlaces
 pub mod OfferLemmas
 pub mod FreeLemmas
@@ -22,8 +21,10 @@ pub mod PartLemmas
 pub mod JudgeLemmas
 pub mod FaultLemmas
 pub mod ResumeLemmas
+pub mod PolicyLemmas
 pub mod OpenLemmas
 pub mod RestLemmas
 pub mod ResumeFaultLemmas
 pub mod ChangedLemmas
 pub mod RestFaultLemmas
+pub mod FollowingLemmas

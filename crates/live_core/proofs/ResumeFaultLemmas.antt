@@ -26,7 +26,7 @@ together_seen see frame from xs at waits = together frame from (map see xs) at (
 
 -- ---- one that does not
 
-module _ {D : Type 0} {F : D → Type 0} {m : _} (frame : ℕ) (from : Option ℕ) (lives : List (Machine D F m)) (i : ℕ) (live : Machine D F m) (lt : i < length lives) (is : live ≡ get_or lives i live)
+module _ (frame : ℕ) (from : Option ℕ) (lives : List Machine) (i : ℕ) (live : Machine) (lt : i < length lives) (is : live ≡ get_or lives i live)
     (frames : All (IsAtFrame frame) (take i lives)) (alike : All (WaitsFrom from) (take i lives)) where
   first_odd : (at : ℕ) (reason : Operator → Type 0) → at ≡ i → reason (sound_of live) → IsFirstOdd frame from (map sound_of lives) at reason
   first_odd at reason same why =

@@ -10,9 +10,9 @@ abbrev pub book_of : Operator → BookView
 book_of o = record { row = o.row; consts = o.consts; state = o.state; history = [] }
 
 -- the desk's book, without a history
-abbrev pub slot_book : {D : Type 0} {F : D → Type 0} {m : _} → LiveSlot D F m → BookView
+abbrev pub slot_book : LiveSlot → BookView
 slot_book desk = book_of desk.live.sound
 
 -- its frames that wait
-abbrev pub slot_waiting : {D : Type 0} {F : D → Type 0} {m : _} → LiveSlot D F m → List (ℕ × ElementsFields)
+abbrev pub slot_waiting : LiveSlot → List (ℕ × ElementsFields)
 slot_waiting desk = desk.waiting.items

@@ -13,3 +13,4 @@ pub mod LiveOperator
 pub mod Resting
 pub mod Changed
 pub mod Planning
+pub mod Following

@@ -12,38 +12,38 @@ use Rattle.live_core.specs.declared.resume_fault.ResumeFault.TheVariants.{NotAtF
 use Rattle.live_core.specs.DeskView.{book_of}
 use Rattle.live_core.specs.Resumed.{later_of, waits_from}
 
-abbrev pub sound_of : {D : Type 0} {F : D → Type 0} {m : _} → Machine D F m → Operator
+abbrev pub sound_of : Machine → Operator
 sound_of live = live.sound
 
 -- its row, its slice in force, and its slice once what waits has taken force
-abbrev pub row_of : {D : Type 0} {F : D → Type 0} {m : _} → Machine D F m → RowFields
+abbrev pub row_of : Machine → RowFields
 row_of live = live.sound.row
 
-abbrev pub current_slice : {D : Type 0} {F : D → Type 0} {m : _} → Machine D F m → Minislots
+abbrev pub current_slice : Machine → Minislots
 current_slice live = live.sound.state.share.slice
 
-abbrev pub later_at : {D : Type 0} {F : D → Type 0} {m : _} → Machine D F m → Minislots
+abbrev pub later_at : Machine → Minislots
 later_at live = later_of live.sound
 
 -- its book, without a history
-abbrev pub book_by : {D : Type 0} {F : D → Type 0} {m : _} → Machine D F m → BookView
+abbrev pub book_by : Machine → BookView
 book_by live = book_of live.sound
 
-abbrev pub IsSoundAt : {D : Type 0} {F : D → Type 0} {m : _} → Machine D F m → Type 0
+abbrev pub IsSoundAt : Machine → Type 0
 IsSoundAt live = IsSound live.sound
 
 -- it shares this with the others, is at this frame, and its slices wait from this one on
-abbrev pub Shares : {D : Type 0} {F : D → Type 0} {m : _} → ConstsFields → Machine D F m → Type 0
+abbrev pub Shares : ConstsFields → Machine → Type 0
 Shares consts live = live.sound.consts ≡ consts
 
-abbrev pub IsAtFrame : {D : Type 0} {F : D → Type 0} {m : _} → ℕ → Machine D F m → Type 0
+abbrev pub IsAtFrame : ℕ → Machine → Type 0
 IsAtFrame frame live = live.sound.state.frame ≡ frame
 
-abbrev pub WaitsFrom : {D : Type 0} {F : D → Type 0} {m : _} → Option ℕ → Machine D F m → Type 0
+abbrev pub WaitsFrom : Option ℕ → Machine → Type 0
 WaitsFrom from live = waits_from live.sound ≡ from
 
 -- this operator does not go along with the others, for the reason that the fault names
-abbrev pub IsOdd : {D : Type 0} {F : D → Type 0} {m : _} → ℕ → Option ℕ → ℕ → Machine D F m → ResumeFault → Type 0
+abbrev pub IsOdd : ℕ → Option ℕ → ℕ → Machine → ResumeFault → Type 0
 IsOdd frame from op live (NotAtFrame at) = (at ≡ op) × ¬ IsAtFrame frame live
 IsOdd frame from op live (SliceChangesDiffer at) = (at ≡ op) × ¬ WaitsFrom from live
 IsOdd frame from op live BeforeFirstFrame = ⊥

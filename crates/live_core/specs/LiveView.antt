@@ -6,5 +6,5 @@ use Rattle.live_core.specs.declared.held.LiveCore.{LiveCore}
 use Rattle.live_core.specs.DeskView.{slot_book, slot_waiting}
 
 -- a core of which the histories are forgotten
-abbrev pub live_view : {D : Type 0} {F : D → Type 0} {m : _} → LiveCore D F m → CoreView
+abbrev pub live_view : LiveCore → CoreView
 live_view core = core_of core.routes (map slot_book core.desks.items) (map slot_waiting core.desks.items) core.gather

@@ -17,6 +17,7 @@ use crate::core_fault::CoreFault;
 use crate::core_memory::CoreMemory;
 use crate::desk::LiveSlot;
 use dsx_messages::Modem;
+use grant_policy::Ranks;
 use map_assembly::{Gather, MapBytes};
 use operator_book::{BookFault, FirstRequest, Plan, SpareOutputs, TickMemory};
 use operator_model::{Action, Heard, Output};
@@ -126,17 +127,19 @@ fn frame_copy(
 }
 
 impl LiveSlot {
-    /// Plans an action of the operator at this place. The caller knows that the operator's row lists the modem of the action, and
-    /// that a slice of the action fits.
+    /// Plans an action of the operator at this place. A tick ranks the flows by what the caller gives, which follows the row's
+    /// policy. The caller knows that the operator's row lists the modem of the action, and that a slice of the action fits.
     #[inline(always)]
-    pub(crate) fn plan(
+    pub(crate) fn plan<R: Ranks>(
         &self,
         alloc: Global,
         spare: SpareOutputs,
         memory: &mut TickMemory,
         op: Op,
+        ranking: &R,
         action: Action,
     ) -> Result<ActPlan, CoreFault>
+        requires policy { R.policy ranking.now ≡ self.now.live.sound.row.policy }
         requires mine { stranger_of self.now.live.sound.row action ≡ None }
         requires fit { unfit_of self.now.live.sound action ≡ None }
         ensures op { IfOk result (λ act. act.op ≡ op) }
@@ -148,7 +151,10 @@ impl LiveSlot {
         if self.live.is_spent(&action) {
             return Err(CoreFault::Book(BookFault::FramesSpent));
         }
-        match self.live.plan_allowed(alloc, spare, memory, action) {
+        match self
+            .live
+            .plan_allowed_by(alloc, spare, memory, ranking, action)
+        {
             Ok(plan) => Ok(ActPlan { op, plan }),
             Err(AllocError) => Err(CoreFault::NoMemory),
         }

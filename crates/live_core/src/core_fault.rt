@@ -1,30 +1,9 @@
 //! Why a step was refused.
 
-ghost use Rattle.std.specs.Prelude.{◌≡◌};
-ghost use Rattle.live_core.specs.declared.core_fault.CoreOpenFault.TheVariants as open_faults;
-
 use dsx_messages::Modem;
 use map_assembly::GatherFault;
 use operator_book::BookFault;
 use plant::Op;
-use std::alloc::AllocError;
-
-/// Says why a plant's core was not opened. `RankingsMismatch` is tried first.
-#[derive(Clone, Copy, Debug, PartialEq, Eq)]
-pub enum CoreOpenFault {
-    /// Memory ran out before any effect.
-    NoMemory,
-    /// There is not one ranking for each operator that follows its policy.
-    RankingsMismatch,
-}
-
-impl From<AllocError> for CoreOpenFault {
-    ghost from_gives = { λ _ fault. fault ≡ open_faults.NoMemory };
-
-    fn from(_error: AllocError) -> CoreOpenFault {
-        CoreOpenFault::NoMemory
-    }
-}
 
 /// Why new slices were refused. Fault by fault over all operators, and of one fault the least
 /// operator or pair.

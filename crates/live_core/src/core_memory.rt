@@ -14,7 +14,7 @@ pub(crate) struct CoreMemory {
 }
 
 impl CoreMemory {
-    /// Returns memory for nothing yet. Takes none.
+    /// Creates memory with empty lists. Takes none.
     pub(crate) fn new(alloc: Global) -> CoreMemory {
         CoreMemory {
             outputs: SpareOutputs::new(alloc),

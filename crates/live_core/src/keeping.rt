@@ -1,6 +1,6 @@
 //! What a live core always keeps.
 
-ghost use Rattle.std.specs.Prelude.{◌≡◌, ◌≤◌, false, length, option_map, slice_get};
+ghost use Rattle.std.specs.Prelude.{◌≡◌, ◌≤◌, false, map, length, option_map, slice_get};
 ghost use Rattle.plant.specs.Plant.{IsPlant};
 ghost use Rattle.map_assembly.specs.Gathering.{IsGathering};
 ghost use Rattle.map_assembly.specs.LettingGo.{has_begun};
@@ -34,6 +34,15 @@ impl LiveCore {
     {
         // For the proof: a plant has an operator.
         self.always();
+    }
+
+    /// States that each machine has the policy of the plant's row at its place. Does nothing.
+    pub fn always_policies(&self)
+        ensures { map (λ book. book.row.policy) (live_view self.now).books
+            ≡ map (λ row. row.policy) (live_view self.now).plant.rows }
+    {
+        // For the proof: what the type keeps, which is known where a field is read.
+        let _ = &self.desks;
     }
 
     /// Returns the plant that was opened.

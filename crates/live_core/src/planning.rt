@@ -1,9 +1,10 @@
 //! Planning an action of an operator, and committing the plan.
 
-ghost use Rattle.std.specs.Prelude.{◌≡◌, ◌<◌, ◌++◌, ◌↔◌, ℕ, List, slice_get, vec_len, Some, IfOk, OnOk, OnErr};
+ghost use Rattle.std.specs.Prelude.{◌≡◌, ◌<◌, ◌++◌, ◌↔◌, ℕ, List, option_map, slice_get, vec_len, Some, IfOk, OnOk, OnErr};
 ghost use Rattle.plant.specs.Roster.{holder};
 ghost use Rattle.operator_model.specs.declared.action.Action.{Action};
 ghost use Rattle.operator_model.specs.declared.action.Action.TheVariants as actions;
+ghost use Rattle.operator_model.specs.Replay.{BookView};
 ghost use Rattle.operator_book.specs.declared.handling.FirstRequest.{FirstRequest};
 ghost use Rattle.run_model.specs.declared.step.Out.{Out};
 ghost use Rattle.run_model.specs.Steps.{Acts};
@@ -17,6 +18,7 @@ use crate::act_plan::ActPlan;
 use crate::core_fault::CoreFault;
 use crate::held::LiveCore;
 use dsx_messages::Modem;
+use grant_policy::{Policy, Ranks};
 use operator_book::{FirstRequest, SpareOutputs, TickMemory};
 use operator_model::{Action, Heard};
 use plant::Op;
@@ -34,9 +36,55 @@ impl LiveCore {
         self.routes.place_of(modem)
     }
 
-    /// Plans an action of the operator at this place, if there is one. The action is one of a step.
+    /// Returns the policy of the operator at this place, or nothing past the last operator.
+    #[inline(always)]
+    pub(crate) fn policy_of(&self, op: Op) -> Option<Policy>
+        ensures { result ≡ option_map (λ book. book.row.policy) (slice_get (live_view self.now).books op) }
+    {
+        let machine = self.machine(op)?;
+        Some(machine.row().get_fields().policy)
+    }
+
+    /// Plans an action of the operator at this place, if there is one. The action is one of a step. A tick ranks the flows by the
+    /// policy of the operator's row.
     pub fn plan_act(&self, alloc: Global, op: Op, action: Action) -> Result<ActPlan, CoreFault>
         requires { IsOfAStep (live_view self.now).plant op action }
+        ensures plan { IfOk result (IsActPlan (live_view self.now) op action) }
+        ensures fault { IsReported result (act_fault op action (slice_get (live_view self.now).books op)) }
+    {
+        let Some(policy) = self.policy_of(op) else {
+            return Err(CoreFault::UnknownOperator { op });
+        };
+        self.plan_act_by(alloc, op, &policy, action)
+    }
+
+    /// Plans a tick of the operator at this place, if there is one, as `plan_act` does. The flows are ranked by what the caller
+    /// gives, which follows the policy of the operator's row.
+    pub fn plan_tick_by<R: Ranks>(
+        &self,
+        alloc: Global,
+        op: Op,
+        ranking: &R,
+    ) -> Result<ActPlan, CoreFault>
+        requires { (book : BookView) → slice_get (live_view self.now).books op ≡ Some book
+            → R.policy ranking.now ≡ book.row.policy }
+        ensures plan { IfOk result (IsActPlan (live_view self.now) op actions.Tick) }
+        ensures fault { IsReported result (act_fault op actions.Tick (slice_get (live_view self.now).books op)) }
+    {
+        self.plan_act_by(alloc, op, ranking, Action::Tick)
+    }
+
+    /// Plans an action of the operator at this place, if there is one, and ranks the flows of a tick by what the caller gives.
+    fn plan_act_by<R: Ranks>(
+        &self,
+        alloc: Global,
+        op: Op,
+        ranking: &R,
+        action: Action,
+    ) -> Result<ActPlan, CoreFault>
+        requires step { IsOfAStep (live_view self.now).plant op action }
+        requires policy { (book : BookView) → slice_get (live_view self.now).books op ≡ Some book
+            → R.policy ranking.now ≡ book.row.policy }
         ensures plan { IfOk result (IsActPlan (live_view self.now) op action) }
         ensures fault { IsReported result (act_fault op action (slice_get (live_view self.now).books op)) }
     {
@@ -44,18 +92,22 @@ impl LiveCore {
             return Err(CoreFault::UnknownOperator { op });
         }
         let mut memory = TickMemory::new(alloc);
-        self.desks[op].plan(alloc, SpareOutputs::new(alloc), &mut memory, op, action)
+        let spare = SpareOutputs::new(alloc);
+        self.desks[op].plan(alloc, spare, &mut memory, op, ranking, action)
     }
 
-    /// Plans an action as `plan_act` does, in the core's memory.
+    /// Plans an action as `plan_act_by` does, in the core's memory.
     #[inline(always)]
-    pub(crate) fn plan_act_in_memory(
+    pub(crate) fn plan_act_in_memory<R: Ranks>(
         &mut self,
         alloc: Global,
         op: Op,
+        ranking: &R,
         action: Action,
     ) -> Result<ActPlan, CoreFault>
-        requires { IsOfAStep (live_view self.old).plant op action }
+        requires step { IsOfAStep (live_view self.old).plant op action }
+        requires policy { (book : BookView) → slice_get (live_view self.old).books op ≡ Some book
+            → R.policy ranking.now ≡ book.row.policy }
         ensures plan { IfOk result (IsActPlan (live_view self.old) op action) }
         ensures fault { IsReported result (act_fault op action (slice_get (live_view self.old).books op)) }
         ensures core { live_view self.new ≡ live_view self.old }
@@ -64,7 +116,7 @@ impl LiveCore {
             return Err(CoreFault::UnknownOperator { op });
         }
         let spare = replace(&mut self.memory.outputs, SpareOutputs::new(alloc));
-        self.desks[op].plan(alloc, spare, &mut self.memory.tick, op, action)
+        self.desks[op].plan(alloc, spare, &mut self.memory.tick, op, ranking, action)
     }
 
     /// Puts what was received of a modem into the inbox of the operator at this place, which has the modem, and appends the outputs
@@ -91,9 +143,9 @@ impl LiveCore {
     }
 
     /// Puts what was received of a modem into the inbox of the operator at this place, if there is one, and appends the outputs of
-    /// that, as the action `Arrive` has them. The action is one of a step.
+    /// that, as the action `Arrive` has them. The action is one of a step: the caller knows that this operator has the modem.
     #[inline(always)]
-    pub(crate) fn receive(
+    pub fn receive(
         &mut self,
         alloc: Global,
         op: Op,

@@ -1,7 +1,9 @@
 //! One step of a live core.
 
-ghost use Rattle.std.specs.Prelude.{◌≡◌, [], ◌∷◌, ◌++◌, List, slice_get, OnOk, OnErr, IfOk};
+ghost use Rattle.std.specs.Prelude.{◌≡◌, [], ◌∷◌, ◌++◌, List, map, slice_get, Some, OnOk, OnErr, IfOk};
 ghost use Rattle.operator_model.specs.declared.action.Action.TheVariants as actions;
+ghost use Rattle.operator_model.specs.Replay.{BookView};
+ghost use Rattle.plant.specs.declared.operator_row.RowFields.{RowFields};
 ghost use Rattle.run_model.specs.declared.step.Out.{Out};
 ghost use Rattle.run_model.specs.declared.step.Step.{Step};
 ghost use Rattle.run_model.specs.declared.step.Step.TheVariants as steps;
@@ -10,11 +12,13 @@ ghost use Rattle.live_core.specs.Faults.{act_fault, collect_fault, step_fault, I
 ghost use Rattle.live_core.specs.Reachable.{IsOfAStep};
 ghost use Rattle.live_core.specs.Performing.{Performs};
 ghost use Rattle.live_core.specs.After.{LeadsOnFromStart};
+ghost use Rattle.live_core.specs.Following.{FollowRows};
 ghost use Rattle.live_core.specs.LiveView.{live_view};
 
 use crate::core_fault::CoreFault;
 use crate::held::LiveCore;
 use dsx_messages::Modem;
+use grant_policy::Ranks;
 use map_assembly::Gather;
 use operator_book::TickMemory;
 use operator_model::{Action, Heard, Output};
@@ -70,7 +74,35 @@ impl LiveCore {
         self.memory.list = outs;
     }
 
-    /// Performs an action of the operator at this place, if there is one.
+    /// Performs an action of the operator at this place, if there is one. A tick ranks the flows by what the caller gives, which
+    /// follows the policy of the operator's row.
+    #[inline(always)]
+    fn act_by<R: Ranks>(
+        &mut self,
+        alloc: Global,
+        op: Op,
+        ranking: &R,
+        action: Action,
+        outs: &mut Vec<Out>,
+    ) -> Result<(), CoreFault>
+        requires step { IsOfAStep (live_view self.old).plant op action }
+        requires policy { (book : BookView) → slice_get (live_view self.old).books op ≡ Some book
+            → R.policy ranking.now ≡ book.row.policy }
+        ensures ok { OnOk result ((now : List Out) × (outs.new.items ≡ outs.old.items ++ now)
+            × Performs (Acts op action) (live_view self.old) (live_view self.new) now) }
+        ensures outs { OnErr result (outs.new.items ≡ outs.old.items) }
+        ensures err { OnErr result (live_view self.new ≡ live_view self.old) }
+        ensures fault { IsReported result (act_fault op action (slice_get (live_view self.old).books op)) }
+    {
+        let act = self.plan_act_in_memory(alloc, op, ranking, action)?;
+        match self.commit_act(alloc, act, outs) {
+            Ok(()) => Ok(()),
+            Err(AllocError) => Err(CoreFault::NoMemory),
+        }
+    }
+
+    /// Performs an action of the operator at this place, if there is one. A tick ranks the flows by the policy of the operator's
+    /// row.
     #[inline(always)]
     fn act_if(
         &mut self,
@@ -86,11 +118,32 @@ impl LiveCore {
         ensures err { OnErr result (live_view self.new ≡ live_view self.old) }
         ensures fault { IsReported result (act_fault op action (slice_get (live_view self.old).books op)) }
     {
-        let act = self.plan_act_in_memory(alloc, op, action)?;
-        match self.commit_act(alloc, act, outs) {
-            Ok(()) => Ok(()),
-            Err(AllocError) => Err(CoreFault::NoMemory),
+        match self.policy_of(op) {
+            None => Err(CoreFault::UnknownOperator { op }),
+            Some(policy) => self.act_by(alloc, op, &policy, action, outs),
         }
+    }
+
+    /// Performs a tick of the operator at this place, if there is one, and appends its outputs. The flows are ranked by what the
+    /// caller gives, which follows the policy of the operator's row (implementation-specific). A refused tick changes nothing, and
+    /// appends nothing.
+    #[inline(always)]
+    pub fn tick_by<R: Ranks>(
+        &mut self,
+        alloc: Global,
+        op: Op,
+        ranking: &R,
+        outs: &mut Vec<Out>,
+    ) -> Result<(), CoreFault>
+        requires { (book : BookView) → slice_get (live_view self.old).books op ≡ Some book
+            → R.policy ranking.now ≡ book.row.policy }
+        ensures ok { OnOk result ((now : List Out) × (outs.new.items ≡ outs.old.items ++ now)
+            × Performs (Acts op actions.Tick) (live_view self.old) (live_view self.new) now) }
+        ensures outs { OnErr result (outs.new.items ≡ outs.old.items) }
+        ensures err { OnErr result (live_view self.new ≡ live_view self.old) }
+        ensures fault { IsReported result (act_fault op actions.Tick (slice_get (live_view self.old).books op)) }
+    {
+        self.act_by(alloc, op, ranking, Action::Tick, outs)
     }
 
     /// Lets the operator at this place, if there is one, handle what it received first.
@@ -202,6 +255,59 @@ impl LiveCore {
         empty(&mut self.memory.tick, &mut self.gather, outs);
         self.step_into(alloc, step, outs)?;
         Ok(())
+    }
+
+    /// Performs a tick as `step_over` does. The flows are ranked by what the caller gives, which follows the policy of the operator's
+    /// row.
+    #[inline(always)]
+    fn tick_over_by<R: Ranks>(
+        &mut self,
+        alloc: Global,
+        op: Op,
+        ranking: &R,
+        outs: &mut Vec<Out>,
+    ) -> Result<(), CoreFault>
+        requires { (row : RowFields) → slice_get (live_view self.old).plant.rows op ≡ Some row
+            → R.policy ranking.now ≡ row.policy }
+        ensures ok { OnOk result (Performs (Steps (steps.Tick op)) (live_view self.old) (live_view self.new) outs.new.items) }
+        ensures reached { OnOk result (LeadsOnFromStart (live_view self.old) (steps.Tick op ∷ []) outs.new.items
+            (live_view self.new)) }
+        ensures err { OnErr result (live_view self.new ≡ live_view self.old) }
+        ensures outs { OnErr result (outs.new.items ≡ []) }
+        ensures fault { IsReported result (step_fault (live_view self.old) (steps.Tick op)) }
+    {
+        // For the proof: what always holds of `self`, and that each machine has the policy of the row at its place.
+        self.always();
+        self.always_policies();
+        empty(&mut self.memory.tick, &mut self.gather, outs);
+        self.tick_by(alloc, op, ranking, outs)?;
+        Ok(())
+    }
+
+    /// Performs a step as `step_over` does. A tick of the operator at a place for which there is a ranking is ranked by it, and any
+    /// other by the policy of the row (implementation-specific). The caller knows that the rankings follow the rows' policies.
+    #[inline(always)]
+    pub fn step_over_by<R: Ranks>(
+        &mut self,
+        alloc: Global,
+        step: Step,
+        rankings: &[R],
+        outs: &mut Vec<Out>,
+    ) -> Result<(), CoreFault>
+        requires { FollowRows (map R.policy rankings.now) (live_view self.old).plant.rows }
+        ensures ok { OnOk result (Performs (Steps step) (live_view self.old) (live_view self.new) outs.new.items) }
+        ensures reached { OnOk result (LeadsOnFromStart (live_view self.old) (step ∷ []) outs.new.items (live_view self.new)) }
+        ensures err { OnErr result (live_view self.new ≡ live_view self.old) }
+        ensures outs { OnErr result (outs.new.items ≡ []) }
+        ensures fault { IsReported result (step_fault (live_view self.old) step) }
+    {
+        match step {
+            Step::Tick { op } => match rankings.get(op) {
+                Some(ranking) => self.tick_over_by(alloc, op, ranking, outs),
+                None => self.step_over(alloc, Step::Tick { op }, outs),
+            },
+            other => self.step_over(alloc, other, outs),
+        }
     }
 
     /// Performs a step, and returns its outputs. A refused step changes nothing.

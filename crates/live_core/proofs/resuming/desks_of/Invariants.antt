@@ -3,9 +3,9 @@ use Rattle.live_core.proofs.Common.{replicate, into_iter_items, into_iter_len, s
 use Rattle.live_core.proofs.resuming.desks_of.Given as goal
 
 abbrev pub invariant-loop-live : goal.invariant-loop-live
-invariant-loop-live g l = record {
-  next : (goal.iterator-loop-live g).can_next l.live-iterator;
-  finite : (goal.iterator-loop-live g).is_finite l.live-iterator;
+invariant-loop-live l = record {
+  next : goal.iterator-loop-live.can_next l.live-iterator;
+  finite : goal.iterator-loop-live.is_finite l.live-iterator;
   books : map slot_book l.desks.items ++ map book_by (into_iter_items l.live-iterator) ≡ map book_by l.fn.lives.items;
   queues : map slot_waiting l.desks.items ≡ replicate (vec_len l.desks) [];
   count : vec_len l.desks + length (into_iter_items l.live-iterator) ≡ length l.fn.lives.items;

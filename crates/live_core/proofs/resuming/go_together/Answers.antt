@@ -5,7 +5,7 @@ use Rattle.live_core.proofs.ResumeFaultLemmas.{handed_on, odd_among}
 use Rattle.live_core.proofs.resuming.go_together.Goals as goal
 
 pub loop-op-preserved : goal.loop-op-preserved
-loop-op-preserved g c =
+loop-op-preserved c =
     let at = c.loop-op in
     record {
       sound = all_more IsSoundAt c.args.lives.now at.op c.index-lives-op.result c.loop-op-test.true c.index-lives-op.is at.invariant.sound c.in_ok-goes_along.ensures.sound;
@@ -14,7 +14,7 @@ loop-op-preserved g c =
     }
 
 pub returns : goal.returns
-returns g c =
+returns c =
     let at = c.loop-op in
     record {
       sound = all_gone IsSoundAt c.args.lives.now at.op c.loop-op-test.false at.invariant.sound;
@@ -24,7 +24,7 @@ returns g c =
     }
 
 pub returns-in_err-goes_along-clause-fault : goal.returns-in_err-goes_along-clause-fault
-returns-in_err-goes_along-clause-fault g c =
+returns-in_err-goes_along-clause-fault c =
     let fault = c.in_err-goes_along.field-0.0 in
     let at = c.loop-op in
     let Odd = IsOddFault c.args.frame c.args.from (map sound_of c.args.lives.now) in

@@ -4,7 +4,7 @@ use Rattle.live_core.proofs.OfferLemmas.{taken}
 use Rattle.live_core.proofs.desk.LiveSlot.refuses.Goals as goal
 
 pub returns-in-Ok : goal.returns-in-Ok
-returns-in-Ok g c = taken c.args.unfit _ c.in-Ok.field-0 c.in-Ok.ensures.unfit
+returns-in-Ok c = taken c.args.unfit _ c.in-Ok.field-0 c.in-Ok.ensures.unfit
 
 pub returns-in-Err : goal.returns-in-Err
-returns-in-Err g c = c.is_same.ensures ∙ ap (λ (o : Option Unfit). is_unfit c.args.unfit o) (sym ((c.in-Err.ensures.unfit c.in-Err.found).0 refl))
+returns-in-Err c = c.is_same.ensures ∙ ap (λ (o : Option Unfit). is_unfit c.args.unfit o) (sym ((c.in-Err.ensures.unfit c.in-Err.found).0 refl))

@@ -5,9 +5,9 @@ use Rattle.live_core.proofs.ReachLemmas.{arrives}
 use Rattle.live_core.proofs.held.LiveCore.arrive.Goals as goal
 
 pub receive-requires : goal.receive-requires
-receive-requires g c = arrives _ _ c.args.modem c.args.heard c.in-Some.op (ap (λ (v : CoreView). v.plant) c.place_of.ensures.core) c.in-Some.ensures.value
+receive-requires c = arrives _ _ c.args.modem c.args.heard c.in-Some.op (ap (λ (v : CoreView). v.plant) c.place_of.ensures.core) c.in-Some.ensures.value
 
 pub returns-in-Some-clause-ok : goal.returns-in-Some-clause-ok
-returns-in-Some-clause-ok g c =
+returns-in-Some-clause-ok c =
     on_ok_weaker c.receive.result
     (λ done. (done.0, done.1, arrive_on _ _ c.args.modem c.args.heard c.in-Some.op _ done.0 c.place_of.ensures.core c.in-Some.ensures.value done.2)) c.receive.ensures.ok

@@ -8,13 +8,13 @@ use Rattle.live_core.proofs.PartLemmas.{desk_same, reached_again, same_begun}
 use Rattle.live_core.proofs.held.LiveCore.collect.Goals as goal
 
 pub collect_into-requires : goal.collect_into-requires
-collect_into-requires g c =
+collect_into-requires c =
     let core = c.args.self.now in
     oldest_fits core.routes core.gather _ _ c.args.op (slot_waiting c.index_mut.result.now) c.always.ensures.plant core.reached
     (seen_at slot_waiting core.desks.items _ c.args.op c.index_mut.result.now (c.len.ensures ∙ core.desks.ok.0) c.if-op-len.false c.index_mut.ensures.value)
 
 pub invariant_of-self-in-Ok : goal.invariant_of-self-in-Ok
-invariant_of-self-in-Ok g c =
+invariant_of-self-in-Ok c =
     let core = c.args.self.now in
     let put = c.in-Ok.ensures.ok in
     record {
@@ -26,7 +26,7 @@ invariant_of-self-in-Ok g c =
     }
 
 pub invariant_of-self-in-Err-1 : goal.invariant_of-self-in-Err-1
-invariant_of-self-in-Err-1 g c =
+invariant_of-self-in-Err-1 c =
     let core = c.args.self.now in
     record {
       let_go = same_begun _ _ c.in-Err.ensures.same_gather core.let_go;
@@ -37,7 +37,7 @@ invariant_of-self-in-Err-1 g c =
     }
 
 pub returns-in-Ok-clause-ok : goal.returns-in-Ok-clause-ok
-returns-in-Ok-clause-ok g c =
+returns-in-Ok-clause-ok c =
     let core = c.args.self.now in
     let put = c.in-Ok.ensures.ok in (
       told_map put.0,
@@ -47,19 +47,19 @@ returns-in-Ok-clause-ok g c =
     )
 
 pub returns-in-Ok-clause-fault : goal.returns-in-Ok-clause-fault
-returns-in-Ok-clause-fault g c =
+returns-in-Ok-clause-fault c =
     let core = c.args.self.now in
     ap (collect_fault c.args.op) (seen_at slot_waiting core.desks.items _ c.args.op c.index_mut.result.now (c.len.ensures ∙ core.desks.ok.0) c.if-op-len.false c.index_mut.ensures.value)
     ∙ c.in-Ok.ensures.fault
 
 pub returns-in-Err-clause-err : goal.returns-in-Err-clause-err
-returns-in-Err-clause-err g c =
+returns-in-Err-clause-err c =
     let core = c.args.self.now in
     desk_same slot_book slot_waiting core.routes _ _ core.desks.items _ c.args.op c.index_mut.result.now c.collect_into.new.self
     (c.len.ensures ∙ core.desks.ok.0) c.if-op-len.false c.index_mut.ensures.value c.in-Err.ensures.book c.in-Err.ensures.same_waiting c.in-Err.ensures.same_gather
 
 pub returns-in-Err-clause-fault : goal.returns-in-Err-clause-fault
-returns-in-Err-clause-fault g c =
+returns-in-Err-clause-fault c =
     let core = c.args.self.now in
     collect_told {A = Unit {0}} (Err c.in-Err.fault) c.args.op _ (slot_waiting c.index_mut.result.now)
     (seen_at slot_waiting core.desks.items _ c.args.op c.index_mut.result.now (c.len.ensures ∙ core.desks.ok.0) c.if-op-len.false c.index_mut.ensures.value) c.in-Err.ensures.fault

@@ -8,14 +8,14 @@ use Rattle.live_core.proofs.PlanLemmas.{planned_within, planned_may, committed_o
 use Rattle.live_core.proofs.held.LiveCore.commit_act.Goals as goal
 
 pub commit-requires : goal.commit-requires
-commit-requires g c =
+commit-requires c =
     let core = c.args.self.now in
     let within = planned_within slot_book core.routes core.gather _ core.desks.items core.desks.len c.args.act core.desks.ok.0 c.requires in
     planned_may (live_view core) c.args.act (slot_book c.index_mut.result.now) c.requires
     (seen_at slot_book core.desks.items core.desks.len c.args.act.op c.index_mut.result.now core.desks.ok.0 within c.index_mut.ensures.value)
 
 pub invariant_of-self : goal.invariant_of-self
-invariant_of-self g c =
+invariant_of-self c =
     let core = c.args.self.now in
     let did = c.commit.ensures in
     let within = planned_within slot_book core.routes core.gather _ core.desks.items core.desks.len c.args.act core.desks.ok.0 c.requires in
@@ -28,7 +28,7 @@ invariant_of-self g c =
     }
 
 pub returns-clause-ok : goal.returns-clause-ok
-returns-clause-ok g c =
+returns-clause-ok c =
     let core = c.args.self.now in
     let did = c.commit.ensures in
     let within = planned_within slot_book core.routes core.gather _ core.desks.items core.desks.len c.args.act core.desks.ok.0 c.requires in
@@ -37,7 +37,7 @@ returns-clause-ok g c =
     rw did.gather (committed_on core.routes core.gather _ _ _ _ c.args.act _ _ one.book_is one.waiting_is (bare_seen slot_book core.desks.items (λ desk. refl)) c.always.ensures.gathering c.commit.result _ _ one.books one.queues did.outputs)
 
 pub returns-clause-err : goal.returns-clause-err
-returns-clause-err g c =
+returns-clause-err c =
     let core = c.args.self.now in
     let did = c.commit.ensures in
     let within = planned_within slot_book core.routes core.gather _ core.desks.items core.desks.len c.args.act core.desks.ok.0 c.requires in

@@ -10,13 +10,13 @@ use Rattle.live_core.proofs.FramelessLemmas.{may_receive, acted_on, acted_reache
 use Rattle.live_core.proofs.held.LiveCore.receive_at.Goals as goal
 
 pub receive-requires : goal.receive-requires
-receive-requires g c =
+receive-requires c =
     let core = c.args.self.now in
     may_receive core.routes core.gather _ _ c.args.op c.args.modem c.args.heard (slot_book c.index_mut.result.now) core.reached c.requires.step
     (seen_at slot_book core.desks.items core.desks.len c.args.op c.index_mut.result.now core.desks.ok.0 c.requires.place c.index_mut.ensures.value)
 
 pub invariant_of-self : goal.invariant_of-self
-invariant_of-self g c =
+invariant_of-self c =
     let core = c.args.self.now in
     let did = c.receive.ensures in
     let one = acts_one slot_book slot_waiting c.receive.result core.desks.items core.desks.len c.args.op c.index_mut.result.now c.receive.new.self _ _ core.desks.ok.0 c.requires.place c.index_mut.ensures.value
@@ -29,7 +29,7 @@ invariant_of-self g c =
     }
 
 pub returns-clause-ok : goal.returns-clause-ok
-returns-clause-ok g c =
+returns-clause-ok c =
     let core = c.args.self.now in
     let did = c.receive.ensures in
     let one = acts_one slot_book slot_waiting c.receive.result core.desks.items core.desks.len c.args.op c.index_mut.result.now c.receive.new.self _ _ core.desks.ok.0 c.requires.place c.index_mut.ensures.value
@@ -39,7 +39,7 @@ returns-clause-ok g c =
     c.receive.result _ _ one.books one.queues did.outputs
 
 pub returns-clause-err : goal.returns-clause-err
-returns-clause-err g c =
+returns-clause-err c =
     let core = c.args.self.now in
     let did = c.receive.ensures in
     let one = acts_one slot_book slot_waiting c.receive.result core.desks.items core.desks.len c.args.op c.index_mut.result.now c.receive.new.self _ _ core.desks.ok.0 c.requires.place c.index_mut.ensures.value

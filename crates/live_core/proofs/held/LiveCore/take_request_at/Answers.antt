@@ -11,14 +11,14 @@ use Rattle.live_core.proofs.FramelessLemmas.{may_work, request_within, request_h
 use Rattle.live_core.proofs.held.LiveCore.take_request_at.Goals as goal
 
 pub take_request-requires : goal.take_request-requires
-take_request-requires g c =
+take_request-requires c =
     let core = c.args.self.now in
     let within = request_within slot_book core.routes core.gather _ core.desks.items core.desks.len c.args.op c.args.first core.desks.ok.0 c.requires in
     request_here (live_view core) c.args.op c.args.first (slot_book c.index_mut.result.now) c.requires
     (seen_at slot_book core.desks.items core.desks.len c.args.op c.index_mut.result.now core.desks.ok.0 within c.index_mut.ensures.value)
 
 pub invariant_of-self : goal.invariant_of-self
-invariant_of-self g c =
+invariant_of-self c =
     let core = c.args.self.now in
     let within = request_within slot_book core.routes core.gather _ core.desks.items core.desks.len c.args.op c.args.first core.desks.ok.0 c.requires in
     let did = c.take_request.ensures in
@@ -32,7 +32,7 @@ invariant_of-self g c =
     }
 
 pub returns-clause-ok : goal.returns-clause-ok
-returns-clause-ok g c =
+returns-clause-ok c =
     let core = c.args.self.now in
     let within = request_within slot_book core.routes core.gather _ core.desks.items core.desks.len c.args.op c.args.first core.desks.ok.0 c.requires in
     let did = c.take_request.ensures in
@@ -43,7 +43,7 @@ returns-clause-ok g c =
     c.take_request.result _ _ one.books one.queues did.outputs
 
 pub returns-clause-err : goal.returns-clause-err
-returns-clause-err g c =
+returns-clause-err c =
     let core = c.args.self.now in
     let within = request_within slot_book core.routes core.gather _ core.desks.items core.desks.len c.args.op c.args.first core.desks.ok.0 c.requires in
     let did = c.take_request.ensures in
