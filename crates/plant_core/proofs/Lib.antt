@@ -5,4 +5,5 @@ pub mod StepLemmas
 pub mod GiveLemmas
 pub mod OpenLemmas
 pub mod ReachLemmas
+pub mod FollowLemmas
 pub mod RunLemmas

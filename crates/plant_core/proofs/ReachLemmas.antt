@@ -4,7 +4,7 @@ use Rattle.plant_core.proofs.Common.{IsPlant, IsGathering, Step, Out, CoreView, 
 use Rattle.run_model.specs.declared.step.Step.TheVariants as steps
 
 -- a step keeps the plant
-plant_kept : (step : Step) (old new : CoreView) (now : List Out) → Steps step old new now → new.plant ≡ old.plant
+pub plant_kept : (step : Step) (old new : CoreView) (now : List Out) → Steps step old new now → new.plant ≡ old.plant
 plant_kept (steps.Arrive modem heard) old new now did = ap (λ (core : CoreView). core.plant) did.2.new_is
 plant_kept (steps.Work op) old new now did = ap (λ (core : CoreView). core.plant) did.new_is
 plant_kept (steps.Tick op) old new now did = ap (λ (core : CoreView). core.plant) did.new_is

@@ -6,5 +6,5 @@ use Rattle.plant_core.specs.Recorded.{recorded_view}
 use Rattle.plant_core.specs.declared.recorded.RecordedCore.{RecordedCore}
 
 -- the core with its histories, and with all slices that were given
-abbrev pub record_view : {D : Type 0} {F : D → Type 0} {m : _} → RecordedCore D F m → CoreView
+abbrev pub record_view : RecordedCore → CoreView
 record_view core = recorded_view (live_view core.live) (map (λ history. history.entries) core.histories.items) core.changes.items

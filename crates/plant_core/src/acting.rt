@@ -1,6 +1,7 @@
 //! An operator's action, and its entry in the history.
 
-ghost use Rattle.std.specs.Prelude.{◌≡◌, ◌++◌, List, slice_get, OnOk, OnErr};
+ghost use Rattle.std.specs.Prelude.{◌≡◌, ◌++◌, List, map, slice_get, IfOk, OnOk, OnErr};
+ghost use Rattle.operator_model.specs.declared.action.Action.TheVariants as actions;
 ghost use Rattle.run_model.specs.declared.step.Out.{Out};
 ghost use Rattle.run_model.specs.Steps.{Acts};
 ghost use Rattle.live_core.specs.Faults.{act_fault, IsReported};
@@ -9,6 +10,7 @@ ghost use Rattle.live_core.specs.Planning.{IsActPlan};
 ghost use Rattle.plant_core.specs.RecordView.{record_view};
 
 use crate::recorded::RecordedCore;
+use grant_policy::Ranking;
 use live_core::{ActPlan, CoreFault};
 use operator_book::output_copies;
 use operator_model::{Action, Entry, Outputs};
@@ -69,6 +71,47 @@ impl RecordedCore {
             return Err(CoreFault::NoMemory);
         };
         match self.carry_out(alloc, op, action, act, outs) {
+            Ok(()) => Ok(()),
+            Err(AllocError) => Err(CoreFault::NoMemory),
+        }
+    }
+
+    /// Plans a tick of the operator at this place, if there is one. The flows are ranked by the operator's ranking: there is one for
+    /// each row of the plant, which follows its policy.
+    fn plan_tick(&self, alloc: Global, op: Op, rankings: &[Ranking]) -> Result<ActPlan, CoreFault>
+        requires { map (λ ranking. ranking.policy) rankings.now
+            ≡ map (λ row. row.policy) (record_view self.now).plant.rows }
+        ensures plan { IfOk result (IsActPlan (record_view self.now) op actions.Tick) }
+        ensures fault { IsReported result (act_fault op actions.Tick (slice_get (record_view self.now).books op)) }
+    {
+        // For the proof: what always holds of `self.live`, and that its machines have the policies of the plant's rows.
+        self.live.always();
+        self.live.always_policies();
+        match rankings.get(op) {
+            None => Err(CoreFault::UnknownOperator { op }),
+            Some(ranking) => self.live.plan_tick_by(alloc, op, ranking),
+        }
+    }
+
+    /// Performs a tick of the operator at this place, if there is one, appends its outputs, and records both. The flows are ranked
+    /// by the operator's ranking.
+    pub(crate) fn tick_by(
+        &mut self,
+        alloc: Global,
+        op: Op,
+        rankings: &[Ranking],
+        outs: &mut Vec<Out>,
+    ) -> Result<(), CoreFault>
+        requires { map (λ ranking. ranking.policy) rankings.now
+            ≡ map (λ row. row.policy) (record_view self.old).plant.rows }
+        ensures ok { OnOk result ((now : List Out) × (outs.new.items ≡ outs.old.items ++ now)
+            × Acts op actions.Tick (record_view self.old) (record_view self.new) now) }
+        ensures outs { OnErr result (outs.new.items ≡ outs.old.items) }
+        ensures err { OnErr result (record_view self.new ≡ record_view self.old) }
+        ensures fault { IsReported result (act_fault op actions.Tick (slice_get (record_view self.old).books op)) }
+    {
+        let act = self.plan_tick(alloc, op, rankings)?;
+        match self.carry_out(alloc, op, Action::Tick, act, outs) {
             Ok(()) => Ok(()),
             Err(AllocError) => Err(CoreFault::NoMemory),
         }

@@ -1,7 +1,8 @@
-//! The core of a plant with a record of its run: each operator's history, and the slices that were given.
+//! The core of a plant with a ranking for each operator and a record of its run: histories, and the slices that were given.
 #![tactic(auto)]
 
 mod acting;
+mod core_fault;
 mod giving;
 mod held;
 mod keeping;
@@ -12,11 +13,10 @@ mod running;
 mod slice_change;
 mod stepping;
 
+pub use core_fault::CoreOpenFault;
 pub use held::PlantCore;
-pub use live_core::{
-    CoreFault, CoreOpenFault, ResliceFault, Routes, Unfits, first_fault, follow, is_same,
-    least_meeting,
-};
+pub use live_core::{CoreFault, ResliceFault, Routes, Unfits, first_fault, is_same, least_meeting};
+pub use opening::follow;
 pub use recorded::RecordedCore;
 pub use run_model::{
     equal_books_answer_alike, maps_are_shared_out, non_interference, opened_is_reached,

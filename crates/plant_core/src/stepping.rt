@@ -1,6 +1,6 @@
 //! One step of a plant.
 
-ghost use Rattle.std.specs.Prelude.{◌≡◌, [], ◌∷◌, ◌++◌, List, slice_get, IfOk, OnOk, OnErr};
+ghost use Rattle.std.specs.Prelude.{◌≡◌, [], ◌∷◌, ◌++◌, List, map, slice_get, IfOk, OnOk, OnErr};
 ghost use Rattle.plant.specs.Plant.{IsPlant};
 ghost use Rattle.run_model.specs.declared.step.Out.{Out};
 ghost use Rattle.run_model.specs.declared.step.Step.TheVariants as steps;
@@ -13,6 +13,7 @@ ghost use Rattle.plant_core.specs.RecordView.{record_view};
 use crate::held::PlantCore;
 use crate::recorded::RecordedCore;
 use dsx_messages::Modem;
+use grant_policy::Ranking;
 use live_core::CoreFault;
 use operator_model::{Action, Heard};
 use plant::Op;
@@ -63,14 +64,17 @@ impl RecordedCore {
         self.live.collect(alloc, op, outs)
     }
 
-    /// Performs a step that the caller keeps, appends its outputs, and records it.
+    /// Performs a step that the caller keeps, appends its outputs, and records it. A tick ranks the flows by the operator's ranking.
     pub(crate) fn step_into(
         &mut self,
         alloc: Global,
         step: &Step,
+        rankings: &[Ranking],
         outs: &mut Vec<Out>,
     ) -> Result<(), CoreFault>
-        requires { IsPlant (record_view self.old).plant }
+        requires plant { IsPlant (record_view self.old).plant }
+        requires follow { map (λ ranking. ranking.policy) rankings.now
+            ≡ map (λ row. row.policy) (record_view self.old).plant.rows }
         ensures ok { OnOk result ((now : List Out) × (outs.new.items ≡ outs.old.items ++ now)
             × Steps step.now (record_view self.old) (record_view self.new) now) }
         ensures outs { OnErr result (outs.new.items ≡ outs.old.items) }
@@ -80,7 +84,7 @@ impl RecordedCore {
         match step {
             Step::Arrive { modem, heard } => self.arrive(alloc, *modem, heard, outs),
             Step::Work { op } => self.act_if(alloc, *op, Action::Work, outs),
-            Step::Tick { op } => self.act_if(alloc, *op, Action::Tick, outs),
+            Step::Tick { op } => self.tick_by(alloc, *op, rankings, outs),
             Step::Collect { op } => self.collect(alloc, *op, outs),
             Step::Reslice { from, rows } => self.reslice(alloc, *from, rows),
         }
@@ -104,7 +108,8 @@ impl PlantCore {
     {
         // For the proof: what always holds of `self.recorded`.
         self.recorded.always();
-        self.recorded.step_into(alloc, step, outs)
+        let rankings = self.rankings.as_slice();
+        self.recorded.step_into(alloc, step, rankings, outs)
     }
 
     /// Performs a step, and returns its outputs. A refused step changes nothing.

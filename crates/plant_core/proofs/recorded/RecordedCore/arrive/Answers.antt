@@ -5,9 +5,9 @@ use Rattle.plant_core.proofs.StepLemmas.{none_refuses}
 use Rattle.plant_core.proofs.recorded.RecordedCore.arrive.Goals as goal
 
 pub act_if-requires : goal.act_if-requires
-act_if-requires g c = arrives _ _ c.args.modem c.in-Ok.heard c.in-Some.op (ap (λ (core : CoreView). core.plant) c.place_of.ensures.core) c.in-Some.ensures.value
+act_if-requires c = arrives _ _ c.args.modem c.in-Ok.heard c.in-Some.op (ap (λ (core : CoreView). core.plant) c.place_of.ensures.core) c.in-Some.ensures.value
 
 pub returns-in-Err-clause-fault : goal.returns-in-Err-clause-fault
-returns-in-Err-clause-fault g c =
+returns-in-Err-clause-fault c =
     let core = c.args.self.now in
     none_refuses (live_view core.live) (record_view core) (is_of _ _ _ c.always.ensures.gathering core.belongs) c.args.modem c.args.heard.now c.in-Some.op c.always_one_each.ensures.books c.in-Some.ensures.value

@@ -6,41 +6,41 @@ use Rattle.plant_core.proofs.WaitingLemmas.{on_err}
 use Rattle.plant_core.proofs.recorded.RecordedCore.carry_out.Goals as goal
 
 pub index_mut-history-requires : goal.index_mut-history-requires
-index_mut-history-requires g c =
+index_mut-history-requires c =
     let core = c.args.self.now in
     has_history _ core.histories.items _ c.args.op _ core.belongs.one_each core.histories.ok.0 c.requires.book_is
 
 pub invariant_of-self-in-Break-branch-2 : goal.invariant_of-self-in-Break-branch-2
-invariant_of-self-in-Break-branch-2 g c =
+invariant_of-self-in-Break-branch-2 c =
     let core = c.args.self.now in
     let within = has_history _ core.histories.items _ c.args.op _ core.belongs.one_each core.histories.ok.0 c.requires.book_is in
     record { belongs = still_belongs _ _ _ _ _ refl (alike_at core.histories.items _ c.args.op _ _ core.histories.ok.0 within c.index_mut-history.ensures.value c.make_room.ensures.entries) core.belongs }
 
 pub returns-in_err-make_room-clause-err : goal.returns-in_err-make_room-clause-err
-returns-in_err-make_room-clause-err g c =
+returns-in_err-make_room-clause-err c =
     let core = c.args.self.now in
     let within = has_history _ core.histories.items _ c.args.op _ core.belongs.one_each core.histories.ok.0 c.requires.book_is in
     on_err _ (same_view (live_view core.live) _ (map (λ (history : HeldHistory). history.entries) core.histories.items) _ core.changes.items refl (alike_at core.histories.items _ c.args.op _ _ core.histories.ok.0 within c.index_mut-history.ensures.value c.make_room.ensures.entries))
 
 pub commit_act-requires : goal.commit_act-requires
-commit_act-requires g c =
+commit_act-requires c =
     let core = c.args.self.now in
     (c.args.op, c.args.action, plan_at_live _ _ (is_of _ _ _ c.always.ensures.gathering core.belongs) c.args.op c.args.action c.args.act c.requires)
 
 pub invariant_of-self-in-Break-branch-3 : goal.invariant_of-self-in-Break-branch-3
-invariant_of-self-in-Break-branch-3 g c =
+invariant_of-self-in-Break-branch-3 c =
     let core = c.args.self.now in
     let within = has_history _ core.histories.items _ c.args.op _ core.belongs.one_each core.histories.ok.0 c.requires.book_is in
     record { belongs = still_belongs _ _ _ _ _ c.in_err-commit_act.ensures.err (alike_at core.histories.items _ c.args.op _ _ core.histories.ok.0 within c.index_mut-history.ensures.value c.make_room.ensures.entries) core.belongs }
 
 pub returns-in_err-commit_act-clause-err : goal.returns-in_err-commit_act-clause-err
-returns-in_err-commit_act-clause-err g c =
+returns-in_err-commit_act-clause-err c =
     let core = c.args.self.now in
     let within = has_history _ core.histories.items _ c.args.op _ core.belongs.one_each core.histories.ok.0 c.requires.book_is in
     on_err _ (same_view (live_view core.live) _ (map (λ (history : HeldHistory). history.entries) core.histories.items) _ core.changes.items c.in_err-commit_act.ensures.err (alike_at core.histories.items _ c.args.op _ _ core.histories.ok.0 within c.index_mut-history.ensures.value c.make_room.ensures.entries))
 
 pub invariant_of-self-2 : goal.invariant_of-self-2
-invariant_of-self-2 g c =
+invariant_of-self-2 c =
     let core = c.args.self.now in
     let within = has_history _ core.histories.items _ c.args.op _ core.belongs.one_each core.histories.ok.0 c.requires.book_is in
     let plan = plan_at_live _ _ (is_of _ _ _ c.always.ensures.gathering core.belongs) c.args.op c.args.action c.args.act c.requires in
@@ -51,7 +51,7 @@ invariant_of-self-2 g c =
     }
 
 pub returns-clause-ok : goal.returns-clause-ok
-returns-clause-ok g c =
+returns-clause-ok c =
     let core = c.args.self.now in
     let within = has_history _ core.histories.items _ c.args.op _ core.belongs.one_each core.histories.ok.0 c.requires.book_is in
     let plan = plan_at_live _ _ (is_of _ _ _ c.always.ensures.gathering core.belongs) c.args.op c.args.action c.args.act c.requires in

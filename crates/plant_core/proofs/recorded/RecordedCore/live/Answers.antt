@@ -2,4 +2,4 @@ use Rattle.plant_core.proofs.RecordLemmas.{is_of}
 use Rattle.plant_core.proofs.recorded.RecordedCore.live.Goals as goal
 
 pub returns : goal.returns
-returns g c = is_of _ _ _ c.always.ensures.gathering c.args.self.now.belongs
+returns c = is_of _ _ _ c.always.ensures.gathering c.args.self.now.belongs

@@ -4,6 +4,3 @@ use Rattle.plant_core.proofs.recorded.RecordedCore.step_into.Goals as goal
 
 pub act_if-requires : goal.act_if-requires
 act_if-requires g c = (steps.Work c.in-Work.op, refl)
-
-pub act_if-requires-in-Tick : goal.act_if-requires-in-Tick
-act_if-requires-in-Tick g c = (steps.Tick c.in-Tick.op, refl)
