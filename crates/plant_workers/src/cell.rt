@@ -10,7 +10,7 @@ ghost use Rattle.cell_state.specs.Telling.{IsOfBook, IsOfTurn, IsOfTaking};
 use crate::gate::Gate;
 use crate::part::LOOKS;
 use crate::signal::Signal;
-use crate::turn::Turn;
+use crate::turn::{Turn, Turns};
 use cell_state::{CellFault, Held};
 use dsx_messages::Modem;
 use operator_book::Book;
@@ -78,11 +78,18 @@ impl OperatorCell {
     fn turn(&self) -> Turn<'_>
         ensures { result.op ≡ self.now.op }
     {
+        self.turn_after(LOOKS)
+    }
+
+    /// Returns what is done under the lock, by a thread that looks so many times whether its turn has come, before it sleeps.
+    fn turn_after(&self, looks: usize) -> Turn<'_>
+        ensures { result.op ≡ self.now.op }
+    {
         Turn {
             op: self.op,
             held: &self.held,
             signal: &self.signal,
-            looks: LOOKS,
+            looks,
         }
     }
 
@@ -169,5 +176,40 @@ impl OperatorCell {
     /// Stops the turns: each that waits, and each later one, is refused.
     pub fn stop<R: Wait>(&self, rt: &R) {
         self.turn().stop(rt);
+    }
+}
+
+impl<R: Wait, G: Gate<R>> Turns<R, G> for OperatorCell {
+    ghost place = { λ cell. cell.op };
+
+    fn op(&self) -> Op {
+        self.op
+    }
+
+    fn act_in_turn(
+        &self,
+        rt: &R,
+        alloc: Global,
+        looks: usize,
+        index: usize,
+        action: Action,
+        gate: &G,
+    ) -> Result<Receipt, CellFault> {
+        self.turn_after(looks)
+            .in_turn(rt, alloc, index, action, gate)
+    }
+
+    fn take_after(
+        &self,
+        rt: &R,
+        alloc: Global,
+        looks: usize,
+        index: usize,
+    ) -> Result<Option<(u32, Elements)>, CellFault> {
+        self.turn_after(looks).collect_after(rt, alloc, index)
+    }
+
+    fn end_turns(&self, rt: &R) {
+        self.turn_after(0).stop(rt);
     }
 }

@@ -6,9 +6,9 @@ ghost use Rattle.run_audit.specs.Outcome.{AreTicked, IsOutcome};
 ghost use Rattle.run_receipts.specs.Callers.{AreByCallers};
 ghost use Rattle.plant_workers.specs.Faulting.{IsRunFault};
 
+use crate::cell::OperatorCell;
 use crate::receipt_lists::callers_of;
 use crate::run_state::RunState;
-use cell_state::Held;
 use map_assembly::MapBytes;
 use operator_book::Book;
 use plant::Plant;
@@ -18,12 +18,12 @@ use run_receipts::{Callers, RunFault, Settled, settle};
 use std::alloc::{AllocError, Global};
 
 /// Returns the books, with no lock round them.
-fn books_of(alloc: Global, helds: Vec<Held>) -> Result<Vec<Book>, AllocError>
-    requires { vec_len helds < 2 ^ 64 }
+fn books_of(alloc: Global, cells: Vec<OperatorCell>) -> Result<Vec<Book>, AllocError>
+    requires { vec_len cells < 2 ^ 64 }
 {
-    let mut books = Vec::with_capacity(alloc, helds.len())?;
-    for held in helds {
-        let (book, _) = held.into_parts();
+    let mut books = Vec::with_capacity(alloc, cells.len())?;
+    for cell in cells {
+        let (book, _) = cell.into_parts();
         books.push(book)?;
     }
     Ok(books)
@@ -79,11 +79,11 @@ pub(crate) fn finish(
     ensures err { IfErr result (IsRunFault plant.now steps.now) }
 {
     let RunState {
-        helds,
+        cells,
         assembly,
         lists,
     } = run_state;
-    let books = books_of(alloc, helds)?;
+    let books = books_of(alloc, cells)?;
     let callers = callers_of(alloc, lists)?;
     settle_all(alloc, plant, books, callers, assembly, steps)
 }

@@ -9,13 +9,13 @@ ghost use Rattle.live_core.specs.Reslicing.{reslice_fault};
 ghost use Rattle.cell_state.specs.HeldView.{cell_book};
 ghost use Rattle.plant_workers.specs.Faulting.{IsOfReslice, IsRunFault};
 
+use crate::cell::OperatorCell;
 use crate::following::fault_of_reslice;
 use crate::gate::Gate;
 use crate::job::Job;
 use crate::part::parts_of;
 use crate::receipt_lists::{Lists, add_tales, add_told, no_lists};
 use crate::shared::run_shared;
-use crate::signal::Signal;
 use crate::thread_report::{ThreadReport, first_fault};
 use cell_state::{Held, Told, reslice};
 use operator_model::SliceRow;
@@ -27,45 +27,32 @@ use std::alloc::{AllocError, Global};
 use std::sync::{Mutex, Wait};
 use std::thread::Threads;
 
-/// A run between its pieces: what is after each operator's lock, the assembly, and the receipts so
-/// far.
+/// A run between its pieces: the operators' cells, the assembly, and the receipts so far.
 #[derive(Drop)]
 pub(crate) struct RunState {
-    pub helds: Vec<Held>,
+    pub cells: Vec<OperatorCell>,
     pub assembly: Assembly,
     pub lists: Vec<Lists>,
 }
 
-/// Returns each behind a lock.
-fn into_locks(alloc: Global, helds: Vec<Held>) -> Result<Vec<Mutex<Held>>, AllocError> {
-    let mut locks = Vec::with_capacity(alloc, helds.len())?;
-    for held in helds {
-        locks.push(Mutex::new(held))?;
-    }
-    Ok(locks)
-}
-
-/// Returns what each lock held, without the locks.
-fn without_locks(alloc: Global, locks: Vec<Mutex<Held>>) -> Result<Vec<Held>, AllocError> {
-    let mut helds = Vec::with_capacity(alloc, locks.len())?;
-    for lock in locks {
-        helds.push(lock.into_inner())?;
+/// Takes cells apart, each into the state that its lock guards.
+fn into_helds(alloc: Global, cells: Vec<OperatorCell>) -> Result<Vec<Held>, AllocError> {
+    let mut helds = Vec::with_capacity(alloc, cells.len())?;
+    for cell in cells {
+        let (book, taken) = cell.into_parts();
+        helds.push(Held::again(book, taken))?;
     }
     Ok(helds)
 }
 
-/// Makes the signal of each operator's history.
-fn signals_of<R: Wait>(
-    rt: &R,
-    alloc: Global,
-    locks: &[Mutex<Held>],
-) -> Result<Vec<Signal>, AllocError> {
-    let mut signals = Vec::with_capacity(alloc, locks.len())?;
-    for lock in locks {
-        let count = lock.lock(rt).count();
-        signals.push(Signal::new(count))?;
+/// Puts a cell round each state again, in the order of the operators.
+fn into_cells(alloc: Global, helds: Vec<Held>) -> Result<Vec<OperatorCell>, AllocError> {
+    let mut cells = Vec::with_capacity(alloc, helds.len())?;
+    for held in helds {
+        let (book, taken) = held.into_parts();
+        cells.push(OperatorCell::again(cells.len(), book, taken))?;
     }
-    Ok(signals)
+    Ok(cells)
 }
 
 /// Does these jobs in threads, and joins them all: what each reports, or the first fault that one
@@ -73,7 +60,7 @@ fn signals_of<R: Wait>(
 fn thread_reports_of<R: Threads + Wait + Sync, G: Gate<R> + Sync>(
     rt: &R,
     alloc: Global,
-    locks: &[Mutex<Held>],
+    cells: &[OperatorCell],
     assembly: &Mutex<Assembly>,
     jobs: &[Job],
     gate: &G,
@@ -81,11 +68,9 @@ fn thread_reports_of<R: Threads + Wait + Sync, G: Gate<R> + Sync>(
 ) -> Result<Vec<ThreadReport>, RunFault>
     ensures { IfErr result (λ fault. (plant : PlantFields) (steps : List Step) → IsRunFault plant steps fault) }
 {
-    let parts = parts_of(alloc, locks.len(), jobs)?;
-    let signals = signals_of(rt, alloc, locks)?;
-    let signals = signals.as_slice();
+    let parts = parts_of(alloc, cells.len(), jobs)?;
     let of_all = parts.as_slice();
-    let thread_reports = run_shared(rt, alloc, locks, signals, assembly, gate, of_all, stacks)?;
+    let thread_reports = run_shared(rt, alloc, cells, assembly, gate, of_all, stacks)?;
     if let Some(fault) = first_fault(thread_reports.as_slice()) {
         return Err(fault);
     }
@@ -95,17 +80,43 @@ fn thread_reports_of<R: Threads + Wait + Sync, G: Gate<R> + Sync>(
     Ok(thread_reports)
 }
 
+/// Gives the operators new slices, as the step of this place says. A refused change is reported by its fault.
+fn reslice_helds(
+    alloc: Global,
+    plant: &Plant,
+    helds: &mut Vec<Held>,
+    steps: &[Step],
+    at: usize,
+    from: u32,
+    rows: &[SliceRow],
+) -> Result<Vec<Told>, RunFault>
+    requires { slice_get steps.now at ≡ Some (steps_of.Reslice from rows.now) }
+    ensures of_run { IfErr result (IsRunFault plant.now steps.now) }
+    ensures refused { (refusal : ResliceFault)
+        → reslice_fault from (map cell_book helds.old.items) rows.now ≡ Some refusal
+        → length (map cell_book helds.old.items) ≡ length plant.now.rows
+        → IsErrAnd result (IsOfReslice plant.now steps.now at (map cell_book helds.old.items) refusal) }
+{
+    match reslice(alloc, helds, from, rows) {
+        Ok(told) => Ok(told),
+        Err(fault) => {
+            let helds = helds.as_slice();
+            Err(fault_of_reslice(plant, helds, steps, at, fault))
+        }
+    }
+}
+
 impl RunState {
     /// Returns a run with nothing done.
     pub(crate) fn new(
         alloc: Global,
         plant: &Plant,
-        helds: Vec<Held>,
+        cells: Vec<OperatorCell>,
     ) -> Result<RunState, AllocError> {
-        let lists = no_lists(alloc, helds.len())?;
+        let lists = no_lists(alloc, cells.len())?;
         let assembly = Assembly::new(alloc, plant)?;
         Ok(RunState {
-            helds,
+            cells,
             assembly,
             lists,
         })
@@ -127,16 +138,15 @@ impl RunState {
             return Ok(self);
         }
         let RunState {
-            helds,
+            cells,
             assembly,
             mut lists,
         } = self;
-        let locks = into_locks(alloc, helds)?;
         let assembly = Mutex::new(assembly);
         let thread_reports = thread_reports_of(
             rt,
             alloc,
-            locks.as_slice(),
+            cells.as_slice(),
             &assembly,
             jobs,
             gate,
@@ -144,7 +154,7 @@ impl RunState {
         )?;
         add_tales(&mut lists, thread_reports)?;
         Ok(RunState {
-            helds: without_locks(alloc, locks)?,
+            cells,
             assembly: assembly.into_inner(),
             lists,
         })
@@ -152,45 +162,50 @@ impl RunState {
 
     /// Does the step of this place, where it is a `Reslice`.
     pub(crate) fn reslice_at(
-        &mut self,
+        self,
         alloc: Global,
         plant: &Plant,
         steps: &[Step],
         at: usize,
-    ) -> Result<(), RunFault>
+    ) -> Result<RunState, RunFault>
         ensures { IfErr result (IsRunFault plant.now steps.now) }
     {
         match steps.get(at) {
             Some(Step::Reslice { from, rows }) => {
                 self.reslice(alloc, plant, steps, at, *from, rows.as_slice())
             }
-            _ => Ok(()),
+            _ => Ok(self),
         }
     }
 
-    /// Gives the operators new slices, as the step of this place says. A refused change is reported by its fault.
+    /// Takes the cells apart, gives the operators new slices, and puts the cells together again.
     fn reslice(
-        &mut self,
+        self,
         alloc: Global,
         plant: &Plant,
         steps: &[Step],
         at: usize,
         from: u32,
         rows: &[SliceRow],
-    ) -> Result<(), RunFault>
+    ) -> Result<RunState, RunFault>
         requires { slice_get steps.now at ≡ Some (steps_of.Reslice from rows.now) }
-        ensures of_run { IfErr result (IsRunFault plant.now steps.now) }
-        ensures refused { (refusal : ResliceFault)
-            → reslice_fault from (map cell_book self.old.helds.items) rows.now ≡ Some refusal
-            → length (map cell_book self.old.helds.items) ≡ length plant.now.rows
-            → IsErrAnd result (IsOfReslice plant.now steps.now at (map cell_book self.old.helds.items) refusal) }
+        ensures { IfErr result (IsRunFault plant.now steps.now) }
     {
-        match reslice(alloc, &mut self.helds, from, rows) {
-            Ok(told) => self.note_reslice(alloc, from, rows, told),
-            Err(fault) => {
-                let helds = self.helds.as_slice();
-                Err(fault_of_reslice(plant, helds, steps, at, fault))
-            }
+        let RunState {
+            cells,
+            assembly,
+            lists,
+        } = self;
+        let mut helds = into_helds(alloc, cells)?;
+        let told = reslice_helds(alloc, plant, &mut helds, steps, at, from, rows)?;
+        let mut resliced = RunState {
+            cells: into_cells(alloc, helds)?,
+            assembly,
+            lists,
+        };
+        match resliced.note_reslice(alloc, from, rows, told) {
+            Ok(()) => Ok(resliced),
+            Err(fault) => Err(fault),
         }
     }
 

@@ -14,7 +14,7 @@ ghost use Rattle.plant_workers.specs.Faulting.{IsRunFault, IsFault};
 use crate::finishing::finish;
 use crate::gate::Gate;
 use crate::job::{Job, jobs_of};
-use crate::opening::open_books;
+use crate::opening::open_cells;
 use crate::run_state::RunState;
 use grant_policy::Ranking;
 use live_core::CoreFault;
@@ -62,7 +62,7 @@ fn run_steps<R: Threads + Wait + Sync, G: Gate<R> + Sync>(
                 Ok(run_state) => run_state,
                 Err(fault) => return Err(fault),
             };
-            run_state.reslice_at(alloc, plant, steps, at)?;
+            run_state = run_state.reslice_at(alloc, plant, steps, at)?;
             begin = at + 1;
         }
     }
@@ -84,8 +84,8 @@ fn run_served<R: Threads + Wait + Sync, G: Gate<R> + Sync>(
         IsOutcome plant.now steps.now (map view_of s.books.items) s.receipts.items s.maps.items) }
     ensures err { IfErr result (IsRunFault plant.now steps.now) }
 {
-    let helds = open_books(alloc, plant, rankings)?;
-    let run_state = RunState::new(alloc, plant, helds)?;
+    let cells = open_cells(alloc, plant, rankings)?;
+    let run_state = RunState::new(alloc, plant, cells)?;
     let jobs = jobs_of(alloc, plant, steps)?;
     let run_state = run_steps(
         rt,

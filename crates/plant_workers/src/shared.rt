@@ -1,6 +1,6 @@
 //! What the threads of a run share, and what each does with it.
 
-ghost use Rattle.std.specs.Prelude.{◌≡◌, IfErr, IfSome};
+ghost use Rattle.std.specs.Prelude.{◌≡◌, IfErr};
 ghost use Rattle.operator_book.specs.declared.book.BookFault.TheVariants.{NoMemory};
 ghost use Rattle.cell_state.specs.declared.cell_fault.CellFault.TheVariants.{Book};
 ghost use Rattle.run_receipts.specs.Callers.{caller_of};
@@ -10,11 +10,10 @@ ghost use Rattle.plant_workers.specs.Refusing.{IsOfAct, IsOfPut};
 use crate::gate::Gate;
 use crate::job::Job;
 use crate::part::{Part, PartJobs};
-use crate::signal::Signal;
 use crate::thread_report::{EarlyEnd, ThreadReport};
 use crate::threads::run_threads;
-use crate::turn::Turn;
-use cell_state::{CellFault, Held, Told};
+use crate::turn::Turns;
+use cell_state::{CellFault, Told};
 use operator_book::BookFault;
 use operator_model::Action;
 use plant::Op;
@@ -23,11 +22,10 @@ use std::alloc::{AllocError, Global};
 use std::sync::{Mutex, Wait};
 use std::thread::Threads;
 
-/// What the threads of a run share: each operator's lock with its signal, and the assembly's lock.
-#[derive(Clone, Copy)]
-pub(crate) struct Shared<'a> {
-    pub helds: &'a [Mutex<Held>],
-    pub signals: &'a [Signal],
+/// What the threads of a run share: each operator's cell, and the assembly's lock.
+#[derive(Drop)]
+pub(crate) struct Shared<'a, C> {
+    pub cells: &'a [C],
     pub assembly: &'a Mutex<Assembly>,
 }
 
@@ -41,116 +39,103 @@ fn no_memory(op: Op) -> EarlyEnd
     }
 }
 
-impl<'a> Shared<'a> {
-    /// Returns the lock of an operator, if there is one, for a thread of this part.
-    fn turn(self, op: Op, part: Part) -> Option<Turn<'a>>
-        ensures { IfSome result (λ turn. turn.op ≡ op) }
-    {
-        Some(Turn {
-            op,
-            held: self.helds.get(op)?,
-            signal: self.signals.get(op)?,
-            looks: part.looks(),
-        })
+/// Does an action of this part in its turn, and keeps its receipt.
+fn act<R: Wait, G: Gate<R>, C: Turns<R, G>>(
+    rt: &R,
+    alloc: Global,
+    cell: &C,
+    index: usize,
+    part: Part,
+    action: Action,
+    gate: &G,
+    told: &mut Vec<Told>,
+) -> Result<(), EarlyEnd>
+    requires { caller_of action ≡ caller_in part }
+    ensures { IfErr result (IsOfAct (C.place cell.now) index action) }
+{
+    let op = cell.op();
+    if told.reserve(1).is_err() {
+        return Err(no_memory(op));
     }
+    match cell.act_in_turn(rt, alloc, part.looks(), index, action, gate) {
+        Ok(receipt) => {
+            let caller = part.caller();
+            told.push_reserved(Told {
+                op,
+                caller,
+                receipt,
+            });
+            Ok(())
+        }
+        Err(fault) => Err(EarlyEnd::Turn { op, fault }),
+    }
+}
 
-    /// Does an action of this part in its turn, and keeps its receipt.
-    fn act<R: Wait, G: Gate<R>>(
-        self,
-        rt: &R,
-        alloc: Global,
-        turn: Turn<'a>,
-        index: usize,
-        part: Part,
-        action: Action,
-        gate: &G,
-        told: &mut Vec<Told>,
-    ) -> Result<(), EarlyEnd>
-        requires { caller_of action ≡ caller_in part }
-        ensures { IfErr result (IsOfAct turn.entry.op index action) }
-    {
-        let op = turn.op;
-        if told.reserve(1).is_err() {
-            return Err(no_memory(op));
-        }
-        match turn.in_turn(rt, alloc, index, action, gate) {
-            Ok(receipt) => {
-                let caller = part.caller();
-                told.push_reserved(Told {
-                    op,
-                    caller,
-                    receipt,
-                });
-                Ok(())
-            }
-            Err(fault) => Err(EarlyEnd::Turn { op, fault }),
-        }
+/// Puts the operator's oldest frame that waits into the assembly.
+fn put_oldest_frame<R: Wait, G: Gate<R>, C: Turns<R, G>>(
+    rt: &R,
+    alloc: Global,
+    assembly: &Mutex<Assembly>,
+    cell: &C,
+    index: usize,
+    part: Part,
+    _gate: &G,
+) -> Result<(), EarlyEnd>
+    ensures { IfErr result (IsOfPut (C.place cell.now)) }
+{
+    let op = cell.op();
+    let taken = match cell.take_after(rt, alloc, part.looks(), index) {
+        Ok(taken) => taken,
+        Err(fault) => return Err(EarlyEnd::Turn { op, fault }),
+    };
+    let Some((frame, elements)) = taken else {
+        return Ok(());
+    };
+    let mut assembly = assembly.lock(rt);
+    match assembly.put_part(alloc, op, frame, elements) {
+        Ok(()) => Ok(()),
+        Err(fault) => Err(EarlyEnd::Assembly(fault)),
     }
+}
 
-    /// Puts the operator's oldest frame that waits into the assembly.
-    fn put_oldest_frame<R: Wait>(
-        self,
-        rt: &R,
-        alloc: Global,
-        turn: Turn<'a>,
-        index: usize,
-    ) -> Result<(), EarlyEnd>
-        ensures { IfErr result (IsOfPut turn.entry.op) }
-    {
-        let op = turn.op;
-        let taken = match turn.collect_after(rt, alloc, index) {
-            Ok(taken) => taken,
-            Err(fault) => return Err(EarlyEnd::Turn { op, fault }),
-        };
-        let Some((frame, elements)) = taken else {
-            return Ok(());
-        };
-        let mut assembly = self.assembly.lock(rt);
-        match assembly.put_part(alloc, op, frame, elements) {
-            Ok(()) => Ok(()),
-            Err(fault) => Err(EarlyEnd::Assembly(fault)),
-        }
+/// Does a job of this part.
+fn do_job<R: Wait, G: Gate<R>, C: Turns<R, G>>(
+    shared: &Shared<'_, C>,
+    rt: &R,
+    alloc: Global,
+    part: Part,
+    job: &Job,
+    gate: &G,
+    told: &mut Vec<Told>,
+) -> Result<(), EarlyEnd>
+    requires { IsOfPart part job.now.step.now }
+{
+    let Some(cell) = shared.cells.get(job.op) else {
+        return Ok(());
+    };
+    match job.action(alloc) {
+        Ok(Some(action)) => act(rt, alloc, cell, job.turn, part, action, gate, told),
+        Ok(None) => put_oldest_frame(rt, alloc, shared.assembly, cell, job.turn, part, gate),
+        Err(_) => Err(no_memory(job.op)),
     }
+}
 
-    /// Does a job of this part.
-    fn do_job<R: Wait, G: Gate<R>>(
-        self,
-        rt: &R,
-        alloc: Global,
-        part: Part,
-        job: &Job,
-        gate: &G,
-        told: &mut Vec<Told>,
-    ) -> Result<(), EarlyEnd>
-        requires { IsOfPart part job.now.step.now }
-    {
-        let Some(turn) = self.turn(job.op, part) else {
-            return Ok(());
-        };
-        match job.action(alloc) {
-            Ok(Some(action)) => self.act(rt, alloc, turn, job.turn, part, action, gate, told),
-            Ok(None) => self.put_oldest_frame(rt, alloc, turn, job.turn),
-            Err(_) => Err(no_memory(job.op)),
+/// Does the jobs of a part, in order, up to the first that is refused.
+fn do_jobs<R: Wait, G: Gate<R>, C: Turns<R, G>>(
+    shared: &Shared<'_, C>,
+    rt: &R,
+    alloc: Global,
+    gate: &G,
+    share: &PartJobs,
+    told: &mut Vec<Told>,
+) -> Result<(), EarlyEnd> {
+    let part = share.part;
+    for job in &share.jobs {
+        if part.has(job) {
+            do_job(shared, rt, alloc, part, job, gate, told)?;
         }
     }
-
-    /// Does the jobs of a part, in order, up to the first that is refused.
-    fn do_jobs<R: Wait, G: Gate<R>>(
-        self,
-        rt: &R,
-        alloc: Global,
-        gate: &G,
-        share: &PartJobs,
-        told: &mut Vec<Told>,
-    ) -> Result<(), EarlyEnd> {
-        let part = share.part;
-        for job in &share.jobs {
-            if part.has(job) {
-                self.do_job(rt, alloc, part, job, gate, told)?;
-            }
-        }
-        Ok(())
-    }
+    Ok(())
 }
 
 /// What the threads of a run do, each its part of it. A trait of its own, so that a thread that borrows it asks for no
@@ -164,10 +149,10 @@ pub(crate) trait Chores<R: Wait, G: Gate<R>> {
     fn stop_all(&self, rt: &R);
 }
 
-impl<R: Wait, G: Gate<R>> Chores<R, G> for Shared<'_> {
+impl<R: Wait, G: Gate<R>, C: Turns<R, G>> Chores<R, G> for Shared<'_, C> {
     fn run_part(&self, rt: &R, alloc: Global, gate: &G, share: &PartJobs<'_>) -> ThreadReport {
         let mut told = Vec::new(alloc);
-        let refused = match self.do_jobs(rt, alloc, gate, share, &mut told) {
+        let refused = match do_jobs(self, rt, alloc, gate, share, &mut told) {
             Ok(()) => None,
             Err(refusal) => {
                 Chores::<R, G>::stop_all(self, rt);
@@ -178,30 +163,23 @@ impl<R: Wait, G: Gate<R>> Chores<R, G> for Shared<'_> {
     }
 
     fn stop_all(&self, rt: &R) {
-        for op in 0..self.helds.len() {
-            if let Some(turn) = self.turn(op, Part::Worker(op)) {
-                turn.stop(rt);
-            }
+        for cell in self.cells {
+            cell.end_turns(rt);
         }
     }
 }
 
 /// Runs each part of the jobs in a thread of its own, and joins them all. Where a thread cannot be made there are fewer
 /// thread_reports than parts.
-pub(crate) fn run_shared<R: Threads + Wait + Sync, G: Gate<R> + Sync>(
+pub(crate) fn run_shared<R: Threads + Wait + Sync, G: Gate<R> + Sync, C: Turns<R, G> + Sync>(
     rt: &R,
     alloc: Global,
-    helds: &[Mutex<Held>],
-    signals: &[Signal],
+    cells: &[C],
     assembly: &Mutex<Assembly>,
     gate: &G,
     parts: &[PartJobs],
     stacks: &[usize],
 ) -> Result<Vec<ThreadReport>, AllocError> {
-    let shared = Shared {
-        helds,
-        signals,
-        assembly,
-    };
+    let shared = Shared { cells, assembly };
     run_threads(rt, alloc, &shared, gate, parts, stacks)
 }

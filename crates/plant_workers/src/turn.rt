@@ -25,6 +25,46 @@ pub(crate) struct Turn<'a> {
     pub looks: usize,
 }
 
+/// An operator whose turns the threads of a run take: its cell. A trait of its own, so that what threads share asks for no more of a
+/// cell than that it may be shared.
+pub(crate) trait Turns<R: Wait, G: Gate<R>> {
+    ghost use Rattle.std.specs.Prelude.{ℕ};
+
+    /// The operator's place.
+    ghost place: { Self → ℕ };
+
+    /// Returns the operator.
+    fn op(&self) -> Op
+        ensures { result ≡ place self.now };
+
+    /// Waits until the history has `index` entries, looks so many times before it sleeps, and does an action.
+    fn act_in_turn(
+        &self,
+        rt: &R,
+        alloc: Global,
+        looks: usize,
+        index: usize,
+        action: Action,
+        gate: &G,
+    ) -> Result<Receipt, CellFault>
+        ensures action { IfOk result (λ receipt. receipt.action ≡ action) }
+        ensures fault { IfErr result (IsOfTurn (place self.now) index action) };
+
+    /// Waits until the history has at least so many entries, looks so many times before it sleeps, and takes the oldest frame that
+    /// waits.
+    fn take_after(
+        &self,
+        rt: &R,
+        alloc: Global,
+        looks: usize,
+        index: usize,
+    ) -> Result<Option<(u32, Elements)>, CellFault>
+        ensures { IfErr result (IsOfTaking (place self.now)) };
+
+    /// Stops the turns: each that waits, and each later one, is refused.
+    fn end_turns(&self, rt: &R);
+}
+
 impl<'a> Turn<'a> {
     /// Waits until the history has `index` entries or the turns have stopped, and returns the lock.
     fn wait_for<R: Wait>(self, rt: &R, index: usize) -> MutexGuard<'a, Held> {

@@ -2,7 +2,7 @@ use Rattle.std.proofs.Common.{List, length, sym, ap, ◌∙◌, subst, map}
 use Rattle.plant_workers.proofs.Common.{BookView, cell_book, IsResliceTold, IsOfReslice}
 use Rattle.live_core.specs.Reslicing.{reslice_fault}
 use Rattle.plant_workers.proofs.FaultLemmas.{told_of, is_told}
-use Rattle.plant_workers.proofs.run_state.RunState.reslice.Goals as goal
+use Rattle.plant_workers.proofs.run_state.reslice_helds.Goals as goal
 
 pub fault_of_reslice-requires : goal.fault_of_reslice-requires
 fault_of_reslice-requires g c = record {
