@@ -20,34 +20,6 @@ pub flat_more : {X : Type 0} (f : X → List ℕ) (xs ys : List X) → flat_map 
 flat_more f [] ys = refl
 flat_more f (x ∷ xs) ys = ap (λ (more : List ℕ). f x ++ more) (flat_more f xs ys) ∙ sym (append_assoc (f x) (flat_map f xs) (flat_map f ys))
 
--- the digits of the bytes at the front
-encode_take : (n : ℕ) (t bytes : List ℕ) → take (2 * n) (encode_with t bytes) ≡ encode_with t (take n bytes)
-unfolding encode_with
-encode_take zero t bytes = refl
-encode_take (suc n) t [] = take_all (2 * suc n) [] (omega arith)
-encode_take (suc n) t (b ∷ bytes) =
-    let two : 2 * suc n ≡ suc (suc (2 * n)) = omega arith in
-    ap (λ (k : ℕ). take k (encode_with t (b ∷ bytes))) two
-    ∙ ap (λ (more : List ℕ). slice_index t (b / 16) ∷ slice_index t (b % 16) ∷ more) (encode_take n t bytes)
-
--- one block more is written
-pub encode_block : (bytes room new digits : List ℕ) (block : ℕ) → take (2 * (16 * block) + 32) new ≡ take (2 * (16 * block)) room ++ digits
-    → digits ≡ encode_upper (take 16 (drop (16 * block) bytes)) → take (2 * (16 * block)) room ≡ encode_upper (take (16 * block) bytes)
-    → take (2 * (16 * (block + 1))) new ≡ encode_upper (take (16 * (block + 1)) bytes)
-encode_block bytes room new digits block stored are before =
-    let place : 16 * (block + 1) ≡ 16 * block + 16 = omega arith in
-    let twice : 2 * (16 * block + 16) ≡ 2 * (16 * block) + 32 = omega arith in
-    rw (place, twice, stored, before, are, take-add (16 * block) 16 bytes) (sym (encode_more upper_digits (take (16 * block) bytes) (take 16 (drop (16 * block) bytes))))
-
--- whole blocks are written, and the bytes end within them
-pub encode_front : (bytes padded room : List ℕ) (end : ℕ) → length bytes ≤ end → take (length bytes) padded ≡ bytes → take (2 * end) room ≡ encode_upper (take end padded)
-    → take (2 * length bytes) room ≡ encode_upper bytes
-encode_front bytes padded room end long same written =
-    sym (take-take (2 * length bytes) (2 * end) room (omega arith))
-    ∙ ap (take (2 * length bytes)) written
-    ∙ encode_take (length bytes) upper_digits (take end padded)
-    ∙ ap encode_upper (take-take (length bytes) end padded long ∙ same)
-
 module _ {X : Type 0} (text : List X → List ℕ) (text_more : (xs ys : List X) → text (xs ++ ys) ≡ text xs ++ text ys) (old mid new : Option (List ℕ)) (xs : List X) (place : ℕ) where
   -- some more, up to a place
   pub write_part : (step : ℕ) → Appends old mid (text (take place xs)) → Appends mid new (text (slice_range xs place (place + step)))

@@ -5,9 +5,8 @@ pub mod Marked
 pub mod Outcomes
 pub mod Scripts
 pub mod Splits
-pub mod Unhexed
+pub mod Uppered
 pub mod Spaces
 pub mod FirstFields
 pub mod SaidSoFar
 pub mod StepsSoFar
-pub mod Vectors

@@ -22,8 +22,8 @@ pub(crate) const PENDINGS: usize = 32;
 /// The bytes of so many grants pending, at most.
 pub(crate) const PENDINGS_ROOM: usize = 256;
 
-/// Writes a mark and the digit of a number below 10 after it, up to a place. Returns where the mark
-/// exists.
+/// Writes a mark and the digit of a number below 10 after it, up to a place. Returns the place of the
+/// mark.
 #[inline(always)]
 fn write_marked_digit(room: &mut [u8], mark: u8, number: u16, end: usize) -> usize
     requires few { number < 10 }
@@ -36,7 +36,7 @@ fn write_marked_digit(room: &mut [u8], mark: u8, number: u16, end: usize) -> usi
     end - 2
 }
 
-/// Writes a mark and the digits of a number after it, up to a place. Returns where the mark exists.
+/// Writes a mark and the digits of a number after it, up to a place. Returns the place of the mark.
 #[inline(always)]
 fn write_marked(room: &mut [u8], mark: u8, number: u16, end: usize) -> usize
     requires { (6 ≤ end) × (end ≤ length room.old) }

@@ -1,11 +1,10 @@
-use Rattle.std.proofs.Common.{◌+◌, ◌-◌, length-take, length-drop, take, drop, arith}
-use Rattle.std.proofs.lemmas.Simd.{put_chunk_whole}
-use Rattle.std.proofs.lemmas.Slice.{take-put_mid}
+use Rattle.std.proofs.Common.{◌≡◌, map, ap, ◌∙◌}
+use Rattle.std.specs.Char.{to_ascii_uppercase}
+use Rattle.hex.specs.Hex.{encode_lower}
+use Rattle.script_format.proofs.Uppered.{ok_gives, upper_of_lower}
 use Rattle.script_format.proofs.hexadecimal.put_digits.Goals as goal
 
 pub returns : goal.returns
 returns c =
-    let room = c.args.room.now in
-    let place = c.args.place in
-    let stored = put_chunk_whole (take (place + 32 - place) (drop place room)) c.args.digits (omega (arith, c.fits-digits.0, length-take (place + 32 - place) (drop place room), length-drop place room)) in
-    rw stored (take-put_mid place (place + 32 - place) room c.args.digits (place + 32) (omega (arith, c.fits-digits.0)) (omega arith))
+    let lower = ok_gives c.encode_to_slice.result _ (c.encode_to_slice.ensures.fits.1 c.requires) c.encode_to_slice.ensures.written in
+    c.make_ascii_uppercase.ensures.after ∙ (ap (map to_ascii_uppercase) lower ∙ upper_of_lower c.args.bytes.now)

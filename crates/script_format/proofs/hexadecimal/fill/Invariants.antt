@@ -1,6 +1,0 @@
-use Rattle.std.proofs.Common.{◌≡◌, ◌*◌, take}
-use Rattle.hex.specs.Hex.{encode_upper}
-use Rattle.script_format.proofs.hexadecimal.fill.Given as goal
-
-abbrev pub invariant-loop-block : goal.invariant-loop-block
-invariant-loop-block l = take (2 * (16 * l.block)) l.room ≡ encode_upper (take (16 * l.block) l.whole)
