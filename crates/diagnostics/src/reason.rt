@@ -50,7 +50,7 @@ fn put_printed<T: Display>(text: &mut String, printed: &T) -> Result<(), AllocEr
 }
 
 impl Reason {
-    /// Returns a reason that says nothing yet.
+    /// Creates a reason that says nothing yet.
     pub(crate) fn new(alloc: Global) -> Reason {
         Reason {
             alloc,

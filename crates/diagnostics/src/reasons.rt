@@ -57,13 +57,9 @@ pub fn reason_of_trouble(alloc: Global, trouble: Trouble) -> Result<String, Allo
     reason.into_text()
 }
 
-/// Returns the message of an invalid command line: clap's message and usage, and where the input is read.
+/// Returns the message of an invalid command line: which option is wrong, or clap's message and usage, and where the input is read.
 pub fn reason_of_words<'a>(alloc: Global, words: &'a [&'a str]) -> Result<String, AllocError> {
-    let mut reason = text_of_wrong(alloc, words)?;
-    reason.push_str(
-        "\nThe program reads a plant file and a script from standard input: plant_script run < script.txt\n",
-    )?;
-    Ok(reason)
+    text_of_wrong(alloc, words)
 }
 
 /// Says which invalid lines a script has, or if it has none, which step is refused.

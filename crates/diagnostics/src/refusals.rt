@@ -1,16 +1,11 @@
 //! Why a step of a script is refused: the script is run again up to there.
 
-ghost use Rattle.plant.specs.Plant.{IsPlant};
-ghost use Rattle.plant_core.specs.CoreView.{core_view};
-
 use crate::joint::{Side, name_of, say_over_slice, say_overlap};
 use crate::reason::{GapText, Reason};
 use crate::values::say_slice;
-use grant_policy::{RankInput, Ranking, rank_by};
-use live_core::{CoreFault, CoreOpenFault, ResliceFault};
-use operator_book::{Action, BookFault, Entry, SliceRow};
+use live_core::{CoreFault, LiveCore, ResliceFault};
+use operator_book::{BookFault, SliceRow};
 use plant::{Op, Plant};
-use plant_core::PlantCore;
 use run_model::{SliceRows, Step};
 use script_format::LineStep;
 
@@ -50,25 +45,12 @@ fn name_at(plant: &Plant, op: Op) -> &str {
     }
 }
 
-/// Returns how many ticks a history has.
-fn ticks_in(history: &[Entry]) -> u64 {
-    let mut ticks = 0u64;
-    for entry in history {
-        if let Action::Tick = &entry.action {
-            ticks = ticks.saturating_add(1);
-        }
-    }
-    ticks
-}
-
-/// Returns an operator's frame number: the first, and one more for each of its ticks.
-fn frame_of(core: &PlantCore, op: Op) -> u64 {
-    let first = u64::from(core.plant().consts().get_fields().channel.first_frame);
-    let ticks = match core.history(op) {
-        Some(history) => ticks_in(history),
+/// Returns the number of an operator's next frame.
+fn frame_of(core: &LiveCore, op: Op) -> u64 {
+    match core.machine(op) {
+        Some(machine) => u64::from(machine.frame()),
         None => 0,
-    };
-    first.saturating_add(ticks)
+    }
 }
 
 /// Returns the slice that was asked for an operator, and its budget.
@@ -113,7 +95,7 @@ fn say_slices_meet(reason: &mut Reason, plant: &Plant, asked: &Asked, a: Op, b: 
 }
 
 /// Says that an operator is past the frame from which on new slices were asked for.
-fn say_past(reason: &mut Reason, core: &PlantCore, op: Op, from: u32) {
+fn say_past(reason: &mut Reason, core: &LiveCore, op: Op, from: u32) {
     reason.say(
         "operator {} is at frame {}: new slices must start at a later frame, not at {}",
         &[
@@ -141,9 +123,7 @@ fn rows_with(reason: &mut Reason, asked: &Asked, op: Op, budget: u16) -> SliceRo
 
 /// Returns the least budget up to an operator's slice that is not refused as too small: what its flows have committed. `None`
 /// where all are. The core is of no use afterwards.
-fn least_budget(reason: &mut Reason, core: &mut PlantCore, asked: &Asked, op: Op) -> Option<u16>
-    requires { IsPlant (core_view core.old).plant }
-{
+fn least_budget(reason: &mut Reason, core: &mut LiveCore, asked: &Asked, op: Op) -> Option<u16> {
     let row = row_at(asked, op);
     let mut outs = Vec::new(reason.alloc);
     for budget in row.budget..row.length {
@@ -163,9 +143,7 @@ fn least_budget(reason: &mut Reason, core: &mut PlantCore, asked: &Asked, op: Op
 }
 
 /// Says that the budget that was asked for an operator is less than what its flows have committed.
-fn say_unfit(reason: &mut Reason, core: &mut PlantCore, asked: &Asked, op: Op)
-    requires { IsPlant (core_view core.old).plant }
-{
+fn say_unfit(reason: &mut Reason, core: &mut LiveCore, asked: &Asked, op: Op) {
     let row = row_at(asked, op);
     reason.say(
         "operator {}: budget {} is too small: ",
@@ -196,7 +174,7 @@ fn say_row(reason: &mut Reason, plant: &Plant, op: Op, row: SliceRow, fault: Res
 }
 
 /// Says why new slices are refused.
-fn say_reslice(reason: &mut Reason, core: &PlantCore, asked: &Asked, fault: ResliceFault) {
+fn say_reslice(reason: &mut Reason, core: &LiveCore, asked: &Asked, fault: ResliceFault) {
     let plant = core.plant();
     match fault {
         ResliceFault::Count => reason.say("Z must have a slice for each operator", &[]),
@@ -217,9 +195,7 @@ fn say_reslice(reason: &mut Reason, core: &PlantCore, asked: &Asked, fault: Resl
 }
 
 /// Says why a step is refused.
-fn say_core(reason: &mut Reason, core: &mut PlantCore, asked: &Asked, fault: CoreFault)
-    requires { IsPlant (core_view core.old).plant }
-{
+fn say_core(reason: &mut Reason, core: &mut LiveCore, asked: &Asked, fault: CoreFault) {
     match fault {
         CoreFault::NoMemory => reason.is_lost = true,
         CoreFault::Reslice(ResliceFault::Unfit { op }) => say_unfit(reason, core, asked, op),
@@ -233,14 +209,11 @@ fn say_core(reason: &mut Reason, core: &mut PlantCore, asked: &Asked, fault: Cor
 }
 
 /// Runs steps up to the first that is refused. Returns the number of its line, and the reason says why.
-fn first_refused(reason: &mut Reason, core: &mut PlantCore, steps: Vec<LineStep>) -> u64
-    requires { IsPlant (core_view core.old).plant }
-{
+fn first_refused(reason: &mut Reason, core: &mut LiveCore, steps: Vec<LineStep>) -> u64 {
     let mut outs = Vec::new(reason.alloc);
     for LineStep { number, step } in steps {
         let asked = asked_of(reason, &step);
         if let Err(fault) = core.step_over(reason.alloc, step, &mut outs) {
-            core.always();
             say_core(reason, core, &asked, fault);
             return number;
         }
@@ -248,46 +221,13 @@ fn first_refused(reason: &mut Reason, core: &mut PlantCore, steps: Vec<LineStep>
     0
 }
 
-/// Runs the steps on the core of a plant and its rankings. Returns the number of the line of the first that is refused, and the
-/// reason says why.
-fn refused_by(
-    reason: &mut Reason,
-    plant: Plant,
-    rankings: Vec<Ranking>,
-    steps: Vec<LineStep>,
-) -> u64 {
-    match PlantCore::open(reason.alloc, plant, rankings) {
-        Ok(mut core) => {
-            core.always();
-            first_refused(reason, &mut core, steps)
-        }
-        Err(fault) => {
-            reason.is_lost |= matches!(fault, CoreOpenFault::NoMemory);
-            0
-        }
-    }
-}
-
 /// Runs the steps on the plant's core. Returns the number of the line of the first that is refused, and the reason says why.
 pub(crate) fn refused_of(reason: &mut Reason, plant: Plant, steps: Vec<LineStep>) -> u64 {
-    let mut rankings = Vec::new(reason.alloc);
-    for row in plant.rows() {
-        let policy = row.get_fields().policy;
-        match Box::new(reason.alloc, move |input: RankInput| -> u8 {
-            rank_by(policy, &input)
-        }) {
-            Ok(rank) => {
-                let ranking = Ranking::new(row.get_fields().policy, rank);
-                if rankings.push(ranking).is_err() {
-                    reason.is_lost = true;
-                }
-            }
-            Err(_full) => reason.is_lost = true,
+    match LiveCore::open(reason.alloc, plant) {
+        Ok(mut core) => first_refused(reason, &mut core, steps),
+        Err(_full) => {
+            reason.is_lost = true;
+            0
         }
-    }
-    if reason.is_silent() {
-        refused_by(reason, plant, rankings, steps)
-    } else {
-        0
     }
 }

@@ -6,4 +6,4 @@ mod notes;
 mod serving;
 
 pub use notes::CheckNotes;
-pub use serving::{ServiceFault, serve_ranked};
+pub use serving::{ServiceFault, serve_opened};

@@ -1,10 +1,9 @@
 //! Serving a plant as long as there are lines.
 
-ghost use Rattle.std.specs.Prelude.{◌≡◌, map, Err, OnOk, IfSome};
+ghost use Rattle.std.specs.Prelude.{◌≡◌, Err, OnOk, IfSome};
 ghost use Rattle.json_service.specs.declared.serving.ServiceFault.TheVariants as faults;
 ghost use Rattle.json_service.specs.Served.{IsServedFromOpening};
 
-use grant_policy::Ranking;
 use line_service::{LineBuffer, StepNotes, open_core, serve};
 use plant::Plant;
 use std::alloc::Global;
@@ -20,16 +19,14 @@ pub enum ServiceFault {
 }
 
 /// Serves a plant as it is opened: reads lines of a script for as long as there are any, and answers each before it reads the next,
-/// as `serve` of `line_service` does with such notes. The rankings are in the plant's order of operators.
-pub fn serve_ranked<R: BufRead, W: Write, N: StepNotes<W>>(
+/// as `serve` of `line_service` does with such notes.
+pub fn serve_opened<R: BufRead, W: Write, N: StepNotes<W>>(
     alloc: Global,
     plant: Plant,
-    rankings: Vec<Ranking>,
     reader: &mut R,
     notes: &N,
     writer: &mut W,
 ) -> Result<(), ServiceFault>
-    requires { map (λ ranking. ranking.policy) rankings.items ≡ map (λ row. row.policy) plant.rows }
     ensures served { OnOk result (IfSome (R.remaining reader.old) (λ input. IsServedFromOpening plant input (W.contents writer.old)
         (W.contents writer.new))) }
 
@@ -39,7 +36,7 @@ pub fn serve_ranked<R: BufRead, W: Write, N: StepNotes<W>>(
     let Ok(held) = LineBuffer::new(alloc) else {
         return Err(ServiceFault::Memory);
     };
-    let Ok(mut core) = open_core(alloc, plant, rankings) else {
+    let Ok(mut core) = open_core(alloc, plant) else {
         return Err(ServiceFault::Memory);
     };
     match serve(alloc, &mut core, held, reader, notes, writer) {

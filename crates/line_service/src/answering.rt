@@ -1,9 +1,10 @@
 //! Steps that are done one after the other, and the answer to one line.
 
-ghost use Rattle.std.specs.Prelude.{◌≡◌, ◌≤◌, length, IfOk, OnOk};
+ghost use Rattle.std.specs.Prelude.{◌≡◌, ◌≤◌, length, map, IfOk, OnOk};
 ghost use Rattle.std.specs.Io.KnownBytes.{Appends};
 ghost use Rattle.live_core.specs.After.{BehindEachRun, IsReachableFromStart};
 ghost use Rattle.live_core.specs.LiveView.{live_view};
+ghost use Rattle.live_core.specs.Following.{FollowRows};
 ghost use Rattle.lists.specs.Results.{Gives};
 ghost use Rattle.script_format.specs.Fields.{field_cause};
 ghost use Rattle.script_format.specs.declared.fields.FieldFault.TheVariants.{NoMemory};
@@ -16,6 +17,7 @@ use crate::line_buffer::MOST_BYTES;
 use crate::line_outcome::LineOutcome;
 use crate::step_notes::StepNotes;
 use crate::steps_end::{StepsEnd, end_of};
+use grant_policy::{Policy, Ranks};
 use live_core::LiveCore;
 use plant::Plant;
 use run_model::Out;
@@ -45,16 +47,18 @@ pub fn steps_said(
     }
 }
 
-/// Does steps as `run_steps` does, in a list for the outputs of each.
-fn run_steps_in<W: Write, N: StepNotes<W>>(
+/// Does steps as `run_steps_by` does, in a list for the outputs of each.
+fn run_steps_in<R: Ranks, W: Write, N: StepNotes<W>>(
     alloc: Global,
     core: &mut LiveCore,
     steps: Vec<LineStep>,
+    rankings: &[R],
     outs: &mut Vec<Out>,
     notes: &N,
     writer: &mut W,
 ) -> io::Result<StepsEnd>
     requires reached { IsReachableFromStart (live_view core.old) }
+    requires policies { FollowRows (map R.policy rankings.now) (live_view core.old).plant.rows }
     ensures { IfOk result (λ end. BehindEachRun (live_view core.old) (λ plant start before shown. HasDone plant start before shown
         steps.items (live_view core.new) end (W.contents writer.old) (W.contents writer.new))) }
 {
@@ -62,7 +66,7 @@ fn run_steps_in<W: Write, N: StepNotes<W>>(
         let Ok(()) = notes.note_step(alloc, core, &step, writer) else {
             return Ok(StepsEnd::NoMemory);
         };
-        match core.step_over(alloc, step, outs) {
+        match core.step_over_by(alloc, step, rankings, outs) {
             Ok(()) if outs.is_empty() => {}
             Ok(()) => write_outs(writer, core.plant(), outs.as_slice())?,
             Err(fault) => return Ok(end_of(number, fault)),
@@ -74,6 +78,29 @@ fn run_steps_in<W: Write, N: StepNotes<W>>(
 /// Does steps up to the first that the core does not do: notes each, and writes what it outputs. Returns how that ended: no step is
 /// left, the next one is refused, or it is not refused and an allocation for it or for its note failed. A step that is not done has
 /// changed nothing, and those before it remain done. An error is one of the writer's; then no clause says how much was done.
+///
+/// A tick of the operator at a place for which there is a ranking is ranked by it, and any other by the policy of the row.
+pub fn run_steps_by<R: Ranks, W: Write, N: StepNotes<W>>(
+    alloc: Global,
+    core: &mut LiveCore,
+    steps: Vec<LineStep>,
+    rankings: &[R],
+    notes: &N,
+    writer: &mut W,
+) -> io::Result<StepsEnd>
+    requires reached { IsReachableFromStart (live_view core.old) }
+    requires policies { FollowRows (map R.policy rankings.now) (live_view core.old).plant.rows }
+    // After whatever run led to the core, so many steps are done, and what they output is written.
+    ensures { IfOk result (λ end. BehindEachRun (live_view core.old) (λ plant start before shown. HasDone plant start before shown
+        steps.items (live_view core.new) end (W.contents writer.old) (W.contents writer.new))) }
+{
+    let mut outs = core.take_list(alloc);
+    let end = run_steps_in(alloc, core, steps, rankings, &mut outs, notes, writer)?;
+    core.keep_list(outs);
+    Ok(end)
+}
+
+/// Does steps as `run_steps_by` does, each tick ranked by the policy of the operator's row.
 pub fn run_steps<W: Write, N: StepNotes<W>>(
     alloc: Global,
     core: &mut LiveCore,
@@ -82,14 +109,11 @@ pub fn run_steps<W: Write, N: StepNotes<W>>(
     writer: &mut W,
 ) -> io::Result<StepsEnd>
     requires reached { IsReachableFromStart (live_view core.old) }
-    // After whatever run led to the core, so many steps are done, and what they output is written.
     ensures { IfOk result (λ end. BehindEachRun (live_view core.old) (λ plant start before shown. HasDone plant start before shown
         steps.items (live_view core.new) end (W.contents writer.old) (W.contents writer.new))) }
 {
-    let mut outs = core.take_list(alloc);
-    let end = run_steps_in(alloc, core, steps, &mut outs, notes, writer)?;
-    core.keep_list(outs);
-    Ok(end)
+    let rankings: Vec<Policy> = Vec::new(alloc);
+    run_steps_by(alloc, core, steps, rankings.as_slice(), notes, writer)
 }
 
 /// Returns how a line ends whose steps ended so.

@@ -15,7 +15,7 @@ mod serving;
 mod step_notes;
 mod steps_end;
 
-pub use answering::{answer_line, outcome_of, run_steps, steps_said, write_end};
+pub use answering::{answer_line, outcome_of, run_steps, run_steps_by, steps_said, write_end};
 pub use bytes::next_byte;
 pub use front::{read_plant_text, read_to_bar};
 pub use laws::service_is_shown;

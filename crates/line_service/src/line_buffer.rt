@@ -18,7 +18,7 @@ pub struct LineBuffer {
 }
 
 impl LineBuffer {
-    /// Returns nothing yet, with room for a line.
+    /// Creates an empty buffer with room for a line.
     pub fn new(alloc: Global) -> Result<LineBuffer, AllocError>
         ensures { IfOk result (λ held. IsHeld held.bytes.items held.is_long []) }
     {

@@ -1,6 +1,6 @@
 -- A plant is changed whose operators go on by their names.
 use Rattle.std.proofs.Common.{◌≡◌, ℕ, suc, List, [], ◌∷◌, length, map, Option, Some, option_map, refl, sym, ap, subst, ◌∙◌, arith}
-use Rattle.plant_restart.proofs.Common.{slice_get, ◌≢◌, AllByRecursion, map-id, slice_get-map, slice_get_within, Policy, SavedOperator, RowFields, PlantFields, KeepsConsts, OperatorState, Operator, opened_state, BookView, PairsByRecursion, pairs_from_AllPairs, pairs-map, Start, CoreView, IsPlantChange, IsAfterFrom, Rests, HaveOwnNames, own_state, map_is, over_map, state_under, state_or_opened, operator_by_name, operators_by_name, start_by_name, RestartFault, NoMemory, state_of_book, states_by_name, saved_book, saved_by_name, IsRestarted, IsRestartFault, CanRestart}
+use Rattle.plant_restart.proofs.Common.{slice_get, ◌≢◌, AllByRecursion, map-id, slice_get-map, slice_get_within, SavedOperator, RowFields, PlantFields, KeepsConsts, OperatorState, Operator, opened_state, BookView, PairsByRecursion, pairs_from_AllPairs, pairs-map, Start, CoreView, IsPlantChange, IsAfterFrom, Rests, HaveOwnNames, own_state, map_is, over_map, state_under, state_or_opened, operator_by_name, operators_by_name, start_by_name, RestartFault, NoMemory, state_of_book, states_by_name, saved_book, saved_by_name, IsRestarted, IsRestartFault, CanRestart}
 use Rattle.plant.specs.Plant.{IsPlant}
 use Rattle.map_assembly.specs.Gathering.{IsGathering}
 use Rattle.run_model.specs.declared.step.Step.{Step}
@@ -94,11 +94,11 @@ module _ (old : CoreView) (plant : PlantFields) (frame : ℕ) (shared : KeepsCon
       change_of old new plant frame valid next_valid shared rests
       (subst (λ (states : List (List ℕ × OperatorState)). IsRestarted plant frame states new) (states_saved old frame operators are rests) is) held
 
-  module _ (policies : List Policy) (why : RestartFault) (is : IsRestartFault plant policies frame (map (saved_by_name frame) operators) why) where
-    fault_here : IsRestartFault plant policies frame (states_by_name old) why
-    fault_here = subst (λ (states : List (List ℕ × OperatorState)). IsRestartFault plant policies frame states why) (states_saved old frame operators are rests) is
+  module _ (why : RestartFault) (is : IsRestartFault plant frame (map (saved_by_name frame) operators) why) where
+    fault_here : IsRestartFault plant frame (states_by_name old) why
+    fault_here = subst (λ (states : List (List ℕ × OperatorState)). IsRestartFault plant frame states why) (states_saved old frame operators are rests) is
 
-    pub change_refused : IsChangeRefused old plant policies why
+    pub change_refused : IsChangeRefused old plant why
     change_refused = record {
       frame = frame;
       rests = rests;
@@ -106,8 +106,8 @@ module _ (old : CoreView) (plant : PlantFields) (frame : ℕ) (shared : KeepsCon
       is = fault_here;
     }
 
-    pub change_memory : (can : CanChange old plant policies) → frame ≡ can.frame → Restart why ≡ Restart NoMemory
+    pub change_memory : (can : CanChange old plant) → frame ≡ can.frame → Restart why ≡ Restart NoMemory
     change_memory can same =
         ap (λ (f : RestartFault). Restart f)
-        (memory_alone plant policies frame (states_by_name old) why
-        (subst (λ (n : ℕ). CanRestart plant policies n (states_by_name old)) (sym same) can.can) fault_here)
+        (memory_alone plant frame (states_by_name old) why
+        (subst (λ (n : ℕ). CanRestart plant n (states_by_name old)) (sym same) can.can) fault_here)

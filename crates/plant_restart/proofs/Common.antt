@@ -1,5 +1,4 @@
 -- The names that several proofs of this crate cite, passed on from one place. Declares nothing.
-pub use Rattle.grant_policy.specs.declared.policy.Policy.{Policy}
 pub use Rattle.live_core.proofs.ResumeLemmas.{HaveOwnNames, own_state, map_is, over_map, all_gone}
 pub use Rattle.live_core.specs.After.{IsAfterFrom}
 pub use Rattle.live_core.specs.LiveOperator.{sound_of, book_by}
@@ -8,7 +7,6 @@ pub use Rattle.live_core.specs.Resting.{Rests}
 pub use Rattle.live_core.specs.Resumed.{first_from, GoesAlong, GoTogether, slices_now, slices_next, IsOddFault, IsSliceFault, IsResumeFault, start_with}
 pub use Rattle.live_core.specs.declared.resume_fault.ResumeFault.{ResumeFault}
 pub use Rattle.map_assembly.proofs.OrderLemmas.{PairsByRecursion, pairs_from_AllPairs, pairs-map, all-map}
-pub use Rattle.operator_book.specs.ViewOf.{policy_of}
 pub use Rattle.operator_model.specs.Replay.{BookView}
 pub use Rattle.operator_model.specs.State.{OperatorState, Operator, opened_state}
 pub use Rattle.plant.specs.Consts.{KeepsConsts}
@@ -20,7 +18,7 @@ pub use Rattle.plant_restart.specs.Refused.{refused_from}
 pub use Rattle.plant_restart.specs.Restarted.{IsRestarted, IsRestartFault, CanRestart, IsRowFault, IsRowsFault, names_of, HasNoRow, HaveRows, IsRestoreFault}
 pub use Rattle.plant_restart.specs.Saving.{state_of_book, states_by_name, saved_book, saved_by_name}
 pub use Rattle.plant_restart.specs.declared.fault.RestartFault.{RestartFault}
-pub use Rattle.plant_restart.specs.declared.fault.RestartFault.TheVariants.{NoMemory, RankingsMismatch, State, Core}
+pub use Rattle.plant_restart.specs.declared.fault.RestartFault.TheVariants.{NoMemory, State, Core}
 pub use Rattle.run_model.proofs.OwnFrames.{at_place}
 pub use Rattle.run_model.specs.Changing.{IsPlantChange}
 pub use Rattle.run_model.specs.IsStateAfter.{CoreView}

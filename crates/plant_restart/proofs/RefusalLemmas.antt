@@ -1,6 +1,6 @@
 -- Operators that can start are refused for want of memory alone.
 use Rattle.std.proofs.Common.{◌≡◌, ℕ, ◌+◌, ◌≤◌, List, length, take, Option, IfSome, inl, inr, refl, subst, arith}
-use Rattle.plant_restart.proofs.Common.{get_or-take, length-take-le, All-take, recursion_from_All, Policy, PlantFields, OperatorState, Operator, at_place, ResumeFault, first_from, GoesAlong, GoTogether, slices_now, slices_next, IsOddFault, IsSliceFault, IsResumeFault, RestartFault, RankingsMismatch, State, Core, NoMemory, operators_by_name, IsRestartFault, CanRestart}
+use Rattle.plant_restart.proofs.Common.{get_or-take, length-take-le, All-take, recursion_from_All, PlantFields, OperatorState, Operator, at_place, ResumeFault, first_from, GoesAlong, GoTogether, slices_now, slices_next, IsOddFault, IsSliceFault, IsResumeFault, RestartFault, State, Core, NoMemory, operators_by_name, IsRestartFault, CanRestart}
 use Rattle.slice_scheduler.specs.Minislots.{Minislots}
 use Rattle.plant.specs.declared.consts.Channel.{Channel}
 use Rattle.operator_book.specs.Resuming.{IsStateUnder}
@@ -46,11 +46,10 @@ core_alone plant frame n ops why go begun now next (inl odd) = absurd (none_odd 
 core_alone plant frame n ops why go begun now next (inr (along, inl (is, lt))) = absurd (omega (arith, begun, lt))
 core_alone plant frame n ops why go begun now next (inr (along, inr (le, is))) = slices_alone plant ops why n now next is
 
-pub memory_alone : (plant : PlantFields) (policies : List Policy) (frame : ℕ) (states : List (List ℕ × OperatorState)) (fault : RestartFault) → CanRestart plant policies frame states → IsRestartFault plant policies frame states fault → fault ≡ NoMemory
-memory_alone plant policies frame states RankingsMismatch can is = absurd (is can.policies_are)
-memory_alone plant policies frame states (State op why) can is =
+pub memory_alone : (plant : PlantFields) (frame : ℕ) (states : List (List ℕ × OperatorState)) (fault : RestartFault) → CanRestart plant frame states → IsRestartFault plant frame states fault → fault ≡ NoMemory
+memory_alone plant frame states (State op why) can is =
     let under = is.wrong in
     absurd (under.wrong.stands_not (subst (λ (o : Option OperatorState). IfSome o (λ state. IsStateUnder plant.consts is.row state)) under.state_is (can.stand op is.row is.row_is)))
-memory_alone plant policies frame states (Core why) can is =
+memory_alone plant frame states (Core why) can is =
     absurd (is.1 (core_alone plant frame (length plant.rows) (operators_by_name plant frame states) why can.go_together can.has_begun can.slices can.next_slices is.0))
-memory_alone plant policies frame states NoMemory can is = refl
+memory_alone plant frame states NoMemory can is = refl

@@ -1,23 +1,20 @@
 -- Operators that start in states by their names.
-use Rattle.std.proofs.Common.{◌≡◌, ℕ, ◌+◌, ◌<◌, List, [], ◌∷◌, length, map, drop, get_or, All, Some, sym, ap, subst, ◌∙◌, refl}
-use Rattle.plant_restart.proofs.Common.{slice_get, ◌≢◌, AllByRecursion, at_drop_more, map-id, All-from_recursion, Policy, ConstsFields, RowFields, PlantFields, OperatorState, Operator, all-map, CoreView, ResumeFault, start_with, IsResumeFault, IsAfterFrom, over_map, RestartFault, RankingsMismatch, State, Core, NoMemory, operator_by_name, operators_by_name, IsRowFault, IsRowsFault, IsRestarted, IsRestartFault}
+use Rattle.std.proofs.Common.{◌≡◌, ℕ, ◌+◌, ◌<◌, List, [], ◌∷◌, ◌++◌, length, map, take, get_or, All, Some, sym, ap, ap₂, subst, ◌∙◌, refl}
+use Rattle.plant_restart.proofs.Common.{slice_get, ◌≢◌, AllByRecursion, map-append, take_more, map-id, All-from_recursion, ConstsFields, RowFields, PlantFields, OperatorState, Operator, all-map, CoreView, ResumeFault, start_with, IsResumeFault, IsAfterFrom, over_map, RestartFault, State, Core, NoMemory, operator_by_name, operators_by_name, IsRowFault, IsRowsFault, IsRestarted, IsRestartFault}
 use Rattle.run_model.specs.Opened.{started_core}
 use Rattle.live_core.specs.declared.resume_fault.ResumeFault.TheVariants as resume
 
 -- ---- row by row
 
--- the next ranking is that of the next row
-pub next_policy : (rows : List RowFields) (n : ℕ) (row : RowFields) (policy : Policy) (policies : List Policy) → n < length rows → row ≡ get_or rows n row → policy ∷ policies ≡ map (λ r. r.policy) (drop n rows)
-    → (policy ≡ row.policy) × (policies ≡ map (λ (r : RowFields). r.policy) (drop (n + 1) rows))
-next_policy rows n row policy policies lt is are =
-    let here : map (λ (r : RowFields). r.policy) (drop n rows) ≡ row.policy ∷ map (λ (r : RowFields). r.policy) (drop (n + 1) rows) =
-    at_drop_more (λ (rs : List RowFields). map (λ (r : RowFields). r.policy) rs) rows n row lt ∙ ap (λ (r : RowFields). r.policy ∷ map (λ (x : RowFields). x.policy) (drop (n + 1) rows)) (sym is) in
-    let both : policy ∷ policies ≡ row.policy ∷ map (λ (r : RowFields). r.policy) (drop (n + 1) rows) = are ∙ here in
-    (cc, cc)
+-- a machine more is made, of the next row
+pub machine_more : {X Y Z : Type 0} (see : X → Z) (by_row : Y → Z) (machines more : List X) (rows : List Y) (n : ℕ) (machine : X) (row : Y) → more ≡ machines ++ machine ∷ [] → n < length rows
+    → row ≡ get_or rows n row → see machine ≡ by_row row → map see machines ≡ map by_row (take n rows) → map see more ≡ map by_row (take (n + 1) rows)
+machine_more see by_row machines more rows n machine row is within there same so_far =
+    ap (map see) is ∙ (map-append see machines (machine ∷ []) ∙ (ap₂ (λ zs z. zs ++ z ∷ []) so_far (same ∙ ap by_row there)
+    ∙ (sym (map-append by_row (take n rows) (get_or rows n row ∷ [])) ∙ ap (map by_row) (sym (take_more rows n row within)))))
 
 pub of_row : (consts : ConstsFields) (states : List (List ℕ × OperatorState)) (rows : List RowFields) (op : ℕ) (row : RowFields) (fault : RestartFault) → slice_get rows op ≡ Some row
     → IsRowFault consts states op row fault → IsRowsFault consts states rows fault
-of_row consts states rows op row RankingsMismatch there is = is
 of_row consts states rows op row (State at why) there is = record { row = row; row_is = ap (λ (n : ℕ). slice_get rows n) is.0 ∙ there; wrong = is.1 }
 of_row consts states rows op row (Core why) there is = is
 of_row consts states rows op row NoMemory there is = is
@@ -46,5 +43,5 @@ module _ {X : Type 0} (see : X → Operator) (plant : PlantFields) (frame : ℕ)
     reached = subst (λ (os : List Operator). IsAfterFrom plant (start_with plant frame os) [] [] live) made after;
   }
 
-  pub core_fault : (policies : List Policy) (why : ResumeFault) → IsResumeFault plant frame (map see machines) why → why ≢ resume.NoMemory → IsRestartFault plant policies frame states (Core why)
-  core_fault policies why is ne = (subst (λ (os : List Operator). IsResumeFault plant frame os why) made is, ne)
+  pub core_fault : (why : ResumeFault) → IsResumeFault plant frame (map see machines) why → why ≢ resume.NoMemory → IsRestartFault plant frame states (Core why)
+  core_fault why is ne = (subst (λ (os : List Operator). IsResumeFault plant frame os why) made is, ne)

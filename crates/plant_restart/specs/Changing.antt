@@ -1,6 +1,5 @@
 -- A live core whose plant is changed (implementation-specific).
 use Rattle.std.specs.Prelude.{ℕ, List, []}
-use Rattle.grant_policy.specs.declared.policy.Policy.{Policy}
 use Rattle.plant.specs.declared.plant.PlantFields.{PlantFields}
 use Rattle.plant.specs.Consts.{KeepsConsts}
 use Rattle.run_model.specs.IsStateAfter.{CoreView}
@@ -27,20 +26,20 @@ pub record IsChangeOf (old : CoreView) (plant : PlantFields) (new : CoreView) : 
 -- ---- why it is not changed
 
 -- the old core rests before a frame, the constants are kept, and yet the operators do not start there so
-pub record IsChangeRefused (old : CoreView) (plant : PlantFields) (policies : List Policy) (why : RestartFault) : Type 0 where
+pub record IsChangeRefused (old : CoreView) (plant : PlantFields) (why : RestartFault) : Type 0 where
   pub frame : ℕ
   pub rests : Rests old frame
   pub shared : KeepsConsts old.plant.consts plant.consts
-  pub is : IsRestartFault plant policies frame (states_by_name old) why
+  pub is : IsRestartFault plant frame (states_by_name old) why
 
-abbrev pub IsChangeFault : CoreView → PlantFields → List Policy → ChangeFault → Type 0
-IsChangeFault old plant policies ConstantsDiffer = ¬ KeepsConsts old.plant.consts plant.consts
-IsChangeFault old plant policies (Unfinished why) = KeepsConsts old.plant.consts plant.consts × IsRestFault old why
-IsChangeFault old plant policies (Restart why) = IsChangeRefused old plant policies why
+abbrev pub IsChangeFault : CoreView → PlantFields → ChangeFault → Type 0
+IsChangeFault old plant ConstantsDiffer = ¬ KeepsConsts old.plant.consts plant.consts
+IsChangeFault old plant (Unfinished why) = KeepsConsts old.plant.consts plant.consts × IsRestFault old why
+IsChangeFault old plant (Restart why) = IsChangeRefused old plant why
 
 -- the old core rests before a frame, the constants are kept, and the operators can start there so
-pub record CanChange (old : CoreView) (plant : PlantFields) (policies : List Policy) : Type 0 where
+pub record CanChange (old : CoreView) (plant : PlantFields) : Type 0 where
   pub frame : ℕ
   pub rests : Rests old frame
   pub shared : KeepsConsts old.plant.consts plant.consts
-  pub can : CanRestart plant policies frame (states_by_name old)
+  pub can : CanRestart plant frame (states_by_name old)

@@ -1,6 +1,5 @@
 -- A plant that starts in given states of its operators, and why it does not (implementation-specific).
 use Rattle.std.specs.Prelude.{◌≡◌, ◌≢◌, ◌≤◌, ⊤, ℕ, List, [], length, map, slice_get, Some, All, Contains, IfSome}
-use Rattle.grant_policy.specs.declared.policy.Policy.{Policy}
 use Rattle.plant.specs.declared.consts.ConstsFields.{ConstsFields}
 use Rattle.plant.specs.declared.operator_row.RowFields.{RowFields}
 use Rattle.plant.specs.declared.plant.PlantFields.{PlantFields}
@@ -15,7 +14,7 @@ use Rattle.live_core.specs.declared.resume_fault.ResumeFault.TheVariants as resu
 use Rattle.live_core.specs.Resumed.{GoTogether, slices_now, slices_next, IsResumeFault}
 use Rattle.live_core.specs.After.{IsAfterFrom}
 use Rattle.plant_restart.specs.declared.fault.RestartFault.{RestartFault}
-use Rattle.plant_restart.specs.declared.fault.RestartFault.TheVariants.{RankingsMismatch, State, Core, NoMemory}
+use Rattle.plant_restart.specs.declared.fault.RestartFault.TheVariants.{State, Core, NoMemory}
 use Rattle.plant_restart.specs.declared.fault.RestoreFault.{RestoreFault}
 use Rattle.plant_restart.specs.declared.fault.RestoreFault.TheVariants.{UnknownOperator, Restart}
 use Rattle.plant_restart.specs.ByName.{state_under, operators_by_name, start_by_name}
@@ -34,7 +33,6 @@ pub record IsWrongState (consts : ConstsFields) (row : RowFields) (state : Opera
   pub stands_not : ¬ IsStateUnder consts row state
 
 abbrev pub IsFaultOfState : ConstsFields → ℕ → RowFields → OperatorState → RestartFault → Type 0
-IsFaultOfState consts op row state RankingsMismatch = ⊥
 IsFaultOfState consts op row state (State at why) = (at ≡ op) × IsWrongState consts row state why
 IsFaultOfState consts op row state (Core why) = ⊥
 IsFaultOfState consts op row state NoMemory = ⊤
@@ -53,28 +51,23 @@ pub record IsRefusedState (consts : ConstsFields) (rows : List RowFields) (state
 
 -- what a fault says of the operator of a row, and of all operators by themselves
 abbrev pub IsRowFault : ConstsFields → List (List ℕ × OperatorState) → ℕ → RowFields → RestartFault → Type 0
-IsRowFault consts states op row RankingsMismatch = ⊥
 IsRowFault consts states op row (State at why) = (at ≡ op) × IsWrongUnder consts states row why
 IsRowFault consts states op row (Core why) = ⊥
 IsRowFault consts states op row NoMemory = ⊤
 
 abbrev pub IsRowsFault : ConstsFields → List (List ℕ × OperatorState) → List RowFields → RestartFault → Type 0
-IsRowsFault consts states rows RankingsMismatch = ⊥
 IsRowsFault consts states rows (State op why) = IsRefusedState consts rows states op why
 IsRowsFault consts states rows (Core why) = ⊥
 IsRowsFault consts states rows NoMemory = ⊤
 
 -- what a fault says
-abbrev pub IsRestartFault : PlantFields → List Policy → ℕ → List (List ℕ × OperatorState) → RestartFault → Type 0
-IsRestartFault plant policies frame states RankingsMismatch = policies ≢ map (λ row. row.policy) plant.rows
-IsRestartFault plant policies frame states (State op why) = IsRefusedState plant.consts plant.rows states op why
-IsRestartFault plant policies frame states (Core why) = IsResumeFault plant frame (operators_by_name plant frame states) why × (why ≢ resume.NoMemory)
-IsRestartFault plant policies frame states NoMemory = ⊤
+abbrev pub IsRestartFault : PlantFields → ℕ → List (List ℕ × OperatorState) → RestartFault → Type 0
+IsRestartFault plant frame states (State op why) = IsRefusedState plant.consts plant.rows states op why
+IsRestartFault plant frame states (Core why) = IsResumeFault plant frame (operators_by_name plant frame states) why × (why ≢ resume.NoMemory)
+IsRestartFault plant frame states NoMemory = ⊤
 
--- each ranking follows its row's policy, each state under an operator's name is one of its row, and the operators go together: all are at
--- the frame, which is not before the plant's first one, their next slices wait for one frame, and their slices are valid
-pub record CanRestart (plant : PlantFields) (policies : List Policy) (frame : ℕ) (states : List (List ℕ × OperatorState)) : Type 0 where
-  pub policies_are : policies ≡ map (λ row. row.policy) plant.rows
+-- each state under an operator's name is one of its row, and the operators go together: all are at the frame, which is not before the plant's first one, their next slices wait for one frame, and their slices are valid
+pub record CanRestart (plant : PlantFields) (frame : ℕ) (states : List (List ℕ × OperatorState)) : Type 0 where
   pub stand : AtEachOperator plant (λ op row. IfSome (state_under states row.name) (λ state. IsStateUnder plant.consts row state))
   pub go_together : GoTogether frame (operators_by_name plant frame states)
   pub has_begun : plant.consts.channel.first_frame ≤ frame
@@ -94,6 +87,6 @@ HasNoRow rows name = All (λ row. row.name ≢ name) rows
 abbrev pub HaveRows : List RowFields → List (List ℕ) → Type 0
 HaveRows rows names = All (λ name. ¬ HasNoRow rows name) names
 
-abbrev pub IsRestoreFault : PlantFields → List Policy → ℕ → List (List ℕ × OperatorState) → RestoreFault → Type 0
-IsRestoreFault plant policies frame states (UnknownOperator name) = Contains (names_of states) name × HasNoRow plant.rows name
-IsRestoreFault plant policies frame states (Restart why) = HaveRows plant.rows (names_of states) × IsRestartFault plant policies frame states why
+abbrev pub IsRestoreFault : PlantFields → ℕ → List (List ℕ × OperatorState) → RestoreFault → Type 0
+IsRestoreFault plant frame states (UnknownOperator name) = Contains (names_of states) name × HasNoRow plant.rows name
+IsRestoreFault plant frame states (Restart why) = HaveRows plant.rows (names_of states) × IsRestartFault plant frame states why

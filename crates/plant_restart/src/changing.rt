@@ -1,7 +1,6 @@
 //! Changes the plant of a core that rests.
 
-ghost use Rattle.std.specs.Prelude.{◌≡◌, map, IfOk, IfErr};
-ghost use Rattle.operator_book.specs.ViewOf.{policy_of};
+ghost use Rattle.std.specs.Prelude.{◌≡◌, IfOk, IfErr};
 ghost use Rattle.live_core.specs.LiveView.{live_view};
 ghost use Rattle.plant_restart.specs.declared.fault.ChangeFault.TheVariants as change_faults;
 ghost use Rattle.plant_restart.specs.declared.fault.RestartFault.TheVariants as restart_faults;
@@ -10,7 +9,6 @@ ghost use Rattle.plant_restart.specs.Changing.{IsChangeOf, IsChangeFault, CanCha
 use crate::fault::{ChangeFault, RestartFault};
 use crate::restarting::restart;
 use crate::saving::states_to_save;
-use grant_policy::Ranking;
 use live_core::LiveCore;
 use plant::Plant;
 use plant_comparison::keeps_consts;
@@ -22,17 +20,12 @@ use std::alloc::Global;
 /// classes that are added.
 ///
 /// Fails in the order of `ChangeFault` (implementation-specific).
-pub fn change(
-    alloc: Global,
-    core: &LiveCore,
-    plant: Plant,
-    rankings: Vec<Ranking>,
-) -> Result<LiveCore, ChangeFault>
+pub fn change(alloc: Global, core: &LiveCore, plant: Plant) -> Result<LiveCore, ChangeFault>
     ensures ok { IfOk result (λ new. IsChangeOf (live_view core.now) plant (live_view new)) }
-    ensures fault { IfErr result (IsChangeFault (live_view core.now) plant (map policy_of rankings.items)) }
+    ensures fault { IfErr result (IsChangeFault (live_view core.now) plant) }
 
     // Where the core rests, and the operators can start in their states under the new plant, the only fault is out of memory.
-    ensures only { CanChange (live_view core.now) plant (map policy_of rankings.items)
+    ensures only { CanChange (live_view core.now) plant
         → IfErr result (λ fault. fault ≡ change_faults.Restart restart_faults.NoMemory) }
 {
     // For the proof: that the plants are valid.
@@ -50,7 +43,7 @@ pub fn change(
             why: RestartFault::NoMemory,
         });
     };
-    match restart(alloc, plant, rankings, frame, operators.as_slice()) {
+    match restart(alloc, plant, frame, operators.as_slice()) {
         Ok(new) => {
             // For the proof: what always holds of `new`.
             new.always();

@@ -21,8 +21,6 @@ pub enum SaveFault {
 /// Why operators do not start in their states.
 #[derive(Clone, Copy, Debug, PartialEq, Eq)]
 pub enum RestartFault {
-    /// The rankings do not follow the policies of the plant's rows.
-    RankingsMismatch,
     /// The state under the name of this operator is not one of its row.
     State { op: Op, why: StateFault },
     /// The operators do not go together.

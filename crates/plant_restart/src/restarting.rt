@@ -1,10 +1,9 @@
 //! Starts a core in given states of its operators, by their names.
 
-ghost use Rattle.std.specs.Prelude.{◌≡◌, ◌↔◌, ◌≢◌, map, All, IsTrue, IfOk, IfErr};
+ghost use Rattle.std.specs.Prelude.{◌≡◌, ◌↔◌, map, All, IsTrue, IfOk, IfErr};
 ghost use Rattle.plant.specs.Row.{IsRowOf};
 ghost use Rattle.operator_model.specs.State.{operator};
 ghost use Rattle.operator_book.specs.declared.state_fault.StateFault.TheVariants as state_faults;
-ghost use Rattle.operator_book.specs.ViewOf.{policy_of};
 ghost use Rattle.live_core.specs.declared.resume_fault.ResumeFault.TheVariants as resume_faults;
 ghost use Rattle.live_core.specs.LiveOperator.{sound_of};
 ghost use Rattle.live_core.specs.LiveView.{live_view};
@@ -14,8 +13,7 @@ ghost use Rattle.plant_restart.specs.Restarted.{IsFaultOfState, IsRowFault, IsRo
 
 use crate::copying::state_to_resume;
 use crate::fault::RestartFault;
-use grant_policy::Ranking;
-use live_core::{LiveCore, ResumeFault, follow};
+use live_core::{LiveCore, ResumeFault};
 use operator_book::{Machine, StateFault, StateView};
 use plant::{Consts, Op, OperatorName, OperatorRow, Plant};
 use plant_comparison::is_same_name;
@@ -60,14 +58,12 @@ fn machine_in_state(
     op: Op,
     row: &OperatorRow,
     consts: &Consts,
-    ranking: Ranking,
     state: StateView,
 ) -> Result<Machine, RestartFault>
-    requires { ranking.policy ≡ row.now.policy }
     ensures ok { IfOk result (λ machine. machine.sound ≡ operator consts.now row.now state) }
     ensures fault { IfErr result (IsFaultOfState consts.now op row.now state) }
 {
-    match Machine::resume(alloc, row, consts, ranking, state) {
+    match Machine::resume(alloc, row, consts, state) {
         Ok(machine) => Ok(machine),
         Err(why) => {
             if is_state_memory(why) {
@@ -86,20 +82,18 @@ fn machine_by_name(
     op: Op,
     row: &OperatorRow,
     consts: &Consts,
-    ranking: Ranking,
     frame: u32,
     operators: &[SavedOperator],
 ) -> Result<Machine, RestartFault>
-    requires valid { IsRowOf consts.now row.now }
-    requires policy { ranking.policy ≡ row.now.policy }
+    requires { IsRowOf consts.now row.now }
     ensures ok { IfOk result (λ machine. machine.sound
         ≡ operator_by_name consts.now frame (map (saved_by_name frame) operators.now) row.now) }
     ensures fault { IfErr result (IsRowFault consts.now (map (saved_by_name frame) operators.now) op row.now) }
 {
     let state = state_under(alloc, operators, frame, row.get_fields().name)?;
     match state {
-        Some(state) => machine_in_state(alloc, op, row, consts, ranking, state),
-        None => match Machine::open_before(alloc, row, consts, ranking, frame) {
+        Some(state) => machine_in_state(alloc, op, row, consts, state),
+        None => match Machine::open_before(alloc, row, consts, frame) {
             Ok(machine) => Ok(machine),
             Err(_) => Err(RestartFault::NoMemory),
         },
@@ -111,21 +105,17 @@ fn machines_by_name(
     alloc: Global,
     rows: &[OperatorRow],
     consts: &Consts,
-    rankings: Vec<Ranking>,
     frame: u32,
     operators: &[SavedOperator],
 ) -> Result<Vec<Machine>, RestartFault>
-    requires valid { All (IsRowOf consts.now) rows.now }
-    requires policies { map policy_of rankings.items ≡ map (λ row. row.policy) rows.now }
+    requires { All (IsRowOf consts.now) rows.now }
     ensures ok { IfOk result (λ machines. map sound_of machines.items
         ≡ map (operator_by_name consts.now frame (map (saved_by_name frame) operators.now)) rows.now) }
     ensures fault { IfErr result (IsRowsFault consts.now (map (saved_by_name frame) operators.now) rows.now) }
 {
     let mut machines = Vec::with_capacity(alloc, rows.len())?;
-    for ranking in rankings {
-        let op = machines.len();
-        let row = &rows[op];
-        let machine = machine_by_name(alloc, op, row, consts, ranking, frame, operators)?;
+    for op in 0..rows.len() {
+        let machine = machine_by_name(alloc, op, &rows[op], consts, frame, operators)?;
         machines.push(machine)?;
     }
     Ok(machines)
@@ -136,25 +126,13 @@ fn machines_by_name(
 pub(crate) fn restart(
     alloc: Global,
     plant: Plant,
-    rankings: Vec<Ranking>,
     frame: u32,
     operators: &[SavedOperator],
 ) -> Result<LiveCore, RestartFault>
     ensures ok { IfOk result (λ core. IsRestarted plant frame (map (saved_by_name frame) operators.now) (live_view core)) }
-    ensures fault { IfErr result (IsRestartFault plant (map policy_of rankings.items) frame
-        (map (saved_by_name frame) operators.now)) }
+    ensures fault { IfErr result (IsRestartFault plant frame (map (saved_by_name frame) operators.now)) }
 {
-    if !follow(rankings.as_slice(), plant.rows()) {
-        return Err(RestartFault::RankingsMismatch);
-    }
-    let machines = machines_by_name(
-        alloc,
-        plant.rows(),
-        plant.consts(),
-        rankings,
-        frame,
-        operators,
-    )?;
+    let machines = machines_by_name(alloc, plant.rows(), plant.consts(), frame, operators)?;
     match LiveCore::resume(alloc, plant, frame, machines) {
         Ok(core) => Ok(core),
         Err(why) => {

@@ -2,7 +2,6 @@
 
 ghost use Rattle.std.specs.Prelude.{◌≡◌, ◌↔◌, IsTrue, map, Contains, IfOk, IfErr, OnOk, IfSome};
 ghost use Rattle.snapshot_format.specs.States.{states_of};
-ghost use Rattle.operator_book.specs.ViewOf.{policy_of};
 ghost use Rattle.live_core.specs.LiveView.{live_view};
 ghost use Rattle.plant_restart.specs.declared.fault.RestoreFault.TheVariants as restore_faults;
 ghost use Rattle.plant_restart.specs.declared.fault.RestartFault.TheVariants as restart_faults;
@@ -10,7 +9,6 @@ ghost use Rattle.plant_restart.specs.Restarted.{names_of, HasNoRow, HaveRows, Is
 
 use crate::fault::RestoreFault;
 use crate::restarting::restart;
-use grant_policy::Ranking;
 use live_core::LiveCore;
 use plant::{OperatorName, OperatorRow, Plant};
 use plant_comparison::is_same_name;
@@ -48,27 +46,21 @@ fn check_names(rows: &[OperatorRow], operators: &[SavedOperator]) -> Result<(), 
 ///
 /// Fails with a saved operator that the plant does not have, else with a `RestartFault`. No clause says which one of several
 /// (implementation-specific).
-pub fn restore(
-    alloc: Global,
-    plant: Plant,
-    saved: &Snapshot,
-    rankings: Vec<Ranking>,
-) -> Result<LiveCore, RestoreFault>
+pub fn restore(alloc: Global, plant: Plant, saved: &Snapshot) -> Result<LiveCore, RestoreFault>
     ensures ok { IfOk result (λ core. IsRestarted plant saved.now.frame (states_of saved.now) (live_view core)) }
     ensures names { OnOk result (HaveRows plant.rows (names_of (states_of saved.now))) }
-    ensures fault { IfErr result (IsRestoreFault plant (map policy_of rankings.items) saved.now.frame
-        (states_of saved.now)) }
+    ensures fault { IfErr result (IsRestoreFault plant saved.now.frame (states_of saved.now)) }
 
     // Where each saved operator has a row, and the operators can start in their states, the only fault is out of memory.
     ensures only { HaveRows plant.rows (names_of (states_of saved.now))
-        → CanRestart plant (map policy_of rankings.items) saved.now.frame (states_of saved.now)
+        → CanRestart plant saved.now.frame (states_of saved.now)
         → IfErr result (λ fault. fault ≡ restore_faults.Restart restart_faults.NoMemory) }
 {
     let operators = saved.operators.as_slice();
     if let Err(name) = check_names(plant.rows(), operators) {
         return Err(RestoreFault::UnknownOperator { name });
     }
-    match restart(alloc, plant, rankings, saved.frame, operators) {
+    match restart(alloc, plant, saved.frame, operators) {
         Ok(core) => Ok(core),
         Err(why) => Err(RestoreFault::Restart { why }),
     }

@@ -106,9 +106,8 @@ module _ (old : InService) (live : CoreView) (frame : ℕ) (ready : IsReadyToSav
           each_of f [] h = tt
           each_of f (x ∷ xs) h = (f x h.0, each_of f xs h.1)
 
-      can_restart : CanRestart plant (map (λ row. row.policy) plant.rows) frame (states_by_name live)
+      can_restart : CanRestart plant frame (states_by_name live)
       can_restart = record {
-        policies_are = refl;
         stand = λ i row here.
             let book = book_at_place plant old.run.start old.run.steps old.run.outs live ready.leads i row here in
             let stands = under i book.book book.held in
@@ -126,7 +125,7 @@ module _ (old : InService) (live : CoreView) (frame : ℕ) (ready : IsReadyToSav
           subst (λ (p : PlantFields). IsRestorable p saved) (sym same_plant)
           (record {
             have_rows = have_rows;
-            can = subst (λ (states : List (List ℕ × OperatorState)). CanRestart plant (map (λ (row : RowFields). row.policy) plant.rows) frame states) (sym states_are) can_restart;
+            can = subst (λ (states : List (List ℕ × OperatorState)). CanRestart plant frame states) (sym states_are) can_restart;
           })
 
     -- ---- the text
@@ -233,7 +232,7 @@ module _ (old : InService) (live : CoreView) (frame : ℕ) (ready : IsReadyToSav
             All-contains (λ (n : List ℕ). ¬ HasNoRow live.plant.rows n) (names_of (states_of saved)) name (restorable starts).have_rows unknown.0 unknown.1
         none_refused (restore.Restart why) is =
             let refused = is.0 in
-            is.1 (ap (λ (f : RestartFault). restore.Restart f) (memory_alone live.plant (map (λ (row : RowFields). row.policy) live.plant.rows) frame (states_of saved) why (restorable starts).can refused.1))
+            is.1 (ap (λ (f : RestartFault). restore.Restart f) (memory_alone live.plant frame (states_of saved) why (restorable starts).can refused.1))
 
         file_is : (file : List ℕ) → IsPlantFile text file → file ≡ old.file
         file_is file is =

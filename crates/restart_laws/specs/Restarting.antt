@@ -148,7 +148,7 @@ SnapshotBeginsService = (old : InService) (live : CoreView) (frame : ℕ) (lines
 -- each saved operator has a row, and all can start in their saved states
 pub record IsRestorable (plant : PlantFields) (saved : Snapshot) : Type 0 where
   pub have_rows : HaveRows plant.rows (names_of (states_of saved))
-  pub can : CanRestart plant (map (λ row. row.policy) plant.rows) saved.frame (states_of saved)
+  pub can : CanRestart plant saved.frame (states_of saved)
 
 abbrev pub SavedStatesAreRestored : Type 0
 SavedStatesAreRestored = (old : InService) (live : CoreView) (frame : ℕ) → IsReadyToSave old live frame → HaveTypedStates live → StartsOfItsModems old.run

@@ -1,5 +1,4 @@
 -- The names that several proofs of this crate cite, passed on from one place. Declares nothing.
-pub use Rattle.grant_policy.specs.declared.policy.Policy.{Policy}
 pub use Rattle.line_service.proofs.ServiceLemmas.{known_same, known_then}
 pub use Rattle.line_service.proofs.StepLemmas.{on_ok_map, on_ok}
 pub use Rattle.line_service.specs.Bytes.{WhereKnown}
@@ -19,7 +18,7 @@ pub use Rattle.plant_restart.specs.ByName.{start_by_name, state_under, state_or_
 pub use Rattle.plant_restart.specs.Changing.{IsChangeFault, IsChangeOf}
 pub use Rattle.plant_restart.specs.Restarted.{IsRestarted, IsRestoreFault}
 pub use Rattle.plant_restart.specs.Saving.{state_of_book, saved_book, IsCoreSnapshot, states_by_name}
-pub use Rattle.plant_restart.specs.declared.fault.RestartFault.TheVariants.{NoMemory, RankingsMismatch, State, Core}
+pub use Rattle.plant_restart.specs.declared.fault.RestartFault.TheVariants.{NoMemory, State, Core}
 pub use Rattle.resumed_service.specs.Beginning.{is_snapshot_head, front_text, GoesOnFrom, BeginsAnew, IsBeginning, IsSavedFile, IsPlantFile, IsFileFault, IsTextFault, IsRestoringFault, IsBeginFault, IsBeginningRead}
 pub use Rattle.resumed_service.specs.Items.{InService, begun_from, asks_snapshot, begins_plant, core_snapshot, ItemAnswer, IsRunSoFarOf, IsItemAnswer, AreItemAnswers, first_period, later_periods, KeepNumbers, ServiceIsOfChanges, ServiceIsOfRuns, change_text, texts_of}
 pub use Rattle.resumed_service.specs.LastStates.{IsLastState, IsServedTo, name_at, restless_operator, EndsBegun}

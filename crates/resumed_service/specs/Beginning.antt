@@ -88,7 +88,7 @@ IsRestoringFault plant saved NotText = ⊥
 IsRestoringFault plant saved (InvalidSnapshot number wrong) = ⊥
 IsRestoringFault plant saved (InvalidPlant fault) = ⊥
 IsRestoringFault plant saved (NotRestored why) =
-    IsRestoreFault plant (map (λ row. row.policy) plant.rows) saved.frame (states_of saved) why × (why ≢ restore.Restart restart.NoMemory)
+    IsRestoreFault plant saved.frame (states_of saved) why × (why ≢ restore.Restart restart.NoMemory)
 IsRestoringFault plant saved NoMemory = ⊤
 
 -- the text says a plant and states, and the plant does not start in these

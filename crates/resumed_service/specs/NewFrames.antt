@@ -69,7 +69,7 @@ pub record IsEarlyNumber (file : List ℕ) (live : CoreView) (line : List ℕ) :
 -- a plant does not start in these states, and not because memory ran out
 abbrev pub IsNotStarted : PlantFields → ℕ → List (List ℕ × OperatorState) → RestoreFault → Type 0
 IsNotStarted plant frame states why =
-    IsRestoreFault plant (map (λ row. row.policy) plant.rows) frame states why × (why ≢ restore_faults.Restart restart_faults.NoMemory)
+    IsRestoreFault plant frame states why × (why ≢ restore_faults.Restart restart_faults.NoMemory)
 
 -- it is neither, and yet the plant does not start there
 pub record IsRefusedStart (file : List ℕ) (live : CoreView) (line : List ℕ) (why : RestoreFault) : Type 0 where

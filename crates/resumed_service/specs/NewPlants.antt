@@ -30,7 +30,7 @@ IsNewFileFault lines NoMemory = is_ended lines ≡ true
 
 -- the plant of a core is not changed to this plant, and not because memory ran out
 abbrev pub IsNotChanged : CoreView → PlantFields → ChangeFault → Type 0
-IsNotChanged live plant why = IsChangeFault live plant (map (λ row. row.policy) plant.rows) why × (why ≢ Restart restart_faults.NoMemory)
+IsNotChanged live plant why = IsChangeFault live plant why × (why ≢ Restart restart_faults.NoMemory)
 
 -- what a fault says of a core and of a plant. Memory is asked for where the core rests and the constants are kept.
 abbrev pub IsChangeRefusal : CoreView → PlantFields → NewPlantFault → Type 0

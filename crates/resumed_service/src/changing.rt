@@ -6,7 +6,6 @@ ghost use Rattle.live_core.specs.After.{IsReachableFromStart};
 ghost use Rattle.live_core.specs.LiveView.{live_view};
 ghost use Rattle.line_service.specs.Bytes.{WhereKnown};
 ghost use Rattle.line_service.specs.Lines.{lines_left};
-ghost use Rattle.grant_policy.specs.declared.policy.Policy.{Policy};
 ghost use Rattle.plant.specs.declared.plant.PlantFields.{PlantFields};
 ghost use Rattle.run_model.specs.IsStateAfter.{CoreView};
 ghost use Rattle.plant_restart.specs.Changing.{IsChangeOf, IsChangeFault};
@@ -53,15 +52,14 @@ pub(crate) fn answer_refusal<W: Write, N: RefusalNotes>(
     writer.flush()
 }
 
-/// Returns the reason for which the plant is not changed. If a ranking is missing, memory ran out for it.
+/// Returns the reason for which the plant is not changed.
 #[tactic(auto, using(crate::proofs::RefusalLemmas::not_changed, crate::proofs::RefusalLemmas::out_of_memory))]
 fn refusal_of(why: ChangeFault) -> NewPlantFault
-    ensures { (live : CoreView) (plant : PlantFields) (policies : List Policy) → IsChangeFault live plant policies why
-        → IsChangeRefusal live plant result }
+    ensures { (live : CoreView) (plant : PlantFields) → IsChangeFault live plant why → IsChangeRefusal live plant result }
 {
     match why {
         ChangeFault::Restart {
-            why: RestartFault::RankingsMismatch | RestartFault::NoMemory,
+            why: RestartFault::NoMemory,
         } => NewPlantFault::NoMemory,
         _ => NewPlantFault::NotChanged { why },
     }
@@ -91,9 +89,9 @@ pub(crate) fn answer_change<W: Write, N: RefusalNotes>(
     requires reached { IsReachableFromStart (live_view service.old.core) }
     requires core { IfOk changed (λ core. IsReachableFromStart (live_view core)) }
     ensures reached { OnOk result (IsReachableFromStart (live_view service.new.core)) }
-    ensures on { OnOk result ((first : InService) (known read written : Option (List ℕ)) (plant : PlantFields) (policies : List Policy)
+    ensures on { OnOk result ((first : InService) (known read written : Option (List ℕ)) (plant : PlantFields)
         → IfOk changed (λ core. IsChangeOf (live_view service.old.core) plant (live_view core))
-        → IfErr changed (IsChangeFault (live_view service.old.core) plant policies)
+        → IfErr changed (IsChangeFault (live_view service.old.core) plant)
         → WhereKnown known read (λ input rest. AwaitsPlant first input rest service.old.after waiting.number service.old.number
         (live_view service.old.core) service.old.file waiting.text.items plant written (W.contents writer.old))
         → WhereKnown known read (λ input rest. AreServedSoFar first input (lines_left service.new.after rest) service.new.number

@@ -17,7 +17,6 @@ mod new_plant;
 mod new_plant_fault;
 mod notes;
 mod plant_file;
-mod rankings;
 mod reading;
 mod saving;
 mod service;

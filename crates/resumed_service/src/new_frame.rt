@@ -2,7 +2,6 @@
 
 ghost use Rattle.std.specs.Prelude.{◌≡◌, true, false, ℕ, List, Option, None, IfOk, IfErr, IfSome, OnOk};
 ghost use Rattle.std.specs.Io.KnownBytes.{Appends};
-ghost use Rattle.grant_policy.specs.declared.policy.Policy.{Policy};
 ghost use Rattle.plant.specs.declared.plant.PlantFields.{PlantFields};
 ghost use Rattle.plant.specs.Plant.{IsPlant};
 ghost use Rattle.operator_model.specs.State.{OperatorState};
@@ -188,15 +187,14 @@ pub(crate) fn take_frame<W: Write, N: RefusalNotes>(
     }
 }
 
-/// Returns the reason for which the plant does not start before the frame of the number. If a ranking is missing, memory ran out
-/// for it.
+/// Returns the reason for which the plant does not start before the frame of the number.
 fn start_refusal(why: RestoreFault) -> NewFrameFault
-    ensures { (plant : PlantFields) (policies : List Policy) (frame : ℕ) (states : List (List ℕ × OperatorState))
-        → IsRestoreFault plant policies frame states why → IsStartRefusal plant frame states result }
+    ensures { (plant : PlantFields) (frame : ℕ) (states : List (List ℕ × OperatorState))
+        → IsRestoreFault plant frame states why → IsStartRefusal plant frame states result }
 {
     match why {
         RestoreFault::Restart {
-            why: RestartFault::RankingsMismatch | RestartFault::NoMemory,
+            why: RestartFault::NoMemory,
         } => NewFrameFault::NoMemory,
         _ => NewFrameFault::NotRestored { why },
     }
@@ -224,9 +222,9 @@ pub(crate) fn answer_frame<W: Write, N: RefusalNotes>(
     requires reached { IsReachableFromStart (live_view service.old.core) }
     requires core { IfOk restored (λ core. IsReachableFromStart (live_view core)) }
     ensures reached { OnOk result (IsReachableFromStart (live_view service.new.core)) }
-    ensures on { OnOk result ((first : InService) (known read written : Option (List ℕ)) (plant : PlantFields) (policies : List Policy)
+    ensures on { OnOk result ((first : InService) (known read written : Option (List ℕ)) (plant : PlantFields)
         → IfOk restored (λ core. IsRestarted plant waiting.saved.frame (states_of waiting.saved) (live_view core))
-        → IfErr restored (IsRestoreFault plant policies waiting.saved.frame (states_of waiting.saved))
+        → IfErr restored (IsRestoreFault plant waiting.saved.frame (states_of waiting.saved))
         → WhereKnown known read (λ input rest. AwaitsFrame first input rest service.old.after waiting.number service.old.number
         (live_view service.old.core) service.old.file waiting.saved plant written (W.contents writer.old))
         → WhereKnown known read (λ input rest. AreServedSoFar first input (lines_left service.new.after rest) service.new.number

@@ -1,6 +1,6 @@
 //! The service, from what it begins with to the end of the input.
 
-ghost use Rattle.std.specs.Prelude.{◌≡◌, ◌↔◌, ◌∷◌, List, ℕ, Option, map, codes, Ok, IsTrue, IfOk, OnOk};
+ghost use Rattle.std.specs.Prelude.{◌≡◌, ◌↔◌, ◌∷◌, List, ℕ, Option, codes, Ok, IsTrue, IfOk, OnOk};
 ghost use Rattle.live_core.specs.After.{IsReachableFromStart};
 ghost use Rattle.live_core.specs.LiveView.{live_view};
 ghost use Rattle.line_service.specs.Bytes.{WhereKnown};
@@ -31,7 +31,6 @@ use crate::new_frame::{answer_frame, asks_frame, take_frame};
 use crate::new_plant::{ItemOutcome, WaitingItem, WaitingLine};
 use crate::notes::RefusalNotes;
 use crate::plant_file::{break_after, plant_of_file, read_plant_file};
-use crate::rankings::rankings_of;
 use crate::service::{ServiceState, number_after};
 use line_service::{LineBreak, LineBuffer, read_line};
 use plant_restart::{RestartFault, RestoreFault, change, restore};
@@ -144,7 +143,7 @@ fn is_memory(why: &RestoreFault) -> bool
 /// Returns the reason for which a service does not begin, if its states are refused.
 fn restore_fault(why: RestoreFault) -> BeginFault
     ensures { (plant : PlantFields) (saved : Snapshot)
-        → IsRestoreFault plant (map (λ row. row.policy) plant.rows) saved.frame (states_of saved) why → IsRestoringFault plant saved result }
+        → IsRestoreFault plant saved.frame (states_of saved) why → IsRestoringFault plant saved result }
 {
     if is_memory(&why) {
         BeginFault::NoMemory
@@ -153,7 +152,7 @@ fn restore_fault(why: RestoreFault) -> BeginFault
     }
 }
 
-/// Returns that a service does not begin because memory ran out.
+/// Reports that a service does not begin because memory ran out.
 fn end_without_memory() -> io::Result<BegunEnd>
     ensures { result ≡ Ok (ends.NotBegun faults.NoMemory) }
 {
@@ -164,9 +163,6 @@ fn end_without_memory() -> io::Result<BegunEnd>
 
 /// Serves a plant that goes on in its saved states, each operator by the policy of its row. Makes of the last core what `at_end`
 /// says.
-///
-/// The cores of new plants and of new frame numbers, and their rankings, are made here too, since a function that makes them may
-/// not hand them out. A ranking for which memory runs out is left out: then `change` or `restore` fails, since it is missing.
 pub(crate) fn serve_begun<R: BufRead, W: Write, N: RefusalNotes>(
     alloc: Global,
     begun: Beginning,
@@ -178,12 +174,11 @@ pub(crate) fn serve_begun<R: BufRead, W: Write, N: RefusalNotes>(
     ensures { IfOk result (λ end. EndsBegun at_end begun.plant begun.saved (R.remaining reader.old) (W.contents writer.old)
         (W.contents writer.new) end) }
 {
-    let rankings = rankings_of!(alloc, begun.plant, return end_without_memory());
     let Beginning { plant, saved } = begun;
     let Ok(held) = LineBuffer::new(alloc) else {
         return end_without_memory();
     };
-    let mut service = match restore(alloc, plant, &saved, rankings) {
+    let mut service = match restore(alloc, plant, &saved) {
         Ok(core) => ServiceState::new(core, saved.plant, held),
         Err(why) => {
             return Ok(BegunEnd::NotBegun {
@@ -204,16 +199,15 @@ pub(crate) fn serve_begun<R: BufRead, W: Write, N: RefusalNotes>(
             ItemOutcome::Answered => continue,
             ItemOutcome::Awaits { waiting, plant } => (waiting, plant),
         };
-        let rankings = rankings_of!(alloc, plant, continue);
         let line = match waiting {
             WaitingItem::NewPlant { line } => line,
             WaitingItem::NewFrame { line } => {
-                let restored = restore(alloc, plant, &line.saved, rankings);
+                let restored = restore(alloc, plant, &line.saved);
                 answer_frame(alloc, &mut service, line, restored, writer, notes)?;
                 continue;
             }
         };
-        let changed = change(alloc, &service.core, plant, rankings);
+        let changed = change(alloc, &service.core, plant);
         answer_change(alloc, &mut service, line, changed, writer, notes)?;
     }
     Err(io::Error::from(io::ErrorKind::Other))

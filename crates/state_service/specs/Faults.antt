@@ -2,7 +2,6 @@
 use Rattle.std.specs.Prelude.{◌≡◌, ◌≢◌, ◌<◌, ⊤, ℕ, List, [], Option, None, Ok, Err, IfSome, IsUtf8}
 use Rattle.toml.specs.Parse.{parse_document}
 use Rattle.slice_table.specs.ReadPlant.{text_plant}
-use Rattle.grant_policy.specs.declared.policy.Policy.{Policy}
 use Rattle.plant.specs.declared.plant.PlantFields.{PlantFields}
 use Rattle.run_model.specs.IsStateAfter.{CoreView}
 use Rattle.live_core.specs.Resting.{Rests}
@@ -49,8 +48,7 @@ pub record AreRefusals (live : CoreView) (plant : PlantFields) (refused : List R
 
 -- the plant of a core is not changed to this one for such a reason, and these are the refusals
 pub record IsChangeRefusedFor (live : CoreView) (plant : PlantFields) (why : ChangeFault) (refused : List RefusedState) : Type 0 where
-  pub policies : List Policy
-  pub reason : IsChangeFault live plant policies why
+  pub reason : IsChangeFault live plant why
   pub refusals : AreRefusals live plant refused
 
 -- a fault of a change of the plant of a core

@@ -12,7 +12,6 @@ mod greeting;
 mod performing;
 mod period_end;
 mod periods;
-mod rankings;
 mod reading;
 mod serving;
 mod starting;

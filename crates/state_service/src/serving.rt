@@ -15,7 +15,6 @@ ghost use Rattle.state_service.specs.Periods.{SaysDue};
 use crate::fault::StateServiceFault;
 use crate::period_end::{DueState, PeriodEnd};
 use crate::periods::serve_period;
-use crate::rankings::rankings_of;
 use crate::starting::{GivenPlant, StartedService, start_service};
 use durable_service::{DurableState, KeptState, SavedState, StartState, put_snapshot};
 use line_journal::{Device, Journal};
@@ -36,8 +35,6 @@ struct ServedPeriod {
 
 /// Puts a state that is due in the place of the lines since the last one, writes the answer that waits for it, and serves lines with a
 /// core in that state until another one is due.
-///
-/// The core and its rankings are made here, since a function that makes them may not hand them out.
 fn serve_kept<D: Device, B: BufRead, W: Write, N: RefusalNotes>(
     alloc: Global,
     journal: &mut Journal<D>,
@@ -67,13 +64,12 @@ fn serve_kept<D: Device, B: BufRead, W: Write, N: RefusalNotes>(
 {
     let DueState { kept, answer } = due;
     let KeptState { start, snapshot } = kept;
-    let rankings = rankings_of!(alloc, start.plant, return Err(StateServiceFault::NoMemory));
     let StartState {
         count: _,
         plant,
         saved,
     } = start;
-    let core = match restore(alloc, plant, &saved, rankings) {
+    let core = match restore(alloc, plant, &saved) {
         Ok(core) => core,
         Err(why) => return Err(StateServiceFault::NotRestored { why }),
     };
@@ -100,8 +96,6 @@ fn serve_kept<D: Device, B: BufRead, W: Write, N: RefusalNotes>(
 
 /// Restores the state of a journal, does its lines again, and serves the first lines of the input under the plant file, until a state is
 /// due.
-///
-/// The cores and their rankings are made here, since a function that makes them may not hand them out.
 fn serve_first<D: Device, B: BufRead, W: Write, N: RefusalNotes>(
     alloc: Global,
     journal: &mut Journal<D>,
@@ -130,14 +124,12 @@ fn serve_first<D: Device, B: BufRead, W: Write, N: RefusalNotes>(
 {
     let SavedState { start, lines, gate } = state;
     journal.gate = gate;
-    let rankings = rankings_of!(alloc, start.plant, return Err(StateServiceFault::NoMemory));
-    let given_rankings = rankings_of!(alloc, given.plant, return Err(StateServiceFault::NoMemory));
     let StartState {
         count,
         plant,
         saved,
     } = start;
-    let core = match restore(alloc, plant, &saved, rankings) {
+    let core = match restore(alloc, plant, &saved) {
         Ok(core) => core,
         Err(why) => return Err(StateServiceFault::NotRestored { why }),
     };
@@ -152,7 +144,6 @@ fn serve_first<D: Device, B: BufRead, W: Write, N: RefusalNotes>(
         restored,
         lines.as_slice(),
         given,
-        given_rankings,
         part,
         period,
         reader,

@@ -19,7 +19,6 @@ use crate::greeting::{resting_frame, write_greeting};
 use crate::period_end::{DueState, PeriodEnd};
 use crate::periods::serve_period;
 use durable_service::{DurableState, redo_lines, state_to_keep};
-use grant_policy::Ranking;
 use line_journal::{Device, Journal};
 use plant::Plant;
 use plant_restart::{change, refused_states};
@@ -47,7 +46,6 @@ fn change_service<W: Write>(
     alloc: Global,
     service: DurableState,
     given: GivenPlant,
-    rankings: Vec<Ranking>,
     writer: &mut W,
 ) -> Result<StartedService, StateServiceFault>
     requires reached { IsReachableFromStart (live_view service.core) }
@@ -66,7 +64,7 @@ fn change_service<W: Write>(
 {
     let refused = refused_states(alloc, &service.core, &given.plant)?;
     let GivenPlant { file, plant } = given;
-    let core = match change(alloc, &service.core, plant, rankings) {
+    let core = match change(alloc, &service.core, plant) {
         Ok(core) => core,
         Err(why) => return Err(StateServiceFault::NotChanged { why, refused }),
     };
@@ -94,7 +92,6 @@ pub(crate) fn start_service<D: Device, B: BufRead, W: Write, N: RefusalNotes>(
     mut service: DurableState,
     lines: &[Vec<u8>],
     given: GivenPlant,
-    rankings: Vec<Ranking>,
     part: &mut Vec<u8>,
     period: u64,
     reader: &mut B,
@@ -125,7 +122,7 @@ pub(crate) fn start_service<D: Device, B: BufRead, W: Write, N: RefusalNotes>(
 {
     redo_lines(alloc, &mut service, lines)?;
     if service.file.as_slice() != given.file.as_slice() {
-        return change_service(alloc, service, given, rankings, writer);
+        return change_service(alloc, service, given, writer);
     }
     write_greeting(writer, service.count, resting_frame(&service.core))?;
     let end = serve_period(

@@ -5,7 +5,7 @@ use Rattle.durable_service.proofs.LeadLemmas.{line_reached}
 use Rattle.durable_service.proofs.doing.do_line.Goals as goal
 
 pub returns-clause-done : goal.returns-clause-done
-returns-clause-done g c plant start before shown after =
+returns-clause-done c plant start before shown after =
     let is = c.in-Ok.ensures plant start before shown after in
     let found = c.ends_with.ensures.value ∙ ap (λ (l : List ℕ). pointwise nat_eq out_of_memory (drop (length l - length out_of_memory) l)) c.deref.ensures.value in
     record {
@@ -16,5 +16,5 @@ returns-clause-done g c plant start before shown after =
     }
 
 pub returns-clause-reached : goal.returns-clause-reached
-returns-clause-reached g c =
-    line_reached (live_view c.args.core.now) (live_view c.answer_line.new.core) c.args.number c.args.line.now c.args.text.now.items c.answer_line.new.writer.items c.requires.reached (returns-clause-done g c)
+returns-clause-reached c =
+    line_reached (live_view c.args.core.now) (live_view c.answer_line.new.core) c.args.number c.args.line.now c.args.text.now.items c.answer_line.new.writer.items c.requires.reached (returns-clause-done c)

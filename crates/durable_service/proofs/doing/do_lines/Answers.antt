@@ -5,7 +5,7 @@ use Rattle.durable_service.proofs.ListLemmas.{texts_more, taken_length, all_take
 use Rattle.durable_service.proofs.doing.do_lines.Goals as goal
 
 pub loop-line-init : goal.loop-line-init
-loop-line-init g c = record {
+loop-line-init c = record {
   reached = c.requires.reached;
   counted = omega arith;
   done = λ plant start before shown after. record {
@@ -16,7 +16,7 @@ loop-line-init g c = record {
 }
 
 pub loop-line-preserved : goal.loop-line-preserved
-loop-line-preserved g c =
+loop-line-preserved c =
     let at = c.loop-line in
     let lines = c.args.lines.now in
     let i = at.line-index in
@@ -39,7 +39,7 @@ loop-line-preserved g c =
     }
 
 pub returns-clause-done : goal.returns-clause-done
-returns-clause-done g c plant start before shown after =
+returns-clause-done c plant start before shown after =
     let at = c.loop-line in
     let all = all_taken c.args.lines.now at.line-index (omega (arith, c.loop-line-test.false, at.auto.line-index-end)) in
     subst (λ (ls : List (List ℕ)). LinesAreDone plant start before shown (c.args.count.now + 1) ls (live_view at.core) c.args.text.now.items at.text.items) all

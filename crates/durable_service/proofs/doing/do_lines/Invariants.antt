@@ -4,7 +4,7 @@ use Rattle.durable_service.proofs.doing.do_lines.Given as goal
 
 -- the lines so far are done
 abbrev pub invariant-loop-line : goal.invariant-loop-line
-invariant-loop-line g l = record {
+invariant-loop-line l = record {
   reached : IsReachableFromStart (live_view l.core);
   counted : l.count ≡ l.fn.count + l.line-index;
   done : BehindEachRun (live_view l.fn.core) (λ plant start before shown. LinesAreDone plant start before shown (l.fn.count + 1)

@@ -1,5 +1,6 @@
-use Rattle.std.proofs.Common.{◌≡◌, None, [], ◌∷◌, length, ap, refl, sym, ◌∙◌, arith}
-use Rattle.line_service.proofs.Common.{nat_tests, into_iter_items, nil_from_length, step_fault, live_view}
+use Rattle.std.proofs.Common.{◌≡◌, None, [], ◌∷◌, length, map, ap, refl, sym, subst, ◌∙◌, arith}
+use Rattle.live_core.specs.Following.{FollowRows}
+use Rattle.line_service.proofs.Common.{PlantFields, nat_tests, into_iter_items, nil_from_length, step_fault, live_view}
 use Rattle.live_core.specs.declared.core_fault.CoreFault.TheVariants as faults
 use Rattle.line_service.specs.declared.steps_end.StepsEnd.TheVariants as ends
 use Rattle.line_service.proofs.LeftLemmas.{count_next}
@@ -16,6 +17,14 @@ loop-number-init g c =
       half = λ plant start before shown after. rw gives.0 (none_done plant start before shown c.args.steps.items (live_view c.args.core.now) (g.W.Write.contents c.args.writer.now) after);
     }
 
+-- the core has the plant that it had at first
+pub step_over_by-requires : goal.step_over_by-requires
+step_over_by-requires g c =
+    let first = live_view c.args.core.now in
+    let run = c.requires.reached in
+    let half = c.loop-number.invariant.half first.plant run.0 run.1 run.2 run.3 in
+    subst (λ (p : PlantFields). FollowRows (map g.R.Ranks.policy c.args.rankings.now) p.rows) (sym half.after.plant_is) c.requires.policies
+
 -- an allocation failed for the note of a step
 pub returns-in_default : goal.returns-in_default
 returns-in_default g c plant start before shown after =
@@ -31,14 +40,14 @@ loop-number-preserved-then-is_empty g c =
     let at = c.loop-number in
     let line = c.in-Some.field-0 in
     let left : into_iter_items at.number-iterator ≡ line ∷ into_iter_items c.next.new.self = c.in-Some.ensures.steps.0 in
-    let none : length c.step_over.new.outs.items ≡ 0 = grind (arith, nat_tests, c.if-is_empty.ensures, c.step_over.new.outs.ok.0) in
+    let none : length c.step_over_by.new.outs.items ≡ 0 = grind (arith, nat_tests, c.if-is_empty.ensures, c.step_over_by.new.outs.ok.0) in
     record {
       next = tt;
       finite = tt;
       count = count_next _ line _ _ _ left c.in-Some.ensures.steps.1 at.invariant.count;
       half = λ plant start before shown after.
-          half_more plant start before shown _ _ _ _ _ _ line _ _ (rw c.note_step.ensures.kept (rw left at (at.invariant.half plant start before shown after))) (c.in-Ok-step_over.ensures.reached start)
-          (none_written (live_view c.step_over.new.self).plant (g.W.Write.contents c.note_step.new.writer) c.step_over.new.outs.items (nil_from_length c.step_over.new.outs.items none));
+          half_more plant start before shown _ _ _ _ _ _ line _ _ (rw c.note_step.ensures.kept (rw left at (at.invariant.half plant start before shown after))) (c.in-Ok-step_over_by.ensures.reached start)
+          (none_written (live_view c.step_over_by.new.self).plant (g.W.Write.contents c.note_step.new.writer) c.step_over_by.new.outs.items (nil_from_length c.step_over_by.new.outs.items none));
     }
 
 pub loop-number-preserved : goal.loop-number-preserved
@@ -51,7 +60,7 @@ loop-number-preserved g c =
       finite = tt;
       count = count_next _ line _ _ _ left c.in-Some.ensures.steps.1 at.invariant.count;
       half = λ plant start before shown after.
-          half_more plant start before shown _ _ (live_view c.step_over.new.self) _ (g.W.Write.contents c.note_step.new.writer) (g.W.Write.contents c.write_outs.new.writer) line _ c.step_over.new.outs.items
+          half_more plant start before shown _ _ (live_view c.step_over_by.new.self) _ (g.W.Write.contents c.note_step.new.writer) (g.W.Write.contents c.write_outs.new.writer) line _ c.step_over_by.new.outs.items
           (rw c.note_step.ensures.kept (rw left at (at.invariant.half plant start before shown after))) (c.in-Ok-2.ensures.reached start)
           (rw (← c.plant.ensures, ← c.as_slice.ensures.value) c.in_ok-write_outs-in-Ok-2.ensures);
     }
@@ -61,7 +70,7 @@ returns-in-Err g c plant start before shown after =
     let at = c.loop-number in
     let line = c.in-Some.field-0 in
     let left : into_iter_items at.number-iterator ≡ line ∷ into_iter_items c.next.new.self = c.in-Some.ensures.steps.0 in
-    step_not_done plant start before shown c.args.steps.items (live_view at.core) (live_view c.step_over.new.self) (g.W.Write.contents c.args.writer.now) (g.W.Write.contents c.note_step.new.writer) line (into_iter_items c.next.new.self) (Unit {0}) c.in-Err.fault _
+    step_not_done plant start before shown c.args.steps.items (live_view at.core) (live_view c.step_over_by.new.self) (g.W.Write.contents c.args.writer.now) (g.W.Write.contents c.note_step.new.writer) line (into_iter_items c.next.new.self) (Unit {0}) c.in-Err.fault _
     (rw c.note_step.ensures.kept (rw left at (at.invariant.half plant start before shown after))) c.in-Err.ensures.err c.in-Err.ensures.fault c.end_of.ensures
 
 pub returns : goal.returns

@@ -5,7 +5,7 @@ use Rattle.plant_restart.proofs.SaveLemmas.{states_saved}
 use Rattle.plant_restart.proofs.refusing.refused_states.Goals as goal
 
 pub returns-clause-rests : goal.returns-clause-rests
-returns-clause-rests g c =
+returns-clause-rests c =
     let plant = c.args.plant.now in
     let saved = c.as_slice.result.now in
     let states = map (saved_by_name c.in-Ok.frame) saved in
@@ -19,4 +19,4 @@ returns-clause-rests g c =
     c.refused_by_name.ensures
 
 pub returns-clause-restless : goal.returns-clause-restless
-returns-clause-restless g c = IfOk-weaker c.refused_by_name.result _ _ (λ refused is none. absurd (none c.in-Ok.frame c.in-Ok.ensures.ok)) c.refused_by_name.ensures
+returns-clause-restless c = IfOk-weaker c.refused_by_name.result _ _ (λ refused is none. absurd (none c.in-Ok.frame c.in-Ok.ensures.ok)) c.refused_by_name.ensures

@@ -3,4 +3,4 @@ use Rattle.plant_restart.proofs.Common.{live_view, saved_book}
 use Rattle.plant_restart.proofs.saving.states_to_save.Given as goal
 
 abbrev pub invariant-loop-op : goal.invariant-loop-op
-invariant-loop-op g l = l.operators.items ≡ map saved_book (take l.op (live_view l.core).books)
+invariant-loop-op l = l.operators.items ≡ map saved_book (take l.op (live_view l.core).books)

@@ -4,7 +4,7 @@ use Rattle.resumed_service.proofs.ServedLemmas.{plant_changed, plant_kept}
 use Rattle.resumed_service.proofs.changing.answer_change.Goals as goal
 
 pub returns-in_ok-write_change-in-Ok-clause-on : goal.returns-in_ok-write_change-in-Ok-clause-on
-returns-in_ok-write_change-in-Ok-clause-on g c = λ first known read written plant policies ok fault waits.
+returns-in_ok-write_change-in-Ok-clause-on g c = λ first known read written plant ok fault waits.
     let service = c.args.service.now in
     let old = live_view service.core in
     let new = live_view c.in-Ok.core in
@@ -19,9 +19,9 @@ returns-in_ok-write_change-in-Ok-clause-on g c = λ first known read written pla
 pub returns-in-Err-clause-on : goal.returns-in-Err-clause-on
 returns-in-Err-clause-on g c =
     on_ok_map c.answer_refusal.result _ _
-    (λ wrote first known read written plant policies ok fault waits.
+    (λ wrote first known read written plant ok fault waits.
     let service = c.args.service.now in
     let old = live_view service.core in
     plant_kept first service.after c.args.waiting.number service.number old service.file c.args.waiting.text.items plant written (g.W.Write.contents c.args.writer.now)
     (g.W.Write.contents c.answer_refusal.new.writer) known read waits c.refusal_of.result
-    (c.refusal_of.ensures old plant policies (subst (λ (r : _). IfErr r (IsChangeFault old plant policies)) c.in-Err.is fault)) wrote) c.answer_refusal.ensures
+    (c.refusal_of.ensures old plant (subst (λ (r : _). IfErr r (IsChangeFault old plant)) c.in-Err.is fault)) wrote) c.answer_refusal.ensures

@@ -4,7 +4,7 @@ use Rattle.resumed_service.proofs.ItemLemmas.{core_text}
 use Rattle.resumed_service.proofs.items.snapshot_of_core.Goals as goal
 
 pub returns-in-Ok-clause-ok : goal.returns-in-Ok-clause-ok
-returns-in-Ok-clause-ok g c =
+returns-in-Ok-clause-ok c =
     let live = live_view c.args.core.now in
     let saved = c.in_ok-saved.saved in
     let is = c.in_ok-saved.ensures.ok in

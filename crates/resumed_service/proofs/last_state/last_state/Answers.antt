@@ -4,7 +4,7 @@ use Rattle.resumed_service.proofs.SavedLemmas.{restless}
 use Rattle.resumed_service.proofs.last_state.last_state.Goals as goal
 
 pub returns-in-Err-Unfinished : goal.returns-in-Err-Unfinished
-returns-in-Err-Unfinished g c =
+returns-in-Err-Unfinished c =
     let live = live_view c.args.service.now.core in
     restless c.args.at_end c.args.service.now.file live c.in-Err-Unfinished.why c.name_at.result c.in-Snapshot.is
     (c.in-Err-Unfinished.ensures.fault c.in-Err-Unfinished.why (let is = c.in-Err-Unfinished.field-0-is in cc))

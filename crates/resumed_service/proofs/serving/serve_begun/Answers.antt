@@ -1,5 +1,5 @@
-use Rattle.std.proofs.Common.{◌≡◌, List, map, refl, sym, ap, subst, ◌∙◌, arith}
-use Rattle.resumed_service.proofs.Common.{take_all, Policy, RowFields, IsReachableFromStart, live_view, WhereKnown, if_ok, states_of, IsRestoreFault, states_by_name, LineBreak, lines_left, resumed_service, AreServedSoFar, AwaitsCore, IsAfterItem}
+use Rattle.std.proofs.Common.{◌≡◌, refl, sym, ap, subst}
+use Rattle.resumed_service.proofs.Common.{IsReachableFromStart, live_view, WhereKnown, if_ok, states_of, states_by_name, LineBreak, lines_left, resumed_service, AreServedSoFar, AwaitsCore, IsAfterItem}
 use Rattle.resumed_service.specs.declared.new_plant.ItemOutcome.{ItemOutcome}
 use Rattle.resumed_service.specs.declared.new_plant.WaitingItem.{WaitingItem}
 use Rattle.resumed_service.proofs.RefusalLemmas.{restarted_is_reached}
@@ -7,15 +7,7 @@ use Rattle.resumed_service.proofs.ServedLemmas.{service_begun, all_served}
 use Rattle.resumed_service.proofs.serving.serve_begun.Goals as goal
 
 pub returns-in-Err : goal.returns-in-Err
-returns-in-Err g c =
-    let plant = c.args.begun.plant in
-    let saved = c.args.begun.saved in
-    let items = c.rows-row-items.result.now in
-    let all = take_all c.loop-row.row-index items (omega (arith, c.loop-row-test.false, c.loop-row.auto.row-index-end)) ∙ c.rows-row-items.ensures.value in
-    let policies = c.loop-row.invariant.policies ∙ ap (λ (rows : List RowFields). map (λ row. row.policy) rows) all in (
-      c.restore_fault.ensures plant saved (subst (λ (all : List Policy). IsRestoreFault plant all saved.frame (states_of saved) c.in-Err.why) policies c.in-Err.ensures.fault),
-      refl,
-    )
+returns-in-Err g c = (c.restore_fault.ensures c.args.begun.plant c.args.begun.saved c.in-Err.ensures.fault, refl)
 
 pub loop-init : goal.loop-init
 loop-init g c =
@@ -86,7 +78,7 @@ loop-preserved g c =
     subst (λ (waiting : WaitingItem). WhereKnown known read (λ input rest. AwaitsCore first input rest new.after new.number (live_view new.core) new.file waiting c.in-Awaits.plant w0 w2)) c.in-NewPlant.is waits in
     record {
       reached = c.in_ok-answer_change.ensures.reached;
-      served = c.in_ok-answer_change.ensures.on first known read w0 _ _ c.change-changed.ensures.ok c.change-changed.ensures.fault here;
+      served = c.in_ok-answer_change.ensures.on first known read w0 _ c.change-changed.ensures.ok c.change-changed.ensures.fault here;
     }
 
 pub loop-preserved-in-NewFrame : goal.loop-preserved-in-NewFrame
@@ -109,5 +101,5 @@ loop-preserved-in-NewFrame g c =
     subst (λ (waiting : WaitingItem). WhereKnown known read (λ input rest. AwaitsCore first input rest new.after new.number (live_view new.core) new.file waiting c.in-Awaits.plant w0 w2)) c.in-NewFrame.is waits in
     record {
       reached = c.in_ok-answer_frame-in-NewFrame.ensures.reached;
-      served = c.in_ok-answer_frame-in-NewFrame.ensures.on first known read w0 _ _ c.restore-restored.ensures.ok c.restore-restored.ensures.fault here;
+      served = c.in_ok-answer_frame-in-NewFrame.ensures.on first known read w0 _ c.restore-restored.ensures.ok c.restore-restored.ensures.fault here;
     }

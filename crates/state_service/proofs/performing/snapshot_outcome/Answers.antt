@@ -4,7 +4,7 @@ use Rattle.state_service.proofs.CommandLemmas.{core_snapshot_is, snapshot_given}
 use Rattle.state_service.proofs.performing.snapshot_outcome.Goals as goal
 
 pub returns-clause-outcome : goal.returns-clause-outcome
-returns-clause-outcome g c =
+returns-clause-outcome c =
     let file = c.args.service.now.file in
     let live = live_view c.args.service.now.core in
     let saved = c.in-Ok.saved in

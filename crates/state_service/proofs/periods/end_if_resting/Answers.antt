@@ -5,7 +5,7 @@ use Rattle.state_service.proofs.ServeLemmas.{state_due_where}
 use Rattle.state_service.proofs.periods.end_if_resting.Goals as goal
 
 pub returns-clause-on : goal.returns-clause-on
-returns-clause-on g c file first count known rest written now part same so_far =
+returns-clause-on c file first count known rest written now part same so_far =
     let service = c.args.service.now in
     let live = live_view service.core in
     let kept = c.in-Some.kept in

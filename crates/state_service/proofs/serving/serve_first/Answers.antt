@@ -4,34 +4,6 @@ use Rattle.state_service.proofs.KeepLemmas.{unchanged, stands_has}
 use Rattle.state_service.proofs.CrashLemmas.{found_left}
 use Rattle.state_service.proofs.serving.serve_first.Goals as goal
 
-pub returns-in_default-clause-any_moment : goal.returns-in_default-clause-any_moment
-returns-in_default-clause-any_moment g c =
-    let content = journal_content (g.D.Device.seen c.args.journal.now.device) in
-    let known = g.B.Read.remaining c.args.reader.now in
-    unchanged g.D.Device.moment g.D.Device.left_since _ g.D.Device.seen g.D.Device.may_leave (λ o. IsLeftUnder content c.args.given.file.items known o) (g.met.D.Device.only_now _) c.requires.settled.durable
-    (found_left content _ known _ (stands_has content _ _ _ c.args.state.lines.items c.requires.found))
-
-pub returns-then-is_err-clause-any_moment : goal.returns-then-is_err-clause-any_moment
-returns-then-is_err-clause-any_moment g c =
-    let content = journal_content (g.D.Device.seen c.args.journal.now.device) in
-    let known = g.B.Read.remaining c.args.reader.now in
-    unchanged g.D.Device.moment g.D.Device.left_since _ g.D.Device.seen g.D.Device.may_leave (λ o. IsLeftUnder content c.args.given.file.items known o) (g.met.D.Device.only_now _) c.requires.settled.durable
-    (found_left content _ known _ (stands_has content _ _ _ c.args.state.lines.items c.requires.found))
-
-pub returns-in_default-new-clause-any_moment : goal.returns-in_default-new-clause-any_moment
-returns-in_default-new-clause-any_moment g c =
-    let content = journal_content (g.D.Device.seen c.args.journal.now.device) in
-    let known = g.B.Read.remaining c.args.reader.now in
-    unchanged g.D.Device.moment g.D.Device.left_since _ g.D.Device.seen g.D.Device.may_leave (λ o. IsLeftUnder content c.args.given.file.items known o) (g.met.D.Device.only_now _) c.requires.settled.durable
-    (found_left content _ known _ (stands_has content _ _ _ c.args.state.lines.items c.requires.found))
-
-pub returns-then-is_err-2-clause-any_moment : goal.returns-then-is_err-2-clause-any_moment
-returns-then-is_err-2-clause-any_moment g c =
-    let content = journal_content (g.D.Device.seen c.args.journal.now.device) in
-    let known = g.B.Read.remaining c.args.reader.now in
-    unchanged g.D.Device.moment g.D.Device.left_since _ g.D.Device.seen g.D.Device.may_leave (λ o. IsLeftUnder content c.args.given.file.items known o) (g.met.D.Device.only_now _) c.requires.settled.durable
-    (found_left content _ known _ (stands_has content _ _ _ c.args.state.lines.items c.requires.found))
-
 pub returns-in-Err-clause-any_moment : goal.returns-in-Err-clause-any_moment
 returns-in-Err-clause-any_moment g c =
     let content = journal_content (g.D.Device.seen c.args.journal.now.device) in

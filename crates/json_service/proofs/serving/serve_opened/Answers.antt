@@ -1,6 +1,6 @@
 use Rattle.live_core.specs.LiveView.{live_view}
 use Rattle.json_service.proofs.ServiceLemmas.{served}
-use Rattle.json_service.proofs.serving.serve_ranked.Goals as goal
+use Rattle.json_service.proofs.serving.serve_opened.Goals as goal
 
 pub returns-in-Ok-serve-clause-served : goal.returns-in-Ok-serve-clause-served
 returns-in-Ok-serve-clause-served g c =
