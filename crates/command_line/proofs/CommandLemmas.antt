@@ -1,14 +1,16 @@
 -- What clap promises of the program's command line.
 use Rattle.std.proofs.Common.{◌≡◌, ◌∙◌, ◌&&◌, Bool, true, false, not, refl, ap, ap₂, subst, List, Result}
-use Rattle.clap.specs.Words.{AddsSubcommand, App, FailsBy, HasMatchesOf, Text, app_of, fault_of, first_of, first_value, is_simple, is_simple_and_free, rows_of, subcommand_of, subcommand_rows_of, with_subcommand}
-use Rattle.command_line.proofs.Common.{has_plain_fields, Error, ArgMatches}
+use Rattle.clap.specs.Words.{AddsSubcommand, FailsBy, HasMatchesOf, app_of, fault_of, first_of, first_value, found_of, is_simple, is_simple_and_free, matches_of, rows_of, subcommand_of}
+use Rattle.command_line.proofs.Common.{App, Text, has_plain_fields, Error, ArgMatches, subcommand_rows_of, with_subcommand}
+use Rattle.command_line.specs.ClapLine.{command_app, entered_subcommand, faults, program, top_rows, with_operand}
+use Rattle.command_line.specs.declared.names.CommandName.{CommandName}
+use Rattle.command_line.specs.declared.names.CommandName.TheVariants as names
 use Rattle.clap.specs.declared.builder.command.Command.{Command}
 use Rattle.clap.specs.declared.builder.command.Command.TheOpen.{Command-F}
 use Rattle.clap.specs.declared.builder.command.Command.TheViews.{out-Command}
 use Rattle.clap.specs.declared.parser.matches.Found.{Found}
 use Rattle.clap.proofs.OnLiterals.{clap_on_literals}
 use Rattle.clap.proofs.WalkLemmas.{first_value-rows}
-use Rattle.command_line.specs.ClapLine.{entered_subcommand, faults, program}
 
 third_is_false : (a b g rest : Bool) → (a && (b && (not g && rest))) ≡ true → g ≡ false
 third_is_false true true false rest h = refl
@@ -43,7 +45,13 @@ unfolding faults
 fails_by_faults a words r same kinds =
     subst (λ (q : App). FailsBy (fault_of q words) r) same (kinds (ap is_simple_and_free same ∙ program_is_free))
 
--- and has the subcommand that the words enter there
+-- and has the options and the subcommand that it has there
+pub has_top : (a : App) (words : List Text) (m : ArgMatches) → a ≡ program → HasMatchesOf a words m
+    → rows_of (found_of m) ≡ top_rows words
+unfolding top_rows
+has_top a words m same matches =
+    (matches (ap is_simple same ∙ program_is_simple)).0 ∙ ap (λ (q : App). matches_of q words) same
+
 pub has_entered : (a : App) (words : List Text) (m : ArgMatches) → a ≡ program → HasMatchesOf a words m
     → subcommand_rows_of m ≡ entered_subcommand words
 unfolding entered_subcommand
@@ -53,3 +61,32 @@ has_entered a words m same matches =
 -- the value of an argument, in the matches and in their rows
 pub value_in_rows : (f : Found) (id : Text) → first_value f id ≡ first_of id (rows_of f)
 value_in_rows f id = first_value-rows f id
+
+-- ---- one command
+
+-- a command but `history` has no operand
+pub no_operand : (name : CommandName) (a : App) → (name ≡ names.History → ⊥) → with_operand name a ≡ a
+no_operand names.One a other = refl
+no_operand names.Check a other = refl
+no_operand names.Run a other = refl
+no_operand names.Threads a other = refl
+no_operand names.Capture a other = refl
+no_operand names.Serve a other = refl
+no_operand names.Trace a other = refl
+no_operand names.History a other = absurd (other refl)
+no_operand names.Resume a other = refl
+no_operand names.Restore a other = refl
+no_operand names.Snapshot a other = refl
+
+pub command_is_plain : (name : CommandName) → (command_app name).top.is_plain ≡ true
+command_is_plain names.One = refl
+command_is_plain names.Check = refl
+command_is_plain names.Run = refl
+command_is_plain names.Threads = refl
+command_is_plain names.Capture = refl
+command_is_plain names.Serve = refl
+command_is_plain names.Trace = refl
+command_is_plain names.History = refl
+command_is_plain names.Resume = refl
+command_is_plain names.Restore = refl
+command_is_plain names.Snapshot = refl

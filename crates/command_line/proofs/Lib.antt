@@ -1,8 +1,6 @@
 mod Common
-pub mod CommandLemmas
-pub mod FlagSteps
-pub mod Shapes
-pub mod WalkSteps
-pub mod Outcomes
+mod CommandLemmas
 pub mod ReadLemmas
+mod StrayLemmas
 pub mod WordLemmas
+pub mod BareLemmas

@@ -1,105 +1,176 @@
--- What words come to that are written out, and which words come to what.
-use Rattle.std.proofs.Common.{◌≡◌, ◌≢◌, ◌⊎◌, ◌∙◌, inl, inr, ℕ, false, ◌==◌, List, [], ◌∷◌, None, refl, sym, ap, ne_eqb, codes, slice_index, arith}
-use Rattle.command_line.proofs.Common.{short_of, Text, Order, history, AreWrong, AsksHelp, IsHelpFlag, IsHelpWord, IsOperand, NamesOrder}
+-- What words come to that are written out.
+use Rattle.std.proofs.Common.{◌≡◌, ℕ, List, [], ◌∷◌, Some, true, refl, codes}
+use Rattle.command_line.proofs.Common.{order, service, one, check, run, threads, capture, serve, trace, history, command}
 use Rattle.clap.proofs.OnLiterals.{clap_on_literals}
-use Rattle.command_line.specs.ClapLine.{entered_subcommand, faults}
-use Rattle.command_line.proofs.Outcomes.{named, helped, failing, outcome}
-use Rattle.command_line.proofs.ReadLemmas.{help_faults, help_word_faults, names_taken, refused_wrong, stands_once}
+use Rattle.command_line.specs.ClapLine.{entered_subcommand, faults, top_rows}
+use Rattle.command_line.specs.CommandLine.{AreRefused, AsksHelp, AsksVersion, NamesOrder, NamesService, reading}
+use Rattle.command_line.specs.Options.{no_options}
+use Rattle.command_line.specs.declared.asked.ServiceWord.TheVariants.{Resume, Restore, Snapshot}
 
--- a text that begins with no hyphen is an operand
-pub no_hyphen_operand : (w : Text) → ((rest : Text) → w ≢ 45 ∷ rest) → IsOperand w
-no_hyphen_operand [] other = record { no_end = λ e. cc; no_long = refl; no_short = refl }
-no_hyphen_operand (b ∷ rest) other =
-    let differs : (b == 45) ≡ false = ne_eqb _ _ (λ e. other rest (ap (λ (x : ℕ). x ∷ rest) e)) in
-    record { no_end = λ e. other (45 ∷ []) e; no_long = rw differs refl; no_short = rw (no_short b rest differs) refl }
-  where
-    no_short : (b : ℕ) (rest : Text) → (b == 45) ≡ false → short_of (b ∷ rest) ≡ None
-    no_short b rest differs = rw differs refl
+pub orders_are_named_one : NamesOrder (codes "one" ∷ []) one
+unfolding reading faults top_rows entered_subcommand clap_on_literals
+orders_are_named_one = refl
 
-pub operand_named : (name : Text) → ((rest : Text) → name ≢ 45 ∷ rest) → NamesOrder (codes "history" ∷ name ∷ []) (history name)
-operand_named name other = inl (no_hyphen_operand name other, inl refl)
+pub orders_are_named_check : NamesOrder (codes "check" ∷ []) check
+unfolding reading faults top_rows entered_subcommand clap_on_literals
+orders_are_named_check = refl
 
--- ---- wrong words
+pub orders_are_named_run : NamesOrder (codes "run" ∷ []) run
+unfolding reading faults top_rows entered_subcommand clap_on_literals
+orders_are_named_run = refl
 
-pub nothing_wrong : AreWrong []
-unfolding faults clap_on_literals
-nothing_wrong = refused_wrong _ (record { some = λ e. cc; no_help = λ h. elim h [ inl e ↦ cc | inr none ↦ none ] })
+pub orders_are_named_ended : NamesOrder (codes "run" ∷ codes "--" ∷ []) run
+unfolding reading faults top_rows entered_subcommand clap_on_literals
+orders_are_named_ended = refl
 
-pub unknown_wrong : AreWrong (codes "wrong" ∷ [])
-unfolding faults clap_on_literals
-unknown_wrong = refused_wrong _ (record {
-  some = λ e. cc;
-  no_help = λ h. elim h [ inl e ↦ cc | inr h2 ↦ elim h2 [ inl e ↦ cc | inr none ↦ none ] ];
-})
+pub orders_are_named_threads : NamesOrder (codes "threads" ∷ []) threads
+unfolding reading faults top_rows entered_subcommand clap_on_literals
+orders_are_named_threads = refl
 
-pub second_word_wrong : AreWrong (codes "one" ∷ codes "more" ∷ [])
-unfolding faults clap_on_literals
-second_word_wrong = refused_wrong _ (record { some = λ e. cc; no_help = λ h. elim h [ inl e ↦ cc | inr none ↦ none ] })
+pub orders_are_named_capture : NamesOrder (codes "capture" ∷ []) capture
+unfolding reading faults top_rows entered_subcommand clap_on_literals
+orders_are_named_capture = refl
 
-pub no_operand_wrong : AreWrong (codes "history" ∷ [])
-unfolding faults clap_on_literals
-no_operand_wrong = refused_wrong _ (record { some = λ e. cc; no_help = λ h. elim h [ inl e ↦ cc | inr none ↦ none ] })
+pub orders_are_named_serve : NamesOrder (codes "serve" ∷ []) serve
+unfolding reading faults top_rows entered_subcommand clap_on_literals
+orders_are_named_serve = refl
 
-pub second_operand_wrong : AreWrong (codes "history" ∷ codes "A" ∷ codes "B" ∷ [])
-unfolding faults clap_on_literals
-second_operand_wrong = refused_wrong _ (record { some = λ e. cc; no_help = λ h. elim h [ inl e ↦ cc | inr none ↦ none ] })
+pub orders_are_named_trace : NamesOrder (codes "trace" ∷ []) trace
+unfolding reading faults top_rows entered_subcommand clap_on_literals
+orders_are_named_trace = refl
 
--- ---- every list of words
+pub orders_are_named_history : NamesOrder (codes "history" ∷ codes "A" ∷ []) (history (codes "A"))
+unfolding reading faults top_rows entered_subcommand clap_on_literals
+orders_are_named_history = refl
 
-pub comes_to_one : (words : List Text) → ((o : Order) × NamesOrder words o) ⊎ (AsksHelp words ⊎ (IsHelpWord words ⊎ AreWrong words))
-comes_to_one words = elim (outcome words) [
-  | named o names ↦ inl (o, names)
-  | helped help ↦ inr (inr (inl help))
-  | failing (inl (asks, is)) ↦ inr (inl asks)
-  | failing (inr refused) ↦ inr (inr (inr (refused_wrong words refused)))
-]
+pub orders_are_named_operand : (name : List ℕ) → NamesOrder (codes "history" ∷ codes "--" ∷ name ∷ []) (history name)
+unfolding reading faults top_rows entered_subcommand clap_on_literals
+orders_are_named_operand name = refl
 
-pub named_once : (words : List Text) (o p : Order) → NamesOrder words o → NamesOrder words p → o ≡ p
-named_once words o p a b = stands_once o p (entered_subcommand words) (names_taken words o a).1 (names_taken words p b).1
+pub services_are_named_resume : NamesService (codes "resume" ∷ []) Resume
+unfolding reading faults top_rows entered_subcommand clap_on_literals
+services_are_named_resume = refl
 
-pub named_not_asked : (words : List Text) (o : Order) → NamesOrder words o → AsksHelp words → ⊥
-named_not_asked words o a b = let no = sym (names_taken words o a).0 ∙ help_faults words b in cc
+pub services_are_named_restore : NamesService (codes "restore" ∷ []) Restore
+unfolding reading faults top_rows entered_subcommand clap_on_literals
+services_are_named_restore = refl
 
-pub named_not_help : (words : List Text) (o : Order) → NamesOrder words o → IsHelpWord words → ⊥
-named_not_help words o a b = let no = sym (names_taken words o a).0 ∙ help_word_faults words b in cc
+pub services_are_named_snapshot : NamesService (codes "snapshot" ∷ []) Snapshot
+unfolding reading faults top_rows entered_subcommand clap_on_literals
+services_are_named_snapshot = refl
 
-pub asked_not_help : (words : List Text) → AsksHelp words → IsHelpWord words → ⊥
-asked_not_help words a b = let no = sym (help_faults words a) ∙ help_word_faults words b in cc
+pub options_are_read_after : reading (codes "run" ∷ codes "--json" ∷ []) ≡ command (order run) (record no_options { has_json = true })
+unfolding reading faults top_rows entered_subcommand clap_on_literals
+options_are_read_after = refl
 
--- ---- words that are written out
+pub options_are_read_before : reading (codes "--strict" ∷ codes "check" ∷ []) ≡ command (order check) (record no_options { has_strict = true })
+unfolding reading faults top_rows entered_subcommand clap_on_literals
+options_are_read_before = refl
 
-a_operand : IsOperand (codes "A")
-a_operand = no_hyphen_operand (codes "A") (λ rest e. let no : 65 ≡ 45 = ap (λ (t : Text). slice_index t 0) e in omega arith)
+pub options_are_read_file : reading (codes "one" ∷ codes "--input" ∷ codes "a" ∷ []) ≡ command (order one) (record no_options { input = Some (codes "a") })
+unfolding reading faults top_rows entered_subcommand clap_on_literals
+options_are_read_file = refl
 
-pub history_named : NamesOrder (codes "history" ∷ codes "A" ∷ []) (history (codes "A"))
-history_named = inl (a_operand, inl refl)
+pub options_are_read_equals : reading (codes "resume" ∷ codes "--input=a" ∷ []) ≡ command (service Resume) (record no_options { input = Some (codes "a") })
+unfolding reading faults top_rows entered_subcommand clap_on_literals
+options_are_read_equals = refl
 
-pub long_asks : AsksHelp (codes "--help" ∷ [])
-long_asks = record { before = []; flag = codes "--help"; behind = []; are = refl; may_lead = tt; is_help = inl refl }
+pub options_are_read_state : reading (codes "--state" ∷ codes "d" ∷ codes "serve" ∷ codes "--snapshot-every" ∷ codes "5" ∷ []) ≡ command (order serve) (record no_options { state = Some (codes "d"); snapshot_every = Some (codes "5") })
+unfolding reading faults top_rows entered_subcommand clap_on_literals
+options_are_read_state = refl
 
-h_flag : IsHelpFlag (codes "-h")
-unfolding clap_on_literals
-h_flag = inr refl
+pub options_are_refused_twice : AreRefused (codes "run" ∷ codes "--json" ∷ codes "--json" ∷ [])
+unfolding reading faults top_rows entered_subcommand clap_on_literals
+options_are_refused_twice = refl
 
-pub short_asks : AsksHelp (codes "-h" ∷ [])
-short_asks = record { before = []; flag = codes "-h"; behind = []; are = refl; may_lead = tt; is_help = h_flag }
+pub options_are_refused_both : AreRefused (codes "--json" ∷ codes "run" ∷ codes "--json" ∷ [])
+unfolding reading faults top_rows entered_subcommand clap_on_literals
+options_are_refused_both = refl
 
-pub word_asks : AsksHelp (codes "run" ∷ codes "--help" ∷ [])
-word_asks = record {
-  before = codes "run" ∷ [];
-  flag = codes "--help";
-  behind = [];
-  are = refl;
-  may_lead = inr (inr (inl refl));
-  is_help = inl refl;
-}
+pub options_are_refused_no_value : AreRefused (codes "check" ∷ codes "--input" ∷ [])
+unfolding reading faults top_rows entered_subcommand clap_on_literals
+options_are_refused_no_value = refl
 
-pub operand_asks : AsksHelp (codes "history" ∷ codes "A" ∷ codes "-h" ∷ [])
-operand_asks = record {
-  before = codes "history" ∷ codes "A" ∷ [];
-  flag = codes "-h";
-  behind = [];
-  are = refl;
-  may_lead = (refl, a_operand);
-  is_help = h_flag;
-}
+pub options_are_refused_not_after : AreRefused (codes "snapshot" ∷ codes "--json" ∷ [])
+unfolding reading faults top_rows entered_subcommand clap_on_literals
+options_are_refused_not_after = refl
+
+pub options_are_refused_not_before : AreRefused (codes "--strict" ∷ codes "run" ∷ [])
+unfolding reading faults top_rows entered_subcommand clap_on_literals
+options_are_refused_not_before = refl
+
+pub options_are_refused_without : AreRefused (codes "serve" ∷ codes "--snapshot-every" ∷ codes "5" ∷ [])
+unfolding reading faults top_rows entered_subcommand clap_on_literals
+options_are_refused_without = refl
+
+pub options_are_refused_together : AreRefused (codes "serve" ∷ codes "--json" ∷ codes "--state" ∷ codes "d" ∷ [])
+unfolding reading faults top_rows entered_subcommand clap_on_literals
+options_are_refused_together = refl
+
+pub options_are_refused_no_command : AreRefused (codes "--json" ∷ [])
+unfolding reading faults top_rows entered_subcommand clap_on_literals
+options_are_refused_no_command = refl
+
+pub help_is_asked_long : AsksHelp (codes "--help" ∷ [])
+unfolding reading faults top_rows entered_subcommand clap_on_literals
+help_is_asked_long = refl
+
+pub help_is_asked_short : AsksHelp (codes "-h" ∷ [])
+unfolding reading faults top_rows entered_subcommand clap_on_literals
+help_is_asked_short = refl
+
+pub help_is_asked_word : AsksHelp (codes "run" ∷ codes "--help" ∷ [])
+unfolding reading faults top_rows entered_subcommand clap_on_literals
+help_is_asked_word = refl
+
+pub help_is_asked_service : AsksHelp (codes "resume" ∷ codes "--help" ∷ [])
+unfolding reading faults top_rows entered_subcommand clap_on_literals
+help_is_asked_service = refl
+
+pub help_is_asked_operand : AsksHelp (codes "history" ∷ codes "A" ∷ codes "-h" ∷ [])
+unfolding reading faults top_rows entered_subcommand clap_on_literals
+help_is_asked_operand = refl
+
+pub help_is_asked_option : AsksHelp (codes "serve" ∷ codes "--state" ∷ codes "d" ∷ codes "--help" ∷ [])
+unfolding reading faults top_rows entered_subcommand clap_on_literals
+help_is_asked_option = refl
+
+pub version_is_asked_long : AsksVersion (codes "--version" ∷ [])
+unfolding reading faults top_rows entered_subcommand clap_on_literals
+version_is_asked_long = refl
+
+pub version_is_asked_short : AsksVersion (codes "-V" ∷ [])
+unfolding reading faults top_rows entered_subcommand clap_on_literals
+version_is_asked_short = refl
+
+pub version_is_asked_before : AreRefused (codes "--version" ∷ codes "run" ∷ [])
+unfolding reading faults top_rows entered_subcommand clap_on_literals
+version_is_asked_before = refl
+
+pub version_is_asked_after : AreRefused (codes "run" ∷ codes "--version" ∷ [])
+unfolding reading faults top_rows entered_subcommand clap_on_literals
+version_is_asked_after = refl
+
+pub others_are_wrong_none : AreRefused []
+unfolding reading faults top_rows entered_subcommand clap_on_literals
+others_are_wrong_none = refl
+
+pub others_are_wrong_unknown : AreRefused (codes "wrong" ∷ [])
+unfolding reading faults top_rows entered_subcommand clap_on_literals
+others_are_wrong_unknown = refl
+
+pub others_are_wrong_second : AreRefused (codes "one" ∷ codes "more" ∷ [])
+unfolding reading faults top_rows entered_subcommand clap_on_literals
+others_are_wrong_second = refl
+
+pub others_are_wrong_no_operand : AreRefused (codes "history" ∷ [])
+unfolding reading faults top_rows entered_subcommand clap_on_literals
+others_are_wrong_no_operand = refl
+
+pub others_are_wrong_second_operand : AreRefused (codes "history" ∷ codes "A" ∷ codes "B" ∷ [])
+unfolding reading faults top_rows entered_subcommand clap_on_literals
+others_are_wrong_second_operand = refl
+
+pub others_are_wrong_help_after : AreRefused (codes "restore" ∷ codes "help" ∷ [])
+unfolding reading faults top_rows entered_subcommand clap_on_literals
+others_are_wrong_help_after = refl

@@ -1,61 +1,80 @@
--- The command line as it is given to clap, and what clap makes of words by its own definitions. Only the crate's own
--- functions are stated by these; what the words result in is said in CommandLine.
-use Rattle.std.specs.Prelude.{◌≡◌, ◌≢◌, ⊤, List, Option, Some, true, codes}
-use Rattle.clap.specs.Words.{App, Kinds, Row, Rule, Text, fault_of, first_of, new_app, new_rule}
+-- The command line as it is given to clap, and what clap makes of words by its own definitions.
+use Rattle.std.specs.Prelude.{List, Bool, true, false, cond, Option, Some, None, codes}
+use Rattle.clap.specs.Words.{App, Kinds, Row, Rule, Text, fault_of, matches_of, new_app, new_rule}
 use Rattle.clap.specs.Words.{subcommand_of, with_rule, with_subcommand}
-use Rattle.clap.specs.declared.error.kind.ErrorKind.{ErrorKind}
-use Rattle.clap.specs.declared.error.kind.ErrorKind.TheVariants as kind
-use Rattle.command_line.specs.Order.{Order, one, check, run, threads, capture, serve, trace, history}
-use Rattle.command_line.specs.declared.asked.WordsFault.{WordsFault}
-use Rattle.command_line.specs.declared.asked.WordsFault.TheVariants as fault
+use Rattle.clap.specs.declared.builder.action.ArgAction.TheVariants.{SetTrue}
+use Rattle.command_line.specs.Names.{name_text, option_text, has_option, has_value}
+use Rattle.command_line.specs.declared.names.CommandName.{CommandName}
+use Rattle.command_line.specs.declared.names.CommandName.TheVariants.{One, Check, Run, Threads, Capture, Serve, Trace, History, Resume, Restore, Snapshot}
+use Rattle.command_line.specs.declared.names.OptionName.{OptionName}
+use Rattle.command_line.specs.declared.names.OptionName.TheVariants.{Input, Json, Strict, State, SnapshotEvery}
+
+-- ---- arguments
+
+-- an option with a value, or a flag
+abbrev pub valued_rule : Bool → Text → Rule
+valued_rule true id = record (new_rule id) { long = Some id; value_names = 1 }
+valued_rule false id = record (new_rule id) { long = Some id; action = Some SetTrue }
+
+abbrev pub option_rule : OptionName → Rule
+option_rule option = valued_rule (has_value option) (option_text option)
+
+-- the one operand of `history`
+abbrev pub operand_rule : Rule
+operand_rule = record (new_rule (codes "operator")) { required = true; value_names = 1 }
+
+-- a command has its options, and before a command there are all
+abbrev pub is_listed : OptionName → Option CommandName → Bool
+is_listed option None = true
+is_listed option (Some command) = has_option option command
+
+abbrev pub with_option : Option CommandName → App → OptionName → App
+with_option command app option = cond (is_listed option command) (with_rule app (option_rule option)) app
+
+abbrev pub with_options : Option CommandName → App → App
+with_options command app = with_option command (with_option command (with_option command (with_option command (with_option command app
+    Input) Json) Strict) State) SnapshotEvery
+
+-- ---- commands
+
+abbrev pub with_operand : CommandName → App → App
+with_operand History app = with_rule app operand_rule
+with_operand _ app = app
+
+abbrev pub command_app : CommandName → App
+command_app command = with_operand command (with_options (Some command) (new_app (name_text command)))
+
+abbrev pub with_command : App → CommandName → App
+with_command app command = with_subcommand app (command_app command).top
 
 -- the words are read without the program's name before them, and one of the subcommands has to be there
 abbrev pub top : App
 top = let a = new_app (codes "plant_script") in
-    record a { top = record a.top { no_binary_name = true; subcommand_required = true } }
+    record a { top = record a.top { no_binary_name = true; subcommand_required = true; has_version = true } }
 
--- the one operand of `history`
-abbrev pub name_argument : Rule
-name_argument = record (new_rule (codes "operator")) { required = true; value_names = 1 }
+abbrev pub with_first_commands : App → App
+with_first_commands app = with_command (with_command (with_command (with_command app One) Check) Run) Threads
 
-abbrev pub history_app : App
-history_app = with_rule (new_app (codes "history")) name_argument
+abbrev pub with_later_commands : App → App
+with_later_commands app = with_command (with_command (with_command (with_command app Capture) Serve) Trace) History
 
--- with `one`, `check`, `run` and `threads`
-abbrev pub with_first_words : App → App
-with_first_words app = with_subcommand (with_subcommand (with_subcommand (with_subcommand app
-    (new_app (codes "one")).top) (new_app (codes "check")).top) (new_app (codes "run")).top) (new_app (codes "threads")).top
+abbrev pub with_services : App → App
+with_services app = with_command (with_command (with_command app Resume) Restore) Snapshot
 
--- with `capture`, `serve` and `trace`
-abbrev pub with_later_words : App → App
-with_later_words app = with_subcommand (with_subcommand (with_subcommand app
-    (new_app (codes "capture")).top) (new_app (codes "serve")).top) (new_app (codes "trace")).top
-
--- `one`, `check`, `run`, `threads`, `capture`, `serve`, `trace` and `history OPERATOR`
+-- all options and all commands
 abbrev pub program : App
-program = with_subcommand (with_later_words (with_first_words top)) history_app.top
+program = with_services (with_later_commands (with_first_commands (with_options None top)))
+
+-- ---- what clap makes of words
 
 -- the kinds of error that clap may answer the words with: none where it takes them
 unfoldable pub faults : List Text → Kinds
 faults words = fault_of program words
 
+-- the options before the command
+unfoldable pub top_rows : List Text → List Row
+top_rows words = matches_of program words
+
 -- the subcommand that the words enter, by its name, and the values of its arguments
 unfoldable pub entered_subcommand : List Text → Option (Text × List Row)
 entered_subcommand words = subcommand_of program words
-
--- a subcommand with its values means the order
-abbrev pub StandsFor : Order → Text × List Row → Type 0
-StandsFor one s = s.0 ≡ codes "one"
-StandsFor check s = s.0 ≡ codes "check"
-StandsFor run s = s.0 ≡ codes "run"
-StandsFor threads s = s.0 ≡ codes "threads"
-StandsFor capture s = s.0 ≡ codes "capture"
-StandsFor serve s = s.0 ≡ codes "serve"
-StandsFor trace s = s.0 ≡ codes "trace"
-StandsFor (history name) s = (s.0 ≡ codes "history") × (first_of (codes "operator") s.1 ≡ Some name)
-
--- the fault that an error of clap of this kind results in, or out of memory
-abbrev pub IsWordsFault : ErrorKind → WordsFault → Type 0
-IsWordsFault k (fault.Help text) = k ≡ kind.DisplayHelp
-IsWordsFault k fault.Wrong = (k ≢ kind.DisplayHelp) × (k ≢ kind.OutOfMemory)
-IsWordsFault k fault.NoMemory = ⊤

@@ -1,83 +1,158 @@
--- The words after the program's name, and what they result in (implementation-specific), with clap's reading of hyphens.
-use Rattle.std.specs.Prelude.{◌≡◌, ◌≢◌, ◌⊎◌, ⊤, ℕ, List, [], ◌∷◌, ◌++◌, Option, Some, None, Result, Ok, Err, codes}
-use Rattle.std.specs.Prelude.{option_and_then, slice_get}
-use Rattle.std.specs.Str.{chars}
-use Rattle.clap.specs.Lexer.{long_of, short_of}
-use Rattle.command_line.specs.Order.{Order, one, check, run, threads, capture, serve, trace, history, order_of}
+-- How the words after the program's name are read, by what clap makes of them, and what may be answered then.
+use Rattle.std.specs.Prelude.{◌≡◌, ◌⊎◌, ⊤, ℕ, Bool, cond, ◌==◌, List, [], ◌∷◌, length, Option, Some, None, Result, Ok, Err}
+use Rattle.std.specs.Prelude.{bytes_eq, codes}
+use Rattle.std.specs.Borrow.{Bor}
+use Rattle.std.specs.List.{list_any}
+use Rattle.clap.specs.Words.{Kinds, Row, Text}
+use Rattle.clap.specs.declared.error.kind.ErrorKind.{ErrorKind}
+use Rattle.clap.specs.declared.error.kind.ErrorKind.TheVariants as kind
+use Rattle.command_line.specs.ClapLine.{entered_subcommand, faults, top_rows}
+use Rattle.command_line.specs.Names.{name_of}
+use Rattle.command_line.specs.Options.{OptionTexts, are_wrong, is_bare, joined, options_in, texts_of}
+use Rattle.command_line.specs.Order.{Asked, Order, asked_by, asked_of, order, order_of, service}
+use Rattle.command_line.specs.declared.asked.CommandLine.{CommandLine}
+use Rattle.command_line.specs.declared.asked.LineFault.{LineFault}
+use Rattle.command_line.specs.declared.asked.LineFault.TheVariants as line
+use Rattle.command_line.specs.declared.asked.ServiceWord.{ServiceWord}
 use Rattle.command_line.specs.declared.asked.Word.{Word}
 use Rattle.command_line.specs.declared.asked.WordsFault.{WordsFault}
 use Rattle.command_line.specs.declared.asked.WordsFault.TheVariants as fault
+use Rattle.command_line.specs.declared.names.CommandName.{CommandName}
 
--- ---- one word
+-- ---- what words are
 
--- two hyphens: no word after them is a flag
-abbrev pub hyphens : List ℕ
-hyphens = codes "--"
+-- A command with its options, a request for help or for the version, or wrong words. Of some words, as those that begin with clap's own
+-- `help`, clap promises help or a refusal, and not which it is.
+pub data Reading : Type 0 where
+  command : Asked → OptionTexts → Reading
+  help : Reading
+  version : Reading
+  wrong : Reading
+  help_or_wrong : Reading
 
--- the first character behind a single hyphen
-abbrev pub first_flag : List ℕ → Option ℕ
-first_flag w = option_and_then (λ flags. slice_get (chars flags) 0) (short_of w)
+-- words that clap takes
+abbrev pub line_with : CommandName → Option Asked → OptionTexts → OptionTexts → Reading
+line_with name None top own = wrong
+line_with name (Some asked) top own = cond (are_wrong name top own) wrong (command asked (joined top own))
 
--- the word is not a flag: it is not the two hyphens, nor begun by them, and no character is behind a single hyphen
-pub record IsOperand (w : List ℕ) : Type 0 where
-  pub no_end : w ≢ hyphens
-  pub no_long : long_of w ≡ None
-  pub no_short : first_flag w ≡ None
+abbrev pub line_named : Option CommandName → List Row → List Row → Reading
+line_named None top own = wrong
+line_named (Some name) top own = line_with name (asked_by name own) (options_in top) (options_in own)
 
--- the word is `--help`, or a hyphen and an h (104), whatever follows them
-abbrev pub IsHelpFlag : List ℕ → Type 0
-IsHelpFlag w = (w ≡ codes "--help") ⊎ (first_flag w ≡ Some 104)
+abbrev pub line_in : List Row → Option (Text × List Row) → Reading
+line_in top None = wrong
+line_in top (Some entered) = line_named (name_of entered.0) top entered.1
 
--- ---- the words
+-- words that clap refuses, by the kind of its error; a request for the version is one word
+abbrev pub refusal : Bool → ErrorKind → Reading
+refusal alone kind.DisplayHelp = help
+refusal alone kind.DisplayVersion = cond alone version wrong
+refusal alone _ = wrong
 
--- the name alone, or the two hyphens after it
-abbrev pub StandsAlone : List ℕ → List (List ℕ) → Type 0
-StandsAlone name words = (words ≡ name ∷ []) ⊎ (words ≡ name ∷ hyphens ∷ [])
+-- of two kinds clap does not promise which it is
+abbrev pub either : Reading → Reading → Reading
+either wrong wrong = wrong
+either _ _ = help_or_wrong
 
--- the words are those of the order; after the two hyphens any word is the operator's name
+abbrev pub refusals : Bool → ErrorKind → Kinds → Reading
+refusals alone k [] = refusal alone k
+refusals alone k (l ∷ ks) = either (refusal alone k) (refusals alone l ks)
+
+abbrev pub read_by : Kinds → Bool → List Row → Option (Text × List Row) → Reading
+read_by [] alone top entered = line_in top entered
+read_by (k ∷ ks) alone top entered = refusals alone k ks
+
+-- how the words are read
+unfoldable pub reading : List Text → Reading
+reading words = read_by (faults words) (length words == 1) (top_rows words) (entered_subcommand words)
+
+-- ---- what may be answered
+
+abbrev pub GivesLine : Reading → CommandLine → Type 0
+GivesLine (command asked options) l = (asked_of l.word ≡ asked) × (texts_of l.options ≡ options)
+GivesLine _ l = ⊥
+
+abbrev pub MayHelp : Reading → Type 0
+MayHelp help = ⊤
+MayHelp help_or_wrong = ⊤
+MayHelp _ = ⊥
+
+abbrev pub MayTellVersion : Reading → Type 0
+MayTellVersion version = ⊤
+MayTellVersion help_or_wrong = ⊤
+MayTellVersion _ = ⊥
+
+abbrev pub MayRefuse : Reading → Type 0
+MayRefuse wrong = ⊤
+MayRefuse help_or_wrong = ⊤
+MayRefuse _ = ⊥
+
+-- out of memory may come at any words
+abbrev pub GivesFault : LineFault → Reading → Type 0
+GivesFault (line.Help text) r = MayHelp r
+GivesFault line.Version r = MayTellVersion r
+GivesFault line.Wrong r = MayRefuse r
+GivesFault (line.Options why) r = MayRefuse r
+GivesFault line.NoMemory r = ⊤
+
+abbrev pub GivesReading : Reading → Result CommandLine LineFault → Type 0
+GivesReading r (Ok l) = GivesLine r l
+GivesReading r (Err f) = GivesFault f r
+
+-- `--json` is among the words
+abbrev pub asks_json : List (Bor (List ℕ)) → Bool
+asks_json = list_any (λ w. bytes_eq w.now (codes "--json"))
+
+-- ---- words without an option
+
+-- an order without an option
+abbrev pub bare_order : Reading → Option Order
+bare_order (command (order o) options) = cond (is_bare options) (Some o) None
+bare_order _ = None
+
+-- the words are those of the order, and have no option
 abbrev pub NamesOrder : List (List ℕ) → Order → Type 0
-NamesOrder words one = StandsAlone (codes "one") words
-NamesOrder words check = StandsAlone (codes "check") words
-NamesOrder words run = StandsAlone (codes "run") words
-NamesOrder words threads = StandsAlone (codes "threads") words
-NamesOrder words capture = StandsAlone (codes "capture") words
-NamesOrder words serve = StandsAlone (codes "serve") words
-NamesOrder words trace = StandsAlone (codes "trace") words
-NamesOrder words (history name) =
-    (IsOperand name × ((words ≡ codes "history" ∷ name ∷ [])
-    ⊎ (words ≡ codes "history" ∷ name ∷ hyphens ∷ [])))
-    ⊎ (words ≡ codes "history" ∷ hyphens ∷ name ∷ [])
+NamesOrder words o = bare_order (reading words) ≡ Some o
 
--- words that a flag may follow: none, an order's, or `history` and its operand
-abbrev pub MayLead : List (List ℕ) → Type 0
-MayLead [] = ⊤
-MayLead (w ∷ []) = (w ≡ codes "one") ⊎ ((w ≡ codes "check") ⊎ ((w ≡ codes "run")
-    ⊎ ((w ≡ codes "threads") ⊎ ((w ≡ codes "capture") ⊎ ((w ≡ codes "serve")
-    ⊎ ((w ≡ codes "trace") ⊎ (w ≡ codes "history")))))))
-MayLead (w ∷ u ∷ []) = (w ≡ codes "history") × IsOperand u
-MayLead (w ∷ u ∷ v ∷ rest) = ⊥
+abbrev pub bare_service : Reading → Option ServiceWord
+bare_service (command (service s) options) = cond (is_bare options) (Some s) None
+bare_service _ = None
 
--- the words ask for help: a flag for it is where a flag may, whatever follows it
-pub record AsksHelp (words : List (List ℕ)) : Type 0 where
-  pub before : List (List ℕ)
-  pub flag : List ℕ
-  pub behind : List (List ℕ)
-  pub are : words ≡ before ++ flag ∷ behind
-  pub may_lead : MayLead before
-  pub is_help : IsHelpFlag flag
+-- the words are those of the service, and have no option
+abbrev pub NamesService : List (List ℕ) → ServiceWord → Type 0
+NamesService words s = bare_service (reading words) ≡ Some s
 
--- Clap's own word `help`, with topics after it or none. Clap promises help or a refusal, and not which it is.
-pub record IsHelpWord (words : List (List ℕ)) : Type 0 where
-  pub topics : List (List ℕ)
-  pub are : words ≡ codes "help" ∷ topics
+-- the words ask for help
+abbrev pub AsksHelp : List (List ℕ) → Type 0
+AsksHelp words = reading words ≡ help
 
--- the words are nothing of these
+-- the words ask for the version
+abbrev pub AsksVersion : List (List ℕ) → Type 0
+AsksVersion words = reading words ≡ version
+
+-- clap promises help or a refusal
+abbrev pub IsHelpWord : List (List ℕ) → Type 0
+IsHelpWord words = reading words ≡ help_or_wrong
+
+-- the program refuses the words
+abbrev pub AreRefused : List (List ℕ) → Type 0
+AreRefused words = reading words ≡ wrong
+
+-- for `run_program`, which has no options, the words are nothing of these
 pub record AreWrong (words : List (List ℕ)) : Type 0 where
   pub unnamed : (o : Order) → NamesOrder words o → ⊥
   pub unasked : AsksHelp words → ⊥
   pub unhelped : IsHelpWord words → ⊥
 
--- ---- answers
+-- ---- answers of `read_words`
+
+-- what a fault is for `run_program`, which has no version
+abbrev pub words_fault : LineFault → WordsFault
+words_fault (line.Help text) = fault.Help text
+words_fault line.Version = fault.Wrong
+words_fault line.Wrong = fault.Wrong
+words_fault (line.Options why) = fault.Wrong
+words_fault line.NoMemory = fault.NoMemory
 
 -- the words allow this fault; out of memory may come at any words
 abbrev pub Allows : List (List ℕ) → WordsFault → Type 0

@@ -1,3 +1,0 @@
-mod Common
-pub mod NoOption
-mod Steps
