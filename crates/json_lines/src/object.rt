@@ -35,7 +35,7 @@ fn words_of(alloc: Global, text: &str) -> Result<Vec<Value>, AllocError>
 }
 
 impl JsonObject {
-    /// Returns an object without members.
+    /// Creates an object without members.
     pub fn new(alloc: Global) -> JsonObject
         ensures { members_view result.members.entries ≡ no_members }
     {

@@ -83,7 +83,7 @@ fn told_in(alloc: Global, outs: &[Out]) -> Result<Vec<Packet>, AllocError>
 }
 
 impl Capture {
-    /// Returns a capture of a plant without a packet.
+    /// Creates a capture of a plant without a packet.
     #[tactic(auto, using(crate::proofs::AddressLemmas::none_addressed))]
     pub fn open(alloc: Global, consts: &Consts) -> Capture
         ensures { result ≡ opened_capture consts.now }

@@ -10,7 +10,7 @@ use std::sync::Wait;
 use std::thread::Threads;
 use std::{env, io};
 
-/// What is reported a person at a terminal.
+/// What a person at a terminal is asked to type.
 const AWAITED: &[u8] =
     b"a plant file, a line --- and a script are read from here, up to Ctrl-D (run has --help)\n";
 
@@ -30,8 +30,8 @@ impl<R: Read, N: Write> Read for PromptingReader<'_, R, N> {
     }
 }
 
-/// An output that notes whether its reader has gone, as after `| head -1`: then nobody is reported
-/// that a write failed.
+/// An output that notes whether its reader has gone, as after `| head -1`: then a failed write is not
+/// reported.
 #[derive(Drop)]
 struct BrokenPipeWatch<W> {
     writer: W,
@@ -82,12 +82,17 @@ fn words_of(rt: &(impl Env + AllocGlobal)) -> io::Result<Vec<String>> {
 }
 
 /// Returns whether reasons are written as they come: those of `resume`, `restore` and `snapshot`, and of `serve` with the option
-/// `--state`. Those of other commands are written at the end, and not if the reader of the output has gone.
+/// `--state`. Those of other commands are written at the end, and not if the reader of the output has gone. The words are only
+/// searched for these, which costs less than to parse them once more. Where one is an operand, its reasons come at once too.
 fn reports_at_once(words: &[&str]) -> bool {
-    match words {
-        ["resume" | "restore" | "snapshot", ..] => true,
-        _ => words.contains(&"--state"),
+    for word in words {
+        if matches!(*word, "resume" | "restore" | "snapshot" | "--state")
+            || word.starts_with("--state=")
+        {
+            return true;
+        }
     }
+    false
 }
 
 /// Runs the program over its words. Returns the status.

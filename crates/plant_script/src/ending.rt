@@ -32,7 +32,7 @@ pub(crate) fn refused_line(number: u64, fault: CoreFault) -> Result<Option<u64>,
 pub enum Ending {
     /// It is taken apart, and gives its memory back.
     GoesOn,
-    /// It is left as it exists: the process ends after the answer, and its memory goes with it.
+    /// It is left as it is: the process ends after the answer, and its memory is freed with it.
     Ends,
 }
 

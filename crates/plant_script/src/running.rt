@@ -6,7 +6,9 @@ ghost use Rattle.plant.specs.declared.plant.PlantFields.{PlantFields};
 ghost use Rattle.run_model.specs.IsStateAfter.{IsStateAfter};
 ghost use Rattle.plant_core.specs.CoreView.{core_view};
 ghost use Rattle.live_core.specs.After.{IsAfter, IsReachableFromStart};
+ghost use Rattle.live_core.specs.Following.{FollowRows};
 ghost use Rattle.live_core.specs.LiveView.{live_view};
+ghost use Rattle.operator_book.specs.ViewOf.{policy_of};
 ghost use Rattle.script_format.specs.Text.{outs_text};
 ghost use Rattle.plant_script.specs.Done.{HasRun, book_text};
 ghost use Rattle.plant_script.specs.Run.{IsScriptRun, IsCapturedRunOf};
@@ -23,10 +25,10 @@ use crate::task::Task;
 use crate::tracing::write_traced_run;
 use command_line::RunReport;
 use grant_policy::Ranking;
-use line_service::{NoNotes, open_core, run_steps};
-use live_core::{CoreOpenFault, LiveCore};
+use line_service::{NoNotes, open_core, run_steps_by};
+use live_core::LiveCore;
 use plant::{Op, Plant};
-use plant_core::PlantCore;
+use plant_core::{CoreOpenFault, PlantCore};
 use script_format::{LineStep, write_actions};
 use std::alloc::{AllocError, Global};
 use std::io;
@@ -149,19 +151,21 @@ fn answer_of_history_run(
     Ok(answer)
 }
 
-/// Does the steps of lines on a core as it is opened, and writes what each outputs as it is made,
-/// and the last line. Returns the status.
+/// Does the steps of lines on a core as it is opened, its ticks ranked by these rankings, and writes
+/// what each outputs as it is made, and the last line. Returns the status.
 fn write_run<W: Write>(
     alloc: Global,
     core: &mut LiveCore,
     lines: Vec<LineStep>,
+    rankings: &[Ranking],
     writer: &mut W,
 ) -> io::Result<Status>
     requires reached { IsReachableFromStart (live_view core.old) }
+    requires policies { FollowRows (map policy_of rankings.now) (live_view core.old).plant.rows }
     ensures { IfOk result (λ status. (plant : PlantFields) → IsAfter plant [] [] (live_view core.old)
         → EndsRun plant lines.items (status_code status) (λ text. Appends (W.contents writer.old) (W.contents writer.new) text)) }
 {
-    let end = run_steps(alloc, core, lines, &NoNotes, writer)?;
+    let end = run_steps_by(alloc, core, lines, rankings, &NoNotes, writer)?;
     let status = write_end(writer, end)?;
     writer.flush()?;
     Ok(status)
@@ -181,10 +185,10 @@ fn write_outputs_run<W: Write>(
     ensures { IfOk result (λ status. IsWritten (IsScriptRun plant lines.items (λ done told. outs_text plant told)) (status_code status)
         (λ text. Appends (W.contents writer.old) (W.contents writer.new) text)) }
 {
-    let Ok(mut core) = open_core(alloc, plant, rankings) else {
+    let Ok(mut core) = open_core(alloc, plant) else {
         return write_fault(writer, AnswerFault::Memory);
     };
-    let status = write_run(alloc, &mut core, lines, writer)?;
+    let status = write_run(alloc, &mut core, lines, rankings.as_slice(), writer)?;
     put_away(core, ending);
     Ok(status)
 }

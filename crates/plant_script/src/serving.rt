@@ -1,6 +1,6 @@
 //! The command `serve`: a plant that is kept running, and answers each line of a script as it comes.
 
-ghost use Rattle.std.specs.Prelude.{◌≡◌, map, IfOk};
+ghost use Rattle.std.specs.Prelude.{IfOk};
 ghost use Rattle.std.specs.Io.KnownBytes.{Appends};
 ghost use Rattle.plant_script.specs.Serving.{IsFrontOf, EndsService};
 ghost use Rattle.plant_script.specs.Reaching.{EndsOrder};
@@ -11,9 +11,7 @@ use crate::answer::Answer;
 use crate::check::answer_to_fault;
 use crate::ending::{write_answer, write_fault};
 use crate::input::AnswerFault;
-use crate::rankings::rankings_of;
 use crate::status::Status;
-use grant_policy::Ranking;
 use line_service::{LineBuffer, NoNotes, open_core, read_plant_text, serve};
 use plant::Plant;
 use slice_table::{PlantFault, read_plant};
@@ -75,31 +73,8 @@ fn answer_fault_of(error: &io::Error) -> AnswerFault {
     }
 }
 
-/// Serves a plant as it is opened, up to the end of the input. The rankings are in the plant's
-/// order of operators. Returns the exit status, or that a read or a write failed.
-fn serve_ranked<R: BufRead, W: Write>(
-    alloc: Global,
-    service: Service,
-    rankings: Vec<Ranking>,
-    reader: &mut R,
-    writer: &mut W,
-) -> io::Result<Status>
-    requires { map (λ ranking. ranking.policy) rankings.items ≡ map (λ row. row.policy) service.plant.rows }
-    ensures { IfOk result (λ status. EndsService service.plant (R.remaining reader.old) (status_code status)
-        (λ text. Appends (W.contents writer.old) (W.contents writer.new) text)) }
-{
-    let Service { plant } = service;
-    let Ok(held) = LineBuffer::new(alloc) else {
-        return write_fault(writer, AnswerFault::Memory);
-    };
-    let Ok(mut core) = open_core(alloc, plant, rankings) else {
-        return write_fault(writer, AnswerFault::Memory);
-    };
-    serve(alloc, &mut core, held, reader, &NoNotes, writer)?;
-    Ok(Status::Success)
-}
-
-/// Serves a plant, each operator by the policy of its row. Returns the exit status.
+/// Serves a plant as it is opened, each operator by the policy of its row, up to the end of the
+/// input. Returns the exit status, or that a read or a write failed.
 fn serve_plant<R: BufRead, W: Write>(
     alloc: Global,
     service: Service,
@@ -109,12 +84,15 @@ fn serve_plant<R: BufRead, W: Write>(
     ensures { IfOk result (λ status. EndsService service.plant (R.remaining reader.old) (status_code status)
         (λ text. Appends (W.contents writer.old) (W.contents writer.new) text)) }
 {
-    let rankings = rankings_of!(
-        alloc,
-        service.plant,
-        return write_fault(writer, AnswerFault::Memory)
-    );
-    serve_ranked(alloc, service, rankings, reader, writer)
+    let Service { plant } = service;
+    let Ok(held) = LineBuffer::new(alloc) else {
+        return write_fault(writer, AnswerFault::Memory);
+    };
+    let Ok(mut core) = open_core(alloc, plant) else {
+        return write_fault(writer, AnswerFault::Memory);
+    };
+    serve(alloc, &mut core, held, reader, &NoNotes, writer)?;
+    Ok(Status::Success)
 }
 
 /// Reads a plant file up to the line of three dashes, and serves its plant. The file is noted, or

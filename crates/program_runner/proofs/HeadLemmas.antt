@@ -2,7 +2,8 @@
 use Rattle.std.proofs.Common.{◌≡◌, ◌≢◌, ◌<◌, ◌≤◌, ℕ, ◌+◌, ◌==◌, ◌&&◌, Bool, true, false, List, [], ◌∷◌, ◌++◌, Option, Some, None, length, take, drop, refl, sym, ap, subst, ◌∙◌, append_assoc, append-nil, arith, get_or, codes}
 use Rattle.std.proofs.lemmas.List.{drop_more, drop_all}
 use Rattle.std.proofs.lemmas.Bool.Decides.{nat_tests}
-use Rattle.program_runner.proofs.Common.{bytes_eq, Takes, WhereKnown, is_snapshot_head, IsHeadRead}
+use Rattle.std.specs.Str.{bytes_eq}
+use Rattle.program_runner.proofs.Common.{Takes, WhereKnown, is_snapshot_head, IsHeadRead}
 
 -- a text begins with these bytes
 pub begins_with : List ℕ → List ℕ → Bool

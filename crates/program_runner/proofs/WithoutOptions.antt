@@ -1,80 +1,55 @@
--- What is written for words without an option.
-use Rattle.std.proofs.Common.{◌≡◌, ◌≢◌, ◌≤◌, [], ℕ, List, Bool, true, false, MatchBool, cond, is_some, Option, Some, None, IfSome, refl, sym, subst, ◌∙◌, arith, inl, inr}
-use Rattle.program_runner.proofs.Common.{Appends, texts, memory_line, AreWrong, AsksHelp, IsProgramAnswer, IsWordAnswer, IsRunAnswer, IsCommandAnswer, IsWithoutOption, HasNoOption, is_snapshot_head, IsResumeAnswer, IsRestoreAnswer, service_word, is_run, NamesNoService}
-use Rattle.program_options.specs.declared.options.OptionName.TheVariants.{Input, Json, Strict, State}
-use Rattle.program_options.specs.declared.options.OutputFormat.{OutputFormat}
-use Rattle.program_options.specs.declared.options.OutputFormat.TheVariants.{Plain, JsonLines}
-use Rattle.program_options.specs.declared.options.UnknownKeyHandling.{UnknownKeyHandling}
-use Rattle.program_options.specs.declared.options.UnknownKeyHandling.TheVariants.{Warn, Refuse}
-use Rattle.program_options.specs.declared.options.SeparatedWords.{SeparatedWords}
-use Rattle.program_options.specs.declared.options.OptionsFault.{OptionsFault}
-use Rattle.program_options.specs.declared.options.OptionsFault.TheVariants.{Twice, NoValue, NotOf, Without, Together, NoMemory}
-use Rattle.program_options.specs.Options.{is_json, is_strict}
-use Rattle.program_options.specs.Separating.{IsSeparatedFrom, HasOptionsFault}
-use Rattle.program_options.proofs.NoOption.{all_left}
+-- What is written for a command without an option.
+use Rattle.std.proofs.Common.{◌≡◌, ◌≢◌, [], ℕ, List, Bool, true, false, not, ◌||◌, MatchBool, cond, is_some, Option, None, Some, option_map, IfSome, refl, sym, subst, ap, ◌∙◌, inl, inr}
+use Rattle.program_runner.proofs.Common.{Appends, memory_line, IsProgramAnswer, IsAskedAnswer, IsWordAnswer, IsRunAnswer, IsCommandAnswer, is_run, is_snapshot_head, IsResumeAnswer, IsRestoreAnswer, Asked, Order, order, service, asked_of, bare_texts, Reading, GivesLine, bare_order, bare_service, command, help, help_or_wrong, version, wrong, OptionTexts, is_bare, texts_of}
+use Rattle.command_line.specs.declared.asked.CommandLine.{CommandLine}
+use Rattle.command_line.specs.CommandLine.{GivesFault}
+use Rattle.command_line.specs.declared.asked.LineFault.{LineFault}
+use Rattle.command_line.specs.declared.asked.LineFault.TheVariants as line
+use Rattle.command_line.specs.declared.asked.ServiceWord.{ServiceWord}
+use Rattle.command_line.specs.declared.asked.ServiceWord.TheVariants.{Resume, Restore, Snapshot}
+use Rattle.command_line.specs.declared.options.OutputFormat.{OutputFormat}
+use Rattle.command_line.specs.declared.options.OutputFormat.TheVariants.{Plain, JsonLines}
+use Rattle.command_line.specs.declared.options.ProgramOptions.{ProgramOptions}
+use Rattle.command_line.specs.declared.options.UnknownKeyHandling.{UnknownKeyHandling}
+use Rattle.command_line.specs.declared.options.UnknownKeyHandling.TheVariants.{Warn, Refuse}
+use Rattle.command_line.specs.Options.{is_json, is_strict}
+use Rattle.program_runner.specs.Answered.{WritesLineFault, words_line}
+use Rattle.program_runner.specs.Resume.{WritesHelp}
+use Rattle.program_runner.specs.Version.{version_text}
 use Rattle.resumed_service.specs.declared.begin_fault.BeginFault.TheVariants as begin_faults
-use Rattle.program_runner.specs.declared.service_word.ServiceWord.{ServiceWord}
-use Rattle.program_runner.specs.declared.service_word.ServiceWord.TheVariants.{Resume, Restore, Snapshot}
 
--- ---- a fault
+-- ---- no option
 
-not_one : (n : ℕ) → n ≡ 0 → 1 ≤ n → ⊥
-not_one n none some = omega arith
+not_or : (a b : Bool) → not (a || b) ≡ true → (a ≡ false) × (not b ≡ true)
+not_or false b is = (refl, is)
+not_or true b is = absurd (let no : false ≡ true = is in cc)
 
-not_two : (n : ℕ) → n ≡ 0 → 2 ≤ n → ⊥
-not_two n none some = omega arith
-
--- words without an option have no fault but a failed allocation
-no_fault : (words : List (List ℕ)) (fault : OptionsFault) → HasNoOption words → HasOptionsFault words fault → fault ≡ NoMemory
-no_fault words (Twice option) none has = absurd (not_two _ (none option) has)
-no_fault words (NoValue option) none has = absurd (not_one _ (none option) has.is_there)
-no_fault words (NotOf option) none has = absurd (not_one _ (none option) has.is_there)
-no_fault words (Without option needed) none has = absurd (not_one _ (none option) has.1)
-no_fault words (Together option other) none has = absurd (not_one _ (none option) has.1)
-no_fault words NoMemory none has = refl
-
--- ---- no fault
-
-plain : (output : OutputFormat) → ◌≡◌ {A = ℕ} (cond (is_json output) 1 0) 0 → output ≡ Plain
+plain : (output : OutputFormat) → is_json output ≡ false → output ≡ Plain
 plain Plain is = refl
-plain JsonLines is = absurd (omega (arith, is))
+plain JsonLines is = absurd (let no : true ≡ false = is in cc)
 
-warned : (unknown : UnknownKeyHandling) → ◌≡◌ {A = ℕ} (cond (is_strict unknown) 1 0) 0 → unknown ≡ Warn
+warned : (unknown : UnknownKeyHandling) → is_strict unknown ≡ false → unknown ≡ Warn
 warned Warn is = refl
-warned Refuse is = absurd (omega (arith, is))
+warned Refuse is = absurd (let no : true ≡ false = is in cc)
 
-no_value : {X : Type 0} (value : Option X) → ◌≡◌ {A = ℕ} (cond (is_some value) 1 0) 0 → value ≡ None
-no_value None is = refl
-no_value (Some value) is = absurd (omega (arith, is))
+no_value : {X Y : Type 0} (f : X → Y) (value : Option X) → is_some (option_map f value) ≡ false → value ≡ None
+no_value f None is = refl
+no_value f (Some value) is = absurd (let no : true ≡ false = is in cc)
 
-module _ (words : List (List ℕ)) (found : SeparatedWords) (none : HasNoOption words) (is : IsSeparatedFrom words found) where
-  without : IsWithoutOption found
-  without = record {
-    is_plain = plain _ (is.counts_are Json ∙ none Json);
-    warns = warned _ (is.counts_are Strict ∙ none Strict);
-    has_no_file = no_value _ (is.counts_are Input ∙ none Input);
-    has_no_state = no_value _ (is.counts_are State ∙ none State);
-  }
+-- options of which none is found
+pub bare_options : (options : ProgramOptions) → is_bare (texts_of options) ≡ true
+    → (options.input ≡ None) × (options.output ≡ Plain) × (options.unknown_keys ≡ Warn) × (options.state ≡ None)
+bare_options options bare =
+    let after_input = not_or (is_some (texts_of options).input) _ bare in
+    let after_json = not_or (is_json options.output) _ after_input.1 in
+    let after_strict = not_or (is_strict options.unknown_keys) _ after_json.1 in
+    let after_state = not_or (is_some (texts_of options).state) _ after_strict.1 in
+    (no_value _ options.input after_input.0, plain options.output after_json.0, warned options.unknown_keys after_strict.0, no_value _ options.state after_state.0)
 
-  same : texts found.words.items ≡ words
-  same = is.words_are ∙ all_left words none
-
-  -- what is answered to the words that are left is answered to words without an option
-  pub separated : (read : Option (List ℕ)) (status : ℕ) (old new : Option (List ℕ))
-      → (IsWithoutOption found → IsCommandAnswer (texts found.words.items) read status old new) → IsCommandAnswer words read status old new
-  separated read status old new answers = subst (λ (all : List (List ℕ)). IsCommandAnswer all read status old new) same (answers without)
-
-  -- and nothing is read for them where nothing is read for those
-  other : NamesNoService words → NamesNoService (texts found.words.items)
-  other is_other = subst NamesNoService (sym same) is_other
-
-  pub unread_wrong : {X : Type 0} (old new : X) → (IsWithoutOption found → NamesNoService (texts found.words.items) → AreWrong (texts found.words.items) → new ≡ old)
-      → NamesNoService words → AreWrong words → new ≡ old
-  unread_wrong old new unread is_other wrong = unread without (other is_other) (subst AreWrong (sym same) wrong)
-
-  pub unread_help : {X : Type 0} (old new : X) → (IsWithoutOption found → NamesNoService (texts found.words.items) → AsksHelp (texts found.words.items) → new ≡ old)
-      → NamesNoService words → AsksHelp words → new ≡ old
-  unread_help old new unread is_other help = unread without (other is_other) (subst AsksHelp (sym same) help)
+-- what is answered to words that are those of the command
+pub asked_answered : (asked : Asked) (words : List (List ℕ)) (read : Option (List ℕ)) (status : ℕ) (old new : Option (List ℕ)) → words ≡ bare_texts asked
+    → IsCommandAnswer asked words read status old new → IsAskedAnswer asked read status old new
+asked_answered asked words read status old new same answers = subst (λ (all : List (List ℕ)). IsCommandAnswer asked all read status old new) same answers
 
 -- ---- out of memory
 
@@ -101,30 +76,112 @@ either true a b = a
 either false a b = b
 
 module _ (words : List (List ℕ)) (read : Option (List ℕ)) (status : ℕ) (old new : Option (List ℕ)) (wrote : status ≢ 6 → (status ≡ 5) × Appends old new memory_line) where
-  pub resume_out_of_memory : IsResumeAnswer read status old new
+  resume_out_of_memory : IsResumeAnswer read status old new
   resume_out_of_memory = λ not_six. if_known read _ (λ input. inr (begin_faults.NoMemory, tt, (wrote not_six).0, (wrote not_six).1))
 
-  pub restore_out_of_memory : IsRestoreAnswer read status old new
+  restore_out_of_memory : IsRestoreAnswer read status old new
   restore_out_of_memory = λ not_six. if_known read _ (λ input. either (is_snapshot_head input) (inr (begin_faults.NoMemory, tt, (wrote not_six).0, (wrote not_six).1)) (inr (wrote not_six)))
 
   pub run_out_of_memory : IsRunAnswer words read status old new
   run_out_of_memory = if_known read _ (λ input. either (is_snapshot_head input) resume_out_of_memory (out_of_memory words read status old new wrote))
 
-  pub word_out_of_memory : (word : Option ServiceWord) → IsWordAnswer word words read status old new
-  word_out_of_memory None = out_of_memory words read status old new wrote
-  word_out_of_memory (Some Resume) = resume_out_of_memory
-  word_out_of_memory (Some Restore) = restore_out_of_memory
-  word_out_of_memory (Some Snapshot) = λ not_six. if_known read _ (λ input. inr (inr (inr (begin_faults.NoMemory, tt, (wrote not_six).0, (wrote not_six).1))))
+  word_out_of_memory : (asked : Asked) → IsWordAnswer asked words read status old new
+  word_out_of_memory (order o) = out_of_memory words read status old new wrote
+  word_out_of_memory (service Resume) = resume_out_of_memory
+  word_out_of_memory (service Restore) = restore_out_of_memory
+  word_out_of_memory (service Snapshot) = λ not_six. if_known read _ (λ input. inr (inr (inr (begin_faults.NoMemory, tt, (wrote not_six).0, (wrote not_six).1))))
 
-  pub command_out_of_memory : IsCommandAnswer words read status old new
-  command_out_of_memory = by (is_run words) where
-    by : (t : Bool) → MatchBool t (IsRunAnswer words read status old new) (IsWordAnswer (service_word words) words read status old new)
-    by true = run_out_of_memory
-    by false = word_out_of_memory (service_word words)
+  command_out_of_memory : (asked : Asked) → IsCommandAnswer asked words read status old new
+  command_out_of_memory asked = either (is_run asked) run_out_of_memory (word_out_of_memory asked)
 
--- what is written for invalid options
-pub refused : (words : List (List ℕ)) (fault : OptionsFault) (read : Option (List ℕ)) (status : ℕ) (old new : Option (List ℕ)) → HasNoOption words
-    → HasOptionsFault words fault → (fault ≡ NoMemory → status ≢ 6 → (status ≡ 5) × Appends old new memory_line)
-    → IsCommandAnswer words read status old new
-refused words fault read status old new none has wrote =
-    command_out_of_memory words read status old new (wrote (no_fault words fault none has))
+-- no command was performed
+pub asked_out_of_memory : (asked : Asked) (read : Option (List ℕ)) (status : ℕ) (old new : Option (List ℕ)) → (status ≢ 6 → (status ≡ 5) × Appends old new memory_line)
+    → IsAskedAnswer asked read status old new
+asked_out_of_memory asked read status old new wrote = command_out_of_memory (bare_texts asked) read status old new wrote asked
+
+-- ---- what words name
+
+-- a line that words give, where they name an order or a service without an option
+pub named_line : (r : Reading) (line : CommandLine) (o : Order) → bare_order r ≡ Some o → GivesLine r line
+    → (asked_of line.word ≡ order o) × (is_bare (texts_of line.options) ≡ true)
+named_line (command (order p) options) line o is gives = by (is_bare options) refl is
+  where
+    by : (t : Bool) → is_bare options ≡ t → cond t (Some p) None ≡ Some o → (asked_of line.word ≡ order o) × (is_bare (texts_of line.options) ≡ true)
+    by true bare same = (gives.0 ∙ ap order (let found : p ≡ o = cc in found), ap is_bare gives.1 ∙ bare)
+    by false bare same = absurd (let no = same in cc)
+named_line (command (service s) options) line o is gives = cc
+named_line help line o is gives = absurd gives
+named_line version line o is gives = absurd gives
+named_line wrong line o is gives = absurd gives
+named_line help_or_wrong line o is gives = absurd gives
+
+pub served_line : (r : Reading) (line : CommandLine) (s : ServiceWord) → bare_service r ≡ Some s → GivesLine r line
+    → (asked_of line.word ≡ service s) × (is_bare (texts_of line.options) ≡ true)
+served_line (command (service p) options) line s is gives = by (is_bare options) refl is
+  where
+    by : (t : Bool) → is_bare options ≡ t → cond t (Some p) None ≡ Some s → (asked_of line.word ≡ service s) × (is_bare (texts_of line.options) ≡ true)
+    by true bare same = (gives.0 ∙ ap service (let found : p ≡ s = cc in found), ap is_bare gives.1 ∙ bare)
+    by false bare same = absurd (let no = same in cc)
+served_line (command (order o) options) line s is gives = cc
+served_line help line s is gives = absurd gives
+served_line version line s is gives = absurd gives
+served_line wrong line s is gives = absurd gives
+served_line help_or_wrong line s is gives = absurd gives
+
+-- ---- words without a command
+
+-- words that give a command are refused only for memory
+command_fault : (asked : Asked) (options : OptionTexts) (f : LineFault) → GivesFault f (command asked options) → f ≡ line.NoMemory
+command_fault asked options (line.Help text) gives = absurd gives
+command_fault asked options line.Version gives = absurd gives
+command_fault asked options line.Wrong gives = absurd gives
+command_fault asked options (line.Options why) gives = absurd gives
+command_fault asked options line.NoMemory gives = refl
+
+named_fault : (r : Reading) (f : LineFault) (o : Order) → bare_order r ≡ Some o → GivesFault f r → f ≡ line.NoMemory
+named_fault (command asked options) f o is gives = command_fault asked options f gives
+named_fault help f o is gives = cc
+named_fault version f o is gives = cc
+named_fault wrong f o is gives = cc
+named_fault help_or_wrong f o is gives = cc
+
+served_fault : (r : Reading) (f : LineFault) (s : ServiceWord) → bare_service r ≡ Some s → GivesFault f r → f ≡ line.NoMemory
+served_fault (command asked options) f s is gives = command_fault asked options f gives
+served_fault help f s is gives = cc
+served_fault version f s is gives = cc
+served_fault wrong f s is gives = cc
+served_fault help_or_wrong f s is gives = cc
+
+module _ (f : LineFault) (json : Bool) (read : Option (List ℕ)) (status : ℕ) (old new : Option (List ℕ)) (wrote : status ≢ 6 → WritesLineFault f json status old new) where
+  memory_wrote : f ≡ line.NoMemory → status ≢ 6 → (status ≡ 5) × Appends old new memory_line
+  memory_wrote is not_six = subst (λ (g : LineFault). WritesLineFault g json status old new) is (wrote not_six)
+
+  pub fault_named : (r : Reading) (o : Order) → bare_order r ≡ Some o → GivesFault f r → IsAskedAnswer (order o) read status old new
+  fault_named r o is gives = asked_out_of_memory (order o) read status old new (memory_wrote (named_fault r f o is gives))
+
+  pub fault_served : (r : Reading) (s : ServiceWord) → bare_service r ≡ Some s → GivesFault f r → IsAskedAnswer (service s) read status old new
+  fault_served r s is gives = asked_out_of_memory (service s) read status old new (memory_wrote (served_fault r f s is gives))
+
+pub fault_refused : (f : LineFault) (json : Bool) (status : ℕ) (old new : Option (List ℕ)) → (status ≢ 6 → WritesLineFault f json status old new) → GivesFault f wrong
+    → json ≡ false → status ≢ 5 → status ≢ 6 → (status ≡ 2) × Appends old new words_line
+fault_refused (line.Help text) json status old new wrote gives no_object not_five not_six = absurd gives
+fault_refused line.Version json status old new wrote gives no_object not_five not_six = absurd gives
+fault_refused line.Wrong json status old new wrote gives no_object not_five not_six = wrote not_six no_object
+fault_refused (line.Options why) json status old new wrote gives no_object not_five not_six = wrote not_six
+fault_refused line.NoMemory json status old new wrote gives no_object not_five not_six = absurd (not_five (wrote not_six).0)
+
+pub fault_helped : (f : LineFault) (json : Bool) (status : ℕ) (old new : Option (List ℕ)) → (status ≢ 6 → WritesLineFault f json status old new) → GivesFault f help
+    → status ≢ 5 → status ≢ 6 → WritesHelp status old new
+fault_helped (line.Help text) json status old new wrote gives not_five not_six = wrote not_six
+fault_helped line.Version json status old new wrote gives not_five not_six = absurd gives
+fault_helped line.Wrong json status old new wrote gives not_five not_six = absurd gives
+fault_helped (line.Options why) json status old new wrote gives not_five not_six = absurd gives
+fault_helped line.NoMemory json status old new wrote gives not_five not_six = absurd (not_five (wrote not_six).0)
+
+pub fault_version : (f : LineFault) (json : Bool) (status : ℕ) (old new : Option (List ℕ)) → (status ≢ 6 → WritesLineFault f json status old new) → GivesFault f version
+    → status ≢ 5 → status ≢ 6 → (status ≡ 0) × Appends old new version_text
+fault_version (line.Help text) json status old new wrote gives not_five not_six = absurd gives
+fault_version line.Version json status old new wrote gives not_five not_six = wrote not_six
+fault_version line.Wrong json status old new wrote gives not_five not_six = absurd gives
+fault_version (line.Options why) json status old new wrote gives not_five not_six = absurd gives
+fault_version line.NoMemory json status old new wrote gives not_five not_six = absurd (not_five (wrote not_six).0)

@@ -1,6 +1,5 @@
 pub mod Answered
 pub mod Heads
 pub mod Resume
-pub mod ServiceWords
 pub mod StateCommand
 pub mod Version

@@ -117,10 +117,6 @@ fn restart_text(alloc: Global, why: RestartFault) -> Result<String, AllocError> 
             alloc,
             "the operators of the snapshot do not go together: their frames or slices disagree",
         ),
-        RestartFault::RankingsMismatch => String::from_str(
-            alloc,
-            "a policy of the plant file is not known",
-        ),
         RestartFault::NoMemory => String::from_str(alloc, "out of memory"),
     }
 }

@@ -2,16 +2,14 @@
 
 ghost use Rattle.std.specs.Prelude.{◌≡◌};
 ghost use Rattle.clap.specs.Walk.{texts};
-ghost use Rattle.command_line.specs.CommandLine.{AreWrong, AsksHelp};
+ghost use Rattle.command_line.specs.Order.{asked_of};
 ghost use Rattle.program_runner.specs.Answered.{IsWordAnswer};
-ghost use Rattle.program_runner.specs.ServiceWords.{service_word, NamesNoService};
 
 use crate::restoring::run_restore;
 use crate::resuming::run_resume;
-use crate::service_word::{ServiceWord, service_word};
 use crate::snapshot_command::run_snapshot;
+use command_line::{CommandWord, ServiceWord, UnknownKeyHandling};
 use plant_script::{Ending, run_program_with_reasons};
-use program_options::UnknownKeyHandling;
 use std::alloc::Global;
 use std::io::{BufRead, Write};
 use std::sync::Wait;
@@ -24,7 +22,8 @@ pub(crate) struct Command<'a, H> {
     /// The system, of which journals are opened.
     pub(crate) host: &'a HostRuntime,
     pub(crate) alloc: Global,
-    /// The words without the options.
+    pub(crate) word: CommandWord<'a>,
+    /// Words of the command without its options.
     pub(crate) words: &'a [&'a str],
     pub(crate) unknown_keys: UnknownKeyHandling,
     pub(crate) ending: Ending,
@@ -38,18 +37,20 @@ impl<H: Threads + Wait + Sync> Command<'_, H> {
         writer: &mut W,
         reasons: &mut E,
     ) -> u8
-        ensures answered { IsWordAnswer (service_word (texts self.now.words.now)) (texts self.now.words.now) (R.remaining reader.old) result
+        ensures { IsWordAnswer (asked_of self.now.word) (texts self.now.words.now) (R.remaining reader.old) result
             (W.contents writer.old) (W.contents writer.new) }
-        ensures unread_if_wrong { NamesNoService (texts self.now.words.now) → AreWrong (texts self.now.words.now)
-            → reader.new ≡ reader.old }
-        ensures unread_for_help { NamesNoService (texts self.now.words.now) → AsksHelp (texts self.now.words.now)
-            → reader.new ≡ reader.old }
     {
-        match service_word(self.words) {
-            Some(ServiceWord::Resume) => run_resume(self.alloc, reader, writer, reasons),
-            Some(ServiceWord::Restore) => run_restore(self.alloc, reader, writer, reasons),
-            Some(ServiceWord::Snapshot) => run_snapshot(self.alloc, reader, writer, reasons),
-            None => run_program_with_reasons(
+        match self.word {
+            CommandWord::Service(ServiceWord::Resume) => run_resume(
+                self.alloc, reader, writer, reasons,
+            ),
+            CommandWord::Service(ServiceWord::Restore) => run_restore(
+                self.alloc, reader, writer, reasons,
+            ),
+            CommandWord::Service(ServiceWord::Snapshot) => run_snapshot(
+                self.alloc, reader, writer, reasons,
+            ),
+            CommandWord::Order(_word) => run_program_with_reasons(
                 self.rt,
                 self.alloc,
                 self.words,

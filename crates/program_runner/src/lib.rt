@@ -1,4 +1,4 @@
-//! The program with its options: separates them from the words, and performs the command that is left.
+//! The program with its options: reads the command line, and performs its command.
 #![tactic(auto)]
 
 mod answering;
@@ -16,8 +16,6 @@ mod refusal_reasons;
 mod restoring;
 mod resuming;
 mod running;
-mod service_help;
-mod service_word;
 mod shared_reasons;
 mod snapshot_command;
 mod state_command;

@@ -5,9 +5,8 @@ use crate::answering::{finish, tell};
 use crate::command::Command;
 use command_line::Word;
 use diagnostics::{Trouble, reason_of, reason_of_trouble};
-use grant_policy::{RankInput, Ranking, rank_by};
 use json_lines::{JsonLines, LineSource};
-use json_service::{CheckNotes, ServiceFault, serve_ranked};
+use json_service::{CheckNotes, ServiceFault, serve_opened};
 use line_service::read_plant_text;
 use plant::Plant;
 use slice_table::{PlantFault, read_plant};
@@ -41,29 +40,6 @@ fn trouble_of(error: &io::Error) -> Trouble {
     }
 }
 
-/// Serves a plant, each operator by the policy of its row.
-fn serve_plant<R: BufRead, W: Write>(
-    alloc: Global,
-    plant: Plant,
-    reader: &mut R,
-    lines: &mut JsonLines<'_, W>,
-) -> Result<(), ServiceFault> {
-    let mut rankings = Vec::new(alloc);
-    for row in plant.rows() {
-        let policy = row.get_fields().policy;
-        let Ok(rank) = Box::new(alloc, move |input: RankInput| -> u8 {
-            rank_by(policy, &input)
-        }) else {
-            return Err(ServiceFault::Memory);
-        };
-        let ranking = Ranking::new(row.get_fields().policy, rank);
-        if rankings.push(ranking).is_err() {
-            return Err(ServiceFault::Memory);
-        }
-    }
-    serve_ranked(alloc, plant, rankings, reader, &CheckNotes, lines)
-}
-
 /// Serves the plant of a plant file, and reports how that ended. Returns the status.
 fn serve_valid<R: BufRead, W: Write, E: Write>(
     alloc: Global,
@@ -73,7 +49,7 @@ fn serve_valid<R: BufRead, W: Write, E: Write>(
     lines: &mut JsonLines<'_, W>,
     reasons: &mut E,
 ) -> u8 {
-    match serve_plant(alloc, plant, reader, lines) {
+    match serve_opened(alloc, plant, reader, &CheckNotes, lines) {
         Ok(()) => {
             tell(reasons, reason_of(alloc, Word::Serve, text, 0));
             0

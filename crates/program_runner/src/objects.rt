@@ -5,9 +5,9 @@ use crate::command::Command;
 use crate::noted_service::serve_objects;
 use crate::recording::RecordingReader;
 use crate::strict::run_keys;
-use command_line::{BatchWord, RunReport, Word, WordsFault, read_words};
+use command_line::{BatchWord, CommandWord, RunReport, Word};
 use json_lines::{JsonLines, LineSource, OutputNote, TraceNotes};
-use program_options::UnknownKeyHandling;
+use plant_script::run_program_with_reasons;
 use std::alloc::Global;
 use std::io::{BufRead, BufReader, Write};
 use std::sync::Wait;
@@ -40,17 +40,17 @@ fn notes_of<H: Threads + Wait + Sync, R: BufRead, E: Write>(
     reasons: &mut E,
 ) -> Result<Vec<OutputNote>, u8> {
     let words = ["trace"];
-    let traced = Command {
-        rt: command.rt,
-        host: command.host,
-        alloc: command.alloc,
-        words: words.as_slice(),
-        unknown_keys: UnknownKeyHandling::Warn,
-        ending: command.ending,
-    };
     let mut notes = TraceNotes::new(command.alloc);
     let mut message = Vec::new(command.alloc);
-    let status = traced.run(reader, &mut notes, &mut message);
+    let status = run_program_with_reasons(
+        command.rt,
+        command.alloc,
+        words.as_slice(),
+        reader,
+        &mut notes,
+        &mut message,
+        command.ending,
+    );
     let status = match notes.into_notes() {
         Some(notes) if status != 5 && status != 6 => return Ok(notes),
         Some(_notes) => status,
@@ -83,22 +83,21 @@ fn run_noted<H: Threads + Wait + Sync, R: BufRead, W: Write, E: Write>(
     }
 }
 
-/// Performs a command, and writes objects in place of lines. Help has no object. Returns the status.
+/// Performs a command, and writes objects in place of lines. Returns the status.
 pub(crate) fn run_objects<H: Threads + Wait + Sync, R: BufRead, W: Write, E: Write>(
     command: &Command<'_, H>,
     reader: &mut R,
     writer: &mut W,
     reasons: &mut E,
 ) -> u8 {
-    match read_words(command.alloc, command.words) {
-        Ok(Word::Batch(BatchWord::Run(RunReport::Outputs))) => run_noted(
-            command, reader, writer, reasons,
-        ),
-        Ok(Word::Batch(BatchWord::Run(RunReport::Trace))) => {
+    match command.word {
+        CommandWord::Order(Word::Batch(BatchWord::Run(RunReport::Outputs))) => {
+            run_noted(command, reader, writer, reasons)
+        }
+        CommandWord::Order(Word::Batch(BatchWord::Run(RunReport::Trace))) => {
             run_lines(command, LineSource::trace(), reader, writer, reasons)
         }
-        Ok(Word::Serve) => serve_objects(command, reader, writer, reasons),
-        Err(WordsFault::Help { .. }) => command.run(reader, writer, reasons),
+        CommandWord::Order(Word::Serve) => serve_objects(command, reader, writer, reasons),
         _ => run_lines(command, LineSource::Alone, reader, writer, reasons),
     }
 }

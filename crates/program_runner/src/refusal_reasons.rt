@@ -108,7 +108,7 @@ pub(crate) fn change_text(
             why: RestartFault::Core { why },
         } => core_text(alloc, why),
         ChangeFault::Restart {
-            why: RestartFault::RankingsMismatch | RestartFault::NoMemory,
+            why: RestartFault::NoMemory,
         } => String::from_str(alloc, "memory ran out; repeat the change"),
     }
 }

@@ -13,12 +13,11 @@ use crate::file_input::FileInput;
 use crate::front_reader::FrontReader;
 use crate::refusal_reasons::RefusalReasons;
 use crate::state_reasons::{PERIOD_REASON, opening_reason, plant_reason, state_reason};
-use command_line::{Word, read_words};
+use command_line::ProgramOptions;
 use durable_service::{DurableFault, JournalStateFault, LineFailure};
 use journal_file::{JournalFile, JournalOpenFault};
 use line_journal::Journal;
 use plant_script::plant_line;
-use program_options::ProgramOptions;
 use slice_table::PlantFault;
 use state_service::{StateServiceFault, serve_state};
 use std::alloc::Global;
@@ -220,8 +219,7 @@ fn serve_file<H: Files, W: Write, E: Write>(
     status
 }
 
-/// Performs a command of which the option `--state` names a folder: `serve`. Other words are wrong, or ask for help. Returns the
-/// status.
+/// Performs `serve`, the only command with the option `--state`, which names a folder. Returns the status.
 pub(crate) fn run_state<H: Files + Threads + Wait + Sync, R: BufRead, W: Write, E: Write>(
     command: &Command<'_, H>,
     path: &str,
@@ -230,9 +228,6 @@ pub(crate) fn run_state<H: Files + Threads + Wait + Sync, R: BufRead, W: Write, 
     writer: &mut W,
     reasons: &mut E,
 ) -> u8 {
-    let Ok(Word::Serve) = read_words(command.alloc, command.words) else {
-        return command.run(reader, writer, reasons);
-    };
     let Some(period) = period_of(options.snapshot_every) else {
         tell(reasons, String::from_str(command.alloc, PERIOD_REASON));
         return finish(writer, 2, b"fault: words\n");

@@ -2,16 +2,15 @@
 
 ghost use Rattle.std.specs.Prelude.{◌≡◌};
 ghost use Rattle.clap.specs.Walk.{texts};
-ghost use Rattle.command_line.specs.CommandLine.{AreWrong, AsksHelp};
-ghost use Rattle.program_options.specs.declared.options.UnknownKeyHandling.TheVariants.{Warn};
+ghost use Rattle.command_line.specs.Order.{asked_of};
+ghost use Rattle.command_line.specs.declared.options.UnknownKeyHandling.TheVariants.{Warn};
 ghost use Rattle.program_runner.specs.Answered.{IsWordAnswer};
-ghost use Rattle.program_runner.specs.ServiceWords.{service_word, NamesNoService};
 
 use crate::answering::{answer_out_of_memory, finish, pass_on, tell};
 use crate::command::Command;
 use crate::recording::RecordingReader;
+use command_line::UnknownKeyHandling;
 use diagnostics::{UnknownKeysFault, fault_of_unknown_keys};
-use program_options::UnknownKeyHandling;
 use std::alloc::{AllocError, Global};
 use std::io::{BufRead, BufReader, Write};
 use std::sync::Wait;
@@ -79,12 +78,8 @@ pub(crate) fn run_keys<H: Threads + Wait + Sync, R: BufRead, W: Write, E: Write>
     writer: &mut W,
     reasons: &mut E,
 ) -> u8
-    ensures answered { command.now.unknown_keys ≡ Warn → IsWordAnswer (service_word (texts command.now.words.now)) (texts command.now.words.now)
+    ensures answered { command.now.unknown_keys ≡ Warn → IsWordAnswer (asked_of command.now.word) (texts command.now.words.now)
         (R.remaining reader.old) result (W.contents writer.old) (W.contents writer.new) }
-    ensures unread_if_wrong { command.now.unknown_keys ≡ Warn → NamesNoService (texts command.now.words.now) → AreWrong (texts command.now.words.now)
-        → reader.new ≡ reader.old }
-    ensures unread_for_help { command.now.unknown_keys ≡ Warn → NamesNoService (texts command.now.words.now) → AsksHelp (texts command.now.words.now)
-        → reader.new ≡ reader.old }
 {
     match command.unknown_keys {
         UnknownKeyHandling::Warn => command.run(reader, writer, reasons),

@@ -1,7 +1,18 @@
+use Rattle.std.proofs.Common.{List, map, sym, subst}
+use Rattle.live_core.specs.Following.{FollowRows}
+use Rattle.live_core.proofs.FollowingLemmas.{follow_rows}
+use Rattle.operator_book.specs.ViewOf.{policy_of}
+use Rattle.plant.specs.declared.plant.PlantFields.{PlantFields}
 use Rattle.plant_script.proofs.Common.{if_ok, outs_text, IsScriptRun, status_code}
 use Rattle.plant_script.proofs.LiveRuns.{run_written}
 use Rattle.plant_script.proofs.Reached.{memory_written}
 use Rattle.plant_script.proofs.running.write_outputs_run.Goals as goal
+
+pub write_run-requires-clause-policies : goal.write_run-requires-clause-policies
+write_run-requires-clause-policies g c =
+    let follow = follow_rows (map policy_of c.args.rankings.items) c.args.plant.rows c.requires in
+    subst (λ (p : PlantFields). FollowRows (map policy_of c.as_slice.result.now) p.rows) (sym c.in-Ok.ensures.opened.plant_is)
+    (subst (λ (rankings : List _). FollowRows (map policy_of rankings) c.args.plant.rows) (sym c.as_slice.ensures.value) follow)
 
 pub returns : goal.returns
 returns g c =
