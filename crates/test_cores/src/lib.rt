@@ -20,6 +20,8 @@ mod settling;
 mod step_calls;
 #[cfg(test)]
 mod steps;
+#[cfg(test)]
+mod want_of_memory;
 
 pub use fixtures::{
     ADDITION, ExpectedOutput, MODEM_OF_A, MODEM_OF_B, REPLY, UNKNOWN_MODEM, heard_message,

@@ -1,7 +1,5 @@
 //! Frames that pile up in a core with no history, since nothing collects them.
 
-use crate::opening::strict;
-use grant_policy::Ranking;
 use live_core::{CoreFault, LiveCore};
 use operator_book::Output;
 use plant::Op;
@@ -14,16 +12,11 @@ use test_plants::PLANT;
 /// How many frames of each operator wait at the most.
 const FRAMES: u32 = 9;
 
-/// Opens the core of the plant of operators A and B with their rankings.
-fn live_core(
-    alloc: Global,
-    first: Ranking,
-    second: Ranking,
-) -> Result<Option<LiveCore>, AllocError> {
-    let rankings = Vec::from_array(alloc, [first, second])?;
+/// Opens the core of the plant of operators A and B.
+fn live_core(alloc: Global) -> Option<LiveCore> {
     match read_plant(alloc, PLANT) {
-        Ok(plant) => Ok(LiveCore::open(alloc, plant, rankings).ok()),
-        Err(_) => Ok(None),
+        Ok(plant) => LiveCore::open(alloc, plant).ok(),
+        Err(_) => None,
     }
 }
 
@@ -114,15 +107,15 @@ fn frames_wait(alloc: Global, core: &mut LiveCore) -> bool {
 }
 
 /// Returns the same of the core of operators A and B.
-fn frames_of_a_core_wait(alloc: Global) -> Result<bool, AllocError> {
-    match &mut live_core(alloc, strict!(alloc), strict!(alloc))? {
-        Some(core) => Ok(frames_wait(alloc, core)),
-        None => Ok(false),
+fn frames_of_a_core_wait(alloc: Global) -> bool {
+    match &mut live_core(alloc) {
+        Some(core) => frames_wait(alloc, core),
+        None => false,
     }
 }
 
 #[test]
 fn frames_wait_until_they_are_collected(rt: HostRuntime) -> Result<(), AllocError> {
-    assert!(rt; frames_of_a_core_wait(rt.alloc())?);
+    assert!(rt; frames_of_a_core_wait(rt.alloc()));
     Ok(())
 }

@@ -1,9 +1,7 @@
 //! Cores that go on from a snapshot, or under another plant.
 
 use crate::fixtures::{ADDITION, MODEM_OF_A, REPLY};
-use crate::opening::strict;
 use crate::step_calls::{StepCall, step_of};
-use grant_policy::Ranking;
 use live_core::{LiveCore, RestFault, ResumeFault};
 use operator_book::{Output, StateFault};
 use plant::{Op, OperatorName};
@@ -80,11 +78,10 @@ fn does_all(alloc: Global, core: &mut LiveCore, rows: &[CoreStep]) -> Result<boo
     Ok(true)
 }
 
-/// Opens the core of a plant of operators A and B with their rankings.
-fn open(alloc: Global, first: Ranking, second: Ranking) -> Result<LiveCore, Fail> {
+/// Opens the core of a plant of operators A and B.
+fn open(alloc: Global) -> Result<LiveCore, Fail> {
     let plant = read_plant(alloc, PLANT)?;
-    let rankings = Vec::from_array(alloc, [first, second])?;
-    Ok(LiveCore::open(alloc, plant, rankings)?)
+    Ok(LiveCore::open(alloc, plant)?)
 }
 
 /// Saves a core, and reads the snapshot back from its text.
@@ -100,10 +97,9 @@ fn restore_plant(
     alloc: Global,
     text: &str,
     saved: &Snapshot,
-    rankings: Vec<Ranking>,
 ) -> Result<Result<LiveCore, RestoreFault>, Fail> {
     let plant = read_plant(alloc, text)?;
-    Ok(restore(alloc, plant, saved, rankings))
+    Ok(restore(alloc, plant, saved))
 }
 
 /// Changes the plant of a core to the one with this text.
@@ -111,10 +107,9 @@ fn change_plant(
     alloc: Global,
     text: &str,
     core: &LiveCore,
-    rankings: Vec<Ranking>,
 ) -> Result<Result<LiveCore, ChangeFault>, Fail> {
     let plant = read_plant(alloc, text)?;
-    Ok(change(alloc, core, plant, rankings))
+    Ok(change(alloc, core, plant))
 }
 
 /// A second addition, and the reply to it: SFID and SID 257 are those of the flow of the first.
@@ -147,8 +142,8 @@ const AFTER: &[CoreStep] = &[
 ];
 
 /// Opens the core of operators A and B, in which a flow is added and the first frame has its MAP.
-fn begun(alloc: Global, first: Ranking, second: Ranking) -> Result<LiveCore, Fail> {
-    let mut core = open(alloc, first, second)?;
+fn begun(alloc: Global) -> Result<LiveCore, Fail> {
+    let mut core = open(alloc)?;
     if does_all(alloc, &mut core, BEFORE)? {
         Ok(core)
     } else {
@@ -157,35 +152,23 @@ fn begun(alloc: Global, first: Ranking, second: Ranking) -> Result<LiveCore, Fai
 }
 
 /// Saves a core, and restores a core of the same plant from the text.
-fn restored(
-    alloc: Global,
-    core: &LiveCore,
-    first: Ranking,
-    second: Ranking,
-) -> Result<LiveCore, Fail> {
-    let rankings = Vec::from_array(alloc, [first, second])?;
+fn restored(alloc: Global, core: &LiveCore) -> Result<LiveCore, Fail> {
     let saved = save_as_text(alloc, core)?;
-    Ok(restore_plant(alloc, PLANT, &saved, rankings)??)
+    Ok(restore_plant(alloc, PLANT, &saved)??)
 }
 
 /// Changes the plant of a core to the same plant.
-fn changed(
-    alloc: Global,
-    core: &LiveCore,
-    first: Ranking,
-    second: Ranking,
-) -> Result<LiveCore, Fail> {
-    let rankings = Vec::from_array(alloc, [first, second])?;
-    Ok(change_plant(alloc, PLANT, core, rankings)??)
+fn changed(alloc: Global, core: &LiveCore) -> Result<LiveCore, Fail> {
+    Ok(change_plant(alloc, PLANT, core)??)
 }
 
 #[test]
 fn a_restored_core_goes_on_as_the_one_that_was_saved(rt: HostRuntime) -> Result<(), Fail> {
     let alloc = rt.alloc();
-    let mut core = begun(alloc, strict!(alloc), strict!(alloc))?;
-    let mut other = restored(alloc, &core, strict!(alloc), strict!(alloc))?;
+    let mut core = begun(alloc)?;
+    let mut other = restored(alloc, &core)?;
     assert!(rt; does_all(alloc, &mut other, AFTER)?);
-    other = changed(alloc, &core, strict!(alloc), strict!(alloc))?;
+    other = changed(alloc, &core)?;
     assert!(rt; does_all(alloc, &mut other, AFTER)?);
     assert!(rt; does_all(alloc, &mut core, AFTER)?);
     Ok(())
@@ -193,11 +176,6 @@ fn a_restored_core_goes_on_as_the_one_that_was_saved(rt: HostRuntime) -> Result<
 
 /// Changes of the plant file with which a snapshot is not restored, and why.
 const NOT_RESTORED: &[(&str, &str, RestartFault)] = &[
-    (
-        "policy = \"strict\"",
-        "policy = \"short\"",
-        RestartFault::RankingsMismatch,
-    ),
     (
         "sfids = [257, 512]",
         "sfids = [258, 512]",
@@ -220,12 +198,9 @@ fn restored_with(
     alloc: Global,
     saved: &Snapshot,
     change: (&str, &str),
-    first: Ranking,
-    second: Ranking,
 ) -> Result<Result<LiveCore, RestoreFault>, Fail> {
-    let rankings = Vec::from_array(alloc, [first, second])?;
     let text = replace_first(alloc, PLANT, change.0, change.1)?;
-    restore_plant(alloc, text.as_str(), saved, rankings)
+    restore_plant(alloc, text.as_str(), saved)
 }
 
 /// Returns whether no core was restored, for this reason.
@@ -239,16 +214,15 @@ fn is_not_restored(restored: &Result<LiveCore, RestoreFault>, why: RestoreFault)
 #[test]
 fn a_snapshot_that_does_not_fit_the_plant_is_refused(rt: HostRuntime) -> Result<(), Fail> {
     let alloc = rt.alloc();
-    let core = begun(alloc, strict!(alloc), strict!(alloc))?;
+    let core = begun(alloc)?;
     let saved = save_as_text(alloc, &core)?;
     for (old, new, why) in NOT_RESTORED {
         let why = RestoreFault::Restart { why: *why };
-        let restored = restored_with(alloc, &saved, (old, new), strict!(alloc), strict!(alloc))?;
+        let restored = restored_with(alloc, &saved, (old, new))?;
         assert!(rt; is_not_restored(&restored, why));
     }
     let name = OperatorName::new(b"B").ok_or("a name")?;
-    let rankings = Vec::from_array(alloc, [strict!(alloc)])?;
-    let restored = restore_plant(alloc, ALONE, &saved, rankings)?;
+    let restored = restore_plant(alloc, ALONE, &saved)?;
     assert!(rt; is_not_restored(&restored, RestoreFault::UnknownOperator { name }));
     Ok(())
 }
@@ -277,12 +251,9 @@ fn changed_with(
     alloc: Global,
     core: &LiveCore,
     change: (&str, &str),
-    first: Ranking,
-    second: Ranking,
 ) -> Result<Result<LiveCore, ChangeFault>, Fail> {
-    let rankings = Vec::from_array(alloc, [first, second])?;
     let text = replace_first(alloc, PLANT, change.0, change.1)?;
-    change_plant(alloc, text.as_str(), core, rankings)
+    change_plant(alloc, text.as_str(), core)
 }
 
 /// Returns whether a core was not changed, for this reason.
@@ -296,9 +267,9 @@ fn is_not_changed(changed: &Result<LiveCore, ChangeFault>, why: ChangeFault) -> 
 #[test]
 fn a_core_is_not_changed_to_a_plant_that_does_not_fit(rt: HostRuntime) -> Result<(), Fail> {
     let alloc = rt.alloc();
-    let core = begun(alloc, strict!(alloc), strict!(alloc))?;
+    let core = begun(alloc)?;
     for (old, new, why) in NOT_CHANGED {
-        let changed = changed_with(alloc, &core, (old, new), strict!(alloc), strict!(alloc))?;
+        let changed = changed_with(alloc, &core, (old, new))?;
         assert!(rt; is_not_changed(&changed, *why));
     }
     Ok(())
@@ -313,13 +284,12 @@ fn is_not_saved(alloc: Global, core: &LiveCore, why: SaveFault) -> Result<bool, 
 #[test]
 fn a_core_of_which_a_frame_waits_is_not_saved_nor_changed(rt: HostRuntime) -> Result<(), Fail> {
     let alloc = rt.alloc();
-    let mut core = open(alloc, strict!(alloc), strict!(alloc))?;
+    let mut core = open(alloc)?;
     let ticked = &[(StepCall::Tick(0), StepOutput::Frame(0, 0))];
     assert!(rt; does_all(alloc, &mut core, ticked)?);
     let why = RestFault::FrameWaits { op: 0 };
     assert!(rt; is_not_saved(alloc, &core, SaveFault::Unfinished { why })?);
-    let rankings = Vec::from_array(alloc, [strict!(alloc), strict!(alloc)])?;
-    let changed = change_plant(alloc, PLANT, &core, rankings)?;
+    let changed = change_plant(alloc, PLANT, &core)?;
     assert!(rt; is_not_changed(&changed, ChangeFault::Unfinished { why }));
     Ok(())
 }
@@ -328,9 +298,8 @@ fn a_core_of_which_a_frame_waits_is_not_saved_nor_changed(rt: HostRuntime) -> Re
 #[test]
 fn an_operator_without_a_row_leaves(rt: HostRuntime) -> Result<(), Fail> {
     let alloc = rt.alloc();
-    let core = begun(alloc, strict!(alloc), strict!(alloc))?;
-    let rankings = Vec::from_array(alloc, [strict!(alloc)])?;
-    let mut alone = change_plant(alloc, ALONE, &core, rankings)??;
+    let core = begun(alloc)?;
+    let mut alone = change_plant(alloc, ALONE, &core)??;
     let rows = &[
         (StepCall::Arrive(MODEM_OF_A, SECOND), StepOutput::Nothing),
         (StepCall::Work(0), StepOutput::Reply(SECOND_REPLY)),

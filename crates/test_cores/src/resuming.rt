@@ -4,10 +4,8 @@ ghost use Rattle.std.specs.Prelude.{◌≡◌, Some, slice_get, IfSome};
 ghost use Rattle.live_core.specs.LiveOperator.{row_of, Shares};
 
 use crate::fixtures::{ADDITION, MODEM_OF_A, REPLY, heard_message};
-use crate::opening::strict;
 use crate::step_calls::{StepCall, step_of};
 use crate::steps::HALF;
-use grant_policy::Ranking;
 use live_core::{CoreFault, LiveCore, ResliceFault, RestFault, ResumeFault};
 use operator_book::{Action, Machine, Output, SliceRow};
 use plant::{Op, Plant};
@@ -65,20 +63,14 @@ fn do_actions(alloc: Global, mut machine: Machine, calls: &[MachineCall]) -> Opt
 }
 
 /// Opens an operator of a plant, and returns it after these actions.
-fn machine_after(
-    alloc: Global,
-    plant: &Plant,
-    op: Op,
-    ranking: Ranking,
-    calls: &[MachineCall],
-) -> Option<Machine>
+fn machine_after(alloc: Global, plant: &Plant, op: Op, calls: &[MachineCall]) -> Option<Machine>
     ensures row { IfSome result (λ after. slice_get plant.now.rows op ≡ Some (row_of after)) }
     ensures consts { IfSome result (Shares plant.now.consts) }
 {
     let row = plant.rows().get(op)?;
-    match Machine::open(alloc, row, plant.consts(), ranking) {
+    match Machine::open(alloc, row, plant.consts()) {
         Ok(machine) => do_actions(alloc, machine, calls),
-        Err(_fault) => None,
+        Err(_error) => None,
     }
 }
 
@@ -94,12 +86,10 @@ struct Resumption {
 fn resume_on_plant(
     alloc: Global,
     plant: Plant,
-    ranking_a: Ranking,
-    ranking_b: Ranking,
     resumption: Resumption,
 ) -> Option<Result<LiveCore, ResumeFault>> {
-    let first = machine_after(alloc, &plant, 0, ranking_a, resumption.first)?;
-    let second = machine_after(alloc, &plant, 1, ranking_b, resumption.second)?;
+    let first = machine_after(alloc, &plant, 0, resumption.first)?;
+    let second = machine_after(alloc, &plant, 1, resumption.second)?;
     if plant.rows().len() != 2 {
         return None;
     }
@@ -112,12 +102,10 @@ fn resume_on_plant(
 /// Resumes operators A and B.
 fn resume_operators(
     alloc: Global,
-    ranking_a: Ranking,
-    ranking_b: Ranking,
     resumption: Resumption,
 ) -> Option<Result<LiveCore, ResumeFault>> {
     match read_plant(alloc, PLANT) {
-        Ok(plant) => resume_on_plant(alloc, plant, ranking_a, ranking_b, resumption),
+        Ok(plant) => resume_on_plant(alloc, plant, resumption),
         Err(_fault) => None,
     }
 }
@@ -331,7 +319,7 @@ const ROWS: &[(Resumption, Expected)] = &[
 fn operators_are_resumed_as_one_core_or_refused(rt: HostRuntime) -> Result<(), AllocError> {
     let alloc = rt.alloc();
     for (resumption, expected) in ROWS {
-        let mut resumed = resume_operators(alloc, strict!(alloc), strict!(alloc), *resumption);
+        let mut resumed = resume_operators(alloc, *resumption);
         assert!(rt;
             are_resumed_so(alloc, &mut resumed, *expected)?,
             "{resumption:?}"
@@ -402,7 +390,7 @@ fn rests_as_expected(alloc: Global, core: &mut LiveCore) -> Result<bool, AllocEr
 #[test]
 fn a_core_rests_where_all_frames_are_collected(rt: HostRuntime) -> Result<(), AllocError> {
     let alloc = rt.alloc();
-    let mut resumed = resume_operators(alloc, strict!(alloc), strict!(alloc), GOES_ON);
+    let mut resumed = resume_operators(alloc, GOES_ON);
     assert!(rt; rests_between_frames(alloc, &mut resumed)?);
     Ok(())
 }

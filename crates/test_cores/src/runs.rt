@@ -56,7 +56,7 @@ fn goes_on(alloc: Global, core: &mut PlantCore) -> Result<bool, AllocError> {
 }
 
 /// Returns how many entries the history of an operator has.
-fn history_len(core: &PlantCore, op: Op) -> Option<usize> {
+pub(crate) fn history_len(core: &PlantCore, op: Op) -> Option<usize> {
     Some(core.history(op)?.len())
 }
 
@@ -75,7 +75,7 @@ fn a_run_stops_at_a_refused_step(rt: HostRuntime) -> Result<(), AllocError> {
 }
 
 /// A step of each kind, and the collection that makes the MAP.
-const ALL_KINDS: &[StepCall] = &[
+pub(crate) const ALL_KINDS: &[StepCall] = &[
     StepCall::Reslice(1, HALF),
     StepCall::Arrive(MODEM_OF_A, ADDITION),
     StepCall::Work(0),
@@ -86,7 +86,7 @@ const ALL_KINDS: &[StepCall] = &[
 ];
 
 /// Returns whether outputs are the reply to the addition, a frame of each operator, and their MAP.
-fn are_of_all_kinds(outs: &[Out]) -> bool {
+pub(crate) fn are_of_all_kinds(outs: &[Out]) -> bool {
     match outs {
         [
             Out::Of {

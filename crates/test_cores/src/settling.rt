@@ -12,7 +12,7 @@ use tlv24::Bytes;
 
 /// A receipt of an operator with two entries: an addition's arrival, and the work on it.
 #[derive(Clone, Copy, Debug, PartialEq, Eq)]
-enum Note {
+pub(crate) enum Note {
     Arrived,
     Worked,
     /// The work, with no output.
@@ -105,6 +105,18 @@ fn maps_of(alloc: Global, maps: Maps) -> Result<Vec<MapBytes>, AllocError> {
     }
 }
 
+/// Returns the fault of operator A's receipts with the books of A and B and no MAP, if there is one.
+pub(crate) fn fault_of_settling(
+    alloc: Global,
+    first: Book,
+    second: Book,
+    lists: &[&[Note]],
+) -> Result<Option<RunFault>, AllocError> {
+    let books = Vec::from_array(alloc, [first, second])?;
+    let receipts = Vec::from_array(alloc, [callers(alloc, lists)?, Callers::new(alloc)])?;
+    Ok(settle(alloc, books, receipts, Vec::new(alloc)).err())
+}
+
 /// The receipts of operator A's callers, the MAPs, and the expected fault, if there is one.
 type SettleRow = (&'static [&'static [Note]], Maps, Option<RunFault>);
 
@@ -135,13 +147,25 @@ fn book_after_addition(alloc: Global, ranking: Ranking) -> Result<Option<Book>, 
     }
 }
 
-/// Returns the same for the books of operators A and B, of which A's has handled the addition.
-fn both_settle(alloc: Global, row: SettleRow) -> Result<bool, AllocError> {
-    let first = book_after_addition(alloc, strict!(alloc))?;
-    let second = book_of(alloc, "", 1, strict!(alloc));
+/// Opens the books of operators A and B, and lets A's handle the addition.
+pub(crate) fn both_books(
+    alloc: Global,
+    of_first: Ranking,
+    of_second: Ranking,
+) -> Result<Option<(Book, Book)>, AllocError> {
+    let first = book_after_addition(alloc, of_first)?;
+    let second = book_of(alloc, "", 1, of_second);
     match (first, second) {
-        (Some(first), Some(second)) => settles(alloc, first, second, row),
-        _ => Ok(false),
+        (Some(first), Some(second)) => Ok(Some((first, second))),
+        _ => Ok(None),
+    }
+}
+
+/// Returns whether receipts settle as expected with the books of operators A and B, of which A's has handled the addition.
+fn both_settle(alloc: Global, row: SettleRow) -> Result<bool, AllocError> {
+    match both_books(alloc, strict!(alloc), strict!(alloc))? {
+        Some((first, second)) => settles(alloc, first, second, row),
+        None => Ok(false),
     }
 }
 

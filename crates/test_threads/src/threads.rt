@@ -1,5 +1,5 @@
 //! Worked calls of what threads share, as tests alone, with values that others worked out: runs on threads that are held or refused, an
-//! operator's cell by one caller and by two threads, and the texts of faults.
+//! operator's cell by one caller and by two threads, the texts of faults, and calls of a cell of which one request for memory is refused.
 
 mod cells;
 mod faults;
@@ -10,3 +10,4 @@ mod refusals;
 mod runs;
 mod sharing;
 mod waiting;
+mod want_of_memory;

@@ -1,6 +1,5 @@
 //! Each line's answer is flushed before the next line is read.
 
-use grant_policy::{RankInput, Ranking, rank_by};
 use line_service::{LineBuffer, NoNotes, serve};
 use live_core::LiveCore;
 use slice_table::read_plant;
@@ -61,17 +60,7 @@ impl Write for Buffered<'_> {
 #[tactic(auto, using(line_service::proofs::StepLemmas::opened_reachable))]
 fn serve_script(alloc: Global, script: &[u8]) -> Result<Vec<u8>, Fail> {
     let plant = read_plant(alloc, PLANT).ok().ok_or("no plant")?;
-    let mut rankings = Vec::new(alloc);
-    for row in plant.rows() {
-        let policy = row.get_fields().policy;
-        rankings.push(Ranking::new(
-            policy,
-            Box::new(alloc, move |input: RankInput| -> u8 {
-                rank_by(policy, &input)
-            })?,
-        ))?;
-    }
-    let mut core = match LiveCore::open(alloc, plant, rankings) {
+    let mut core = match LiveCore::open(alloc, plant) {
         Ok(core) => core,
         Err(_) => return Err(Fail::new("not opened")),
     };

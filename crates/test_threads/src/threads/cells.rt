@@ -14,7 +14,7 @@ use std::sync::Wait;
 use tlv24::Bytes;
 
 /// A message that adds a flow.
-const ADDITION: [u8; 15] = [15, 0, 1, 24, 10, 1, 2, 0, 1, 6, 1, 6, 15, 1, 2];
+pub(crate) const ADDITION: [u8; 15] = [15, 0, 1, 24, 10, 1, 2, 0, 1, 6, 1, 6, 15, 1, 2];
 
 /// The reply: the first addition gets the least SFID and SID, 257 both.
 const REPLY: [u8; 20] = [
@@ -31,16 +31,21 @@ const IDLE: [Span; 1] = [Span {
 
 /// Returns whether an addition of the operator's first modem is answered by a receipt at this place
 /// that outputs nothing.
-fn arrives<R: Wait>(
+pub(crate) fn arrives<R: Wait>(
     rt: &R,
     alloc: Global,
     cell: &OperatorCell,
     index: usize,
 ) -> Result<bool, AllocError> {
     let heard = Heard::Message(Bytes::from_slice(alloc, &ADDITION)?);
-    match &cell.arrive(rt, alloc, modem(1), heard) {
-        Ok(receipt) => Ok(receipt.index == index && receipt.outputs.as_slice().is_empty()),
-        Err(_) => Ok(false),
+    Ok(has_arrived(&cell.arrive(rt, alloc, modem(1), heard), index))
+}
+
+/// Returns whether this is a receipt at this place that outputs nothing.
+pub(crate) fn has_arrived(answer: &Result<Receipt, CellFault>, index: usize) -> bool {
+    match answer {
+        Ok(receipt) => receipt.index == index && receipt.outputs.as_slice().is_empty(),
+        Err(_) => false,
     }
 }
 
@@ -53,8 +58,13 @@ fn is_reply(outputs: &[Output]) -> bool {
 }
 
 /// Returns whether work is answered by a receipt at this place with the reply.
-fn replies<R: Wait>(rt: &R, alloc: Global, cell: &OperatorCell, index: usize) -> bool {
-    match &cell.work(rt, alloc) {
+pub(crate) fn replies<R: Wait>(rt: &R, alloc: Global, cell: &OperatorCell, index: usize) -> bool {
+    has_replied(&cell.work(rt, alloc), index)
+}
+
+/// Returns whether this is a receipt at this place with the reply.
+pub(crate) fn has_replied(answer: &Result<Receipt, CellFault>, index: usize) -> bool {
+    match answer {
         Ok(receipt) => receipt.index == index && is_reply(receipt.outputs.as_slice()),
         Err(_) => false,
     }
@@ -103,7 +113,13 @@ pub(crate) fn has_frame(answer: &Result<Receipt, CellFault>, index: usize, numbe
 }
 
 /// Returns whether a tick is answered so.
-fn ticks<R: Wait>(rt: &R, alloc: Global, cell: &OperatorCell, index: usize, number: u32) -> bool {
+pub(crate) fn ticks<R: Wait>(
+    rt: &R,
+    alloc: Global,
+    cell: &OperatorCell,
+    index: usize,
+    number: u32,
+) -> bool {
     has_frame(&cell.tick(rt, alloc), index, number)
 }
 
@@ -128,7 +144,7 @@ pub(crate) fn is_taken(taken: &Option<(u32, Elements)>, wanted: u32) -> bool {
 }
 
 /// Returns whether an idle frame is collected.
-fn collects<R: Wait>(rt: &R, alloc: Global, cell: &OperatorCell, number: u32) -> bool {
+pub(crate) fn collects<R: Wait>(rt: &R, alloc: Global, cell: &OperatorCell, number: u32) -> bool {
     match &cell.collect(rt, alloc) {
         Ok(taken) => is_taken(taken, number),
         Err(_) => false,
@@ -141,7 +157,7 @@ fn collects_none<R: Wait>(rt: &R, alloc: Global, cell: &OperatorCell) -> bool {
 }
 
 /// Returns whether an idle frame is collected after so many actions.
-fn collects_behind<R: Wait>(
+pub(crate) fn collects_behind<R: Wait>(
     rt: &R,
     alloc: Global,
     cell: &OperatorCell,
@@ -170,7 +186,12 @@ fn refuses<R: Wait>(
 }
 
 /// Returns whether work in this turn is refused since the turns have stopped.
-fn has_stopped<R: Wait>(rt: &R, alloc: Global, cell: &OperatorCell, index: usize) -> bool {
+pub(crate) fn has_stopped<R: Wait>(
+    rt: &R,
+    alloc: Global,
+    cell: &OperatorCell,
+    index: usize,
+) -> bool {
     refuses(
         rt,
         alloc,

@@ -13,6 +13,6 @@ rows_of_two row a b xs (p ∷ q ∷ []) made two first second =
 rows_of_two row a b xs (p ∷ q ∷ o ∷ os) made two first second = absurd (omega (arith, two))
 
 pub resume-requires-clause-rows : goal.resume-requires-clause-rows
-resume-requires-clause-rows g c =
+resume-requires-clause-rows c =
     rows_of_two row_of c.in_ok-first.first c.in_ok-second.second c.in-Ok.machines.items c.args.plant.rows c.in-Ok.ensures.items
     (ap length (sym c.rows.ensures.value) ∙ c.if-rows-ne2.false) c.in_ok-first.ensures.row c.in_ok-second.ensures.row
