@@ -92,7 +92,7 @@ impl Model for Ledger {
 }
 
 impl Ledger {
-    /// Returns an empty ledger with room for `rows` rows. No other call takes memory.
+    /// Creates an empty ledger with room for `rows` rows. No other call takes memory.
     pub fn new(alloc: Global, rows: u32) -> Result<Ledger, AllocError>
         ensures { IfOk result (λ ledger. ledger ≡ record { room = rows; rows = [] }) }
     {

@@ -23,7 +23,7 @@ impl Model for Batch {
 }
 
 impl Batch {
-    /// Returns a batch of no lines.
+    /// Creates a batch without any line.
     pub fn new(alloc: Global) -> Self
         ensures { result ≡ [] }
     {

@@ -23,7 +23,7 @@ impl Model for SnapshotLines {
 }
 
 impl SnapshotLines {
-    /// Returns a snapshot of no lines.
+    /// Creates a snapshot without lines.
     pub fn new(alloc: Global) -> Self
         ensures { result ≡ [] }
     {

@@ -21,7 +21,7 @@ impl<T> Model for Listed<T> {
 }
 
 impl<T> Listed<T> {
-    /// Makes a list of no items. Takes no memory.
+    /// Creates an empty list. Takes no memory.
     pub fn new(alloc: Global) -> Listed<T>
         ensures { result ≡ [] }
     {

@@ -209,7 +209,7 @@ fn all_past(first: u32, next: u64, queues: &[Queue], from: u32) -> bool
 }
 
 impl Gather {
-    /// Returns nothing is put yet.
+    /// Creates the assembly of a plant to which no operator has put a part.
     pub fn new(alloc: Global, plant: &Plant) -> Result<Gather, AllocError>
         ensures { IfOk result (λ gather. gather ≡ gathering_of plant.now) }
     {

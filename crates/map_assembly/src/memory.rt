@@ -16,7 +16,7 @@ pub(crate) struct MapMemory {
 }
 
 impl MapMemory {
-    /// Returns memory that is empty so far. Takes none.
+    /// Creates memory with empty lists. Takes none.
     pub(crate) fn new(alloc: Global) -> MapMemory {
         MapMemory {
             list: Vec::new(alloc),

@@ -30,7 +30,7 @@ impl Model for Queue {
 }
 
 impl Queue {
-    /// Returns the queue of an operator of which no part is put.
+    /// Creates the empty queue of an operator that has put no part.
     pub(crate) fn new(alloc: Global) -> Queue
         ensures { result ≡ [] }
     {

@@ -27,7 +27,7 @@ impl Model for ShortBytes {
 }
 
 impl ShortBytes {
-    /// Returns an empty list of bytes.
+    /// Creates an empty list of bytes.
     pub fn new() -> ShortBytes
         ensures { result ≡ [] }
     {
@@ -113,7 +113,7 @@ impl Model for Bytes {
 }
 
 impl Bytes {
-    /// Returns an empty list of bytes.
+    /// Creates an empty list of bytes.
     pub fn new() -> Bytes
         ensures { result ≡ [] }
     {

@@ -45,7 +45,7 @@ impl Model for Kept {
 }
 
 impl Kept {
-    /// Returns no entries, and room for `capacity` of them. Of the other calls only `tick` and `due`
+    /// Creates an empty cache with room for `capacity` responses. Of the other calls only `tick` and `due`
     /// take memory.
     pub fn new(alloc: Global, capacity: u32, timers: Timers) -> Result<Kept, AllocError>
         ensures { IfOk result (λ kept. kept ≡ record { capacity = capacity; waits = timers; entries = [] }) }
