@@ -24,18 +24,18 @@ _plant_script() {
         esac
     done
     case $command in
-    '') words='one check run threads capture serve trace history resume restore snapshot help -h --help' ;;
-    one) words='-h --help --input' ;;
-    check) words='-h --help --input --json --strict' ;;
-    run) words='-h --help --input --json' ;;
-    threads) words='-h --help --input' ;;
-    capture) words='-h --help --input' ;;
-    serve) words='-h --help --input --json --state --snapshot-every' ;;
-    trace) words='-h --help --input --json' ;;
-    history) words='-h --help --input' ;;
-    resume) words='-h --help --input' ;;
-    restore) words='-h --help --input' ;;
-    snapshot) words='-h --help --input' ;;
+    '') words='one check run threads capture serve trace history resume restore snapshot help --input --json --strict --state --snapshot-every -h --help -V --version' ;;
+    one) words='--input -h --help' ;;
+    check) words='--input --json --strict -h --help' ;;
+    run) words='--input --json -h --help' ;;
+    threads) words='--input -h --help' ;;
+    capture) words='--input -h --help' ;;
+    serve) words='--input --json --state --snapshot-every -h --help' ;;
+    trace) words='--input --json -h --help' ;;
+    history) words='--input -h --help' ;;
+    resume) words='--input -h --help' ;;
+    restore) words='--input -h --help' ;;
+    snapshot) words='--input -h --help' ;;
     help) words='one check run threads capture serve trace history resume restore snapshot help' ;;
     esac
     mapfile -t COMPREPLY < <(compgen -W "$words" -- "$word")

@@ -21,7 +21,7 @@ from tools.reference.answers import reference_answer
 PLANT = (EXAMPLES / "plant_p2.toml").read_text()
 # What is expected, by its sign: the field of a case that keeps it, and the text before and after that of the line.
 EXPECTED = {"=": ("output", "", "\n"), "x": ("digits", "", ""), "check": ("checks", "  check ", "\n"), "!": ("errors", "", "\n")}
-OPTIONS = ("--input", "--json", "--strict", "--version", "--state", "--snapshot-every")
+OPTIONS = ("--input", "--json", "--strict", "--version", "-V", "--state", "--snapshot-every")
 SPELLED = {b"r": b"\r", b"t": b"\t"}
 # A number that is counted up, by how much where that is not 1, and how it is written.
 COUNTED = re.compile(r"\{([0-9]+)(?:\+([0-9]+))?(?::([0-9a-zA-Z]+))?\}")
@@ -201,7 +201,7 @@ def by_program(program, case):
 def by_reference(case):
     """Returns what differs if the second implementation runs a case. It has no help and no options, and of `trace` the lines of checks and
     faults alone."""
-    if {"-h", "--help", *OPTIONS} & set(case.words):
+    if {"-h", "--help", *OPTIONS} & {word.partition("=")[0] for word in case.words}:
         return []
     known = fixed(case) if case.words == ["trace"] else case
     return list(differences(known, *reference_answer(case.words, case.plant.encode() + case.data)))

@@ -1,15 +1,16 @@
 #!/bin/bash
 # Runs all checks of the repository but the proofs. Each prints what is wrong and ends this script.
 #
-#   - clauses, documents, lists of crates, doc comments and examples
+#   - clauses, documents, lists of crates, doc comments, examples, and the texts and the number of must-fail edits
 #   - the cases of tests/, by the second implementation, and by the program if it is built
 #   - the generator: a seed gives the same case twice, and tools/compare/handwritten_inputs reaches each check of the rules
 #   - the program, if it is built: compared with the second implementation by each command, and the exit statuses and messages;
 #     the completions for shells, compared with its help; served behind a socket if socat is installed; its captures read by tshark if
-#     that is installed; killed, with a folder for its state, if gcc is installed
+#     that is installed; killed, with a folder for its state, if gcc is installed; and with each allocation of a few inputs failed in turn
+#   - the tests of library calls, if they are built and gcc is installed: each allocation failed in turn
 #   - the tests of the tools (tools/ci/run_tests.sh)
 #
-# Usage: tools/ci/run_checks.sh     Needs bash and Python 3.11. Takes 2 minutes; with the program, socat and tshark a minute more.
+# Usage: tools/ci/run_checks.sh     Needs bash and Python 3.11. Takes 2 minutes; with the program, gcc, socat and tshark 3 minutes more.
 set -euo pipefail
 
 tools=$(cd "$(dirname "$(readlink -f "$0")")/.." && pwd)
@@ -27,13 +28,16 @@ quietly() {
 quietly "$tools/ci/check_prose"
 quietly "$tools/ci/crate_lists" --check
 quietly "$tools/ci/doc_comments"
-# --version prints the version of CHANGELOG.md and the kit of README.md.
+quietly "$tools/ci/edits" --check
+# --version prints the version of CHANGELOG.md, and from the script plant_script also the kit that built the program.
 version=$(sed -n 's/^## \([0-9.]*\) .*/\1/p' "$tools/../CHANGELOG.md" | head -n 1)
-kit=$(sed -n 's/.*(`\(rattle-kit[^`]*\)`).*/\1/p' "$tools/../README.md")
-grep -qF "\"plant_script $version\\nkit $kit\\n\"" "$tools/../crates/program_runner/src/version.rt" || {
-    echo "crates/program_runner/src/version.rt has not the version $version and the kit $kit" >&2
-    exit 1
-}
+for option in --version -V; do
+    "$tools/../plant_script" "$option" >"$work/output"
+    printf 'plant_script %s\nkit %s\n' "$version" "$(rt version)" | cmp -s - "$work/output" || {
+        echo "plant_script $option does not print the version $version and the kit $(rt version)" >&2
+        exit 1
+    }
+done
 quietly "$tools/ci/examples.sh"
 quietly "$tools/ci/cases"
 if "$tools/ci/cases" "$(type -P true)" >"$work/output"; then
@@ -94,6 +98,12 @@ if [ -x "$program" ]; then
     else
         echo 'gcc is not installed: no service with a folder was tried'
     fi
+    if command -v gcc >/dev/null; then
+        quietly "$tools/compare/failed_allocations.sh" --short
+        echo 'run and threads end with status 5 or as ever, whichever allocation fails'
+    else
+        echo 'gcc is not installed: no allocation of the program failed'
+    fi
     if command -v tshark >/dev/null; then
         quietly "$tools/compare/captures_in_tshark"
         echo 'tshark reads the captures of the examples as run prints them'
@@ -102,6 +112,16 @@ if [ -x "$program" ]; then
     fi
 else
     echo 'the program is not built: it was not compared'
+fi
+
+# rt builds the tests of a crate after its proof, as it builds the program last of all.
+if [ ! -x "$program" ] && [ ! -x "$tools/../crates/test_cores/out/test_cores_tests" ]; then
+    echo 'the tests of library calls are not built: none of their allocations failed'
+elif command -v gcc >/dev/null; then
+    quietly "$tools/compare/failed_library_allocations.sh"
+    echo 'a library call whose allocation fails says so, leaves its value as it was, and succeeds when it is made again'
+else
+    echo 'gcc is not installed: no allocation of a library call failed'
 fi
 
 "$tools/ci/run_tests.sh"

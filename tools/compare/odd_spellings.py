@@ -46,7 +46,7 @@ ENCODINGS = (
     "01020001", "0f0109", "0F01020A04FFFFFFFF", "0701070701", "0701FF")
 SCRIPTS = ("M 020000000001 \n", "M 020000000001\n", "---\n", "", "T", "T\n\n\nX\n")
 WORDS = ((), ("one", "one"), ("run", "x"), ("check", "x"), ("history",), ("history", "A", "B"), ("history", ""), ("history", "Z"), ("One",), ("-",), ("--",),
-         ("walk",), ("--versions",), ("-V",), ("run", "-x"), ("history", "A", "-x"), ("one", "-"), ("h",), ("hist", "A"), ("r",), ("",))
+         ("walk",), ("--versions",), ("-v",), ("run", "-x"), ("history", "A", "-x"), ("one", "-"), ("h",), ("hist", "A"), ("r",), ("",))
 ONLY_IN_1_1 = ("{a=1,}", "{\n}", "{b=1\n}", '"\\x41"', '"\\e"', "07:32", "1979-05-27T00:00Z")
 # Python's dates have no leap second and no year 0, and its reader accepts no byte order mark.
 NOT_OF_PYTHON = ("a = 1979-05-27T00:00:60Z\n" + P2, "a = 0000-01-01\n" + P2, "\ufeff" + P2)

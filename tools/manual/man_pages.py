@@ -4,7 +4,7 @@
     tools/man_pages --check      tests whether the pages are those of the sources, and exits with 1 if one is not
     tools/man_pages --markdown NAME      prints a page as pandoc reads it
 
-The sources are the help texts in crates/command_line/src/command.rt, docs/FORMATS.md, docs/OPERATING.md, README.md, CHANGELOG.md and
+The sources are the table of commands and the help texts in crates/command_line/src, docs/FORMATS.md, docs/OPERATING.md, README.md, CHANGELOG.md and
 examples/plant_p2.toml. tools/manual/pages/ says what a page takes from them.
 
 A page has two sums in its head: of what pandoc read, and of what it wrote. So --check needs no pandoc. It reports a page whose sources have
@@ -18,6 +18,7 @@ import re
 import shutil
 import subprocess
 import sys
+import textwrap
 
 from tools import ROOT
 from tools.manual.faults import NoPage
@@ -26,6 +27,11 @@ from tools.manual.pages import NAMES, markdown_of, title_of
 FOLDER = "docs/man"
 EXTENSIONS = ("definition_lists", "intraword_underscores", "all_symbols_escapable", "escaped_line_breaks", "startnum",
               "space_in_atx_header", "blank_before_header", "lists_without_preceding_blankline")
+# A page indents code by up to 14 columns where it comes from a document. The help texts have shorter lines.
+WIDEST_CODE = 66
+INDENTATION = "    "
+ESCAPE = re.compile(r"\\(?:\[\w+\]|.)")
+COMMAND_LINE = re.compile(r"\(|cp |describe_state|plant_script|sed |systemctl|tools/|\./")
 HEAD = re.compile(r'\.\\" Built by tools/man_pages with pandoc (\S+)\. Do not edit\.\n\.\\" Read: (\w+)\n\.\\" Wrote: (\w+)\n')
 
 
@@ -61,8 +67,26 @@ def cleaned(page):
     page = re.sub(r"^(\.S[HS] .*\n)\.PP\n", r"\1", page, flags=re.MULTILINE)
     page = re.sub(r"^(\.SH NAME\n\S+) - ", r"\1 \\- ", page, flags=re.MULTILINE)
     page = re.sub(r"\\f\[B\].*?\\f\[R\]", lambda found: found[0].replace("-", "\\-"), page, flags=re.DOTALL)
-    return re.sub(r"^\.nf\n\\f\[C\]\n(.*?)\n\\f\[R\]\n\.fi$", lambda found: ".nf\n" + found[1].replace("-", "\\-") + "\n.fi", page,
+    return re.sub(r"^\.nf\n\\f\[C\]\n(.*?)\n\\f\[R\]\n\.fi$", lambda found: ".nf\n" + folded(found[1]).replace("-", "\\-") + "\n.fi", page,
                   flags=re.MULTILINE | re.DOTALL)
+
+
+def folded(block):
+    """Returns a block of code of which no line passes the 80th column of a terminal: a comment stands before its command, and the rest of a
+    long line is indented."""
+    lines = []
+    for line in block.split("\n"):
+        command, sign, comment = line.partition("  # ")
+        is_wide = len(ESCAPE.sub("x", line)) > WIDEST_CODE
+        if is_wide and sign:
+            lines += [f"# {comment.strip()}", command.rstrip()]
+        elif is_wide:
+            end = " \\[rs]" if COMMAND_LINE.match(line) else ""
+            parts = textwrap.wrap(line, WIDEST_CODE - len(end), subsequent_indent=INDENTATION, break_long_words=False, break_on_hyphens=False)
+            lines += [*(part + end for part in parts[:-1]), parts[-1]]
+        else:
+            lines.append(line)
+    return "\n".join(lines)
 
 
 def difference(root, name):

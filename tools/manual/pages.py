@@ -55,7 +55,16 @@ def of_commands(_root, commands, _detail):
     for command in commands.values():
         operand = f" *{command.operand}*" if command.operand else ""
         lines += [bold(command.name) + operand, "", f":   {escaped(command.summary)}.", ""]
+        lines += ["    " + line if line else "" for line in lines_of_options(command)]
         lines += ["    " + line if line else "" for line in lines_of_help(command)]
+    return lines
+
+
+def lines_of_options(command):
+    """Returns a list of the options of a command, in Markdown."""
+    lines = []
+    for option in command.options:
+        lines += [bold(option.name) + (f" *{option.value}*" if option.value else ""), f":   {escaped(option.summary)}.", ""]
     return lines
 
 
@@ -68,18 +77,22 @@ def lines_of_help(command):
 
 
 def of_synopsis(_root, commands, _detail):
-    lines = [f"**plant_script** {bold(command.name)}" + (f" *{command.operand}*" if command.operand else "") for command in commands.values()]
-    return [*(line + "\\" for line in lines), "**plant_script** \\[*COMMAND*\\] **--help**"]
+    lines = [f"**plant_script** {bold(command.name)} \\[*OPTIONS*\\]" + (f" *{command.operand}*" if command.operand else "") for command in commands.values()]
+    return [*(line + "\\" for line in lines), "**plant_script** \\[*COMMAND*\\] **--help**\\", "**plant_script** **--version**"]
 
 
 def of_help(_root, commands, name):
     return lines_of_help(commands[name])
 
 
+def of_options(_root, commands, name):
+    return lines_of_options(commands[name])
+
+
 def of_examples(_root, commands, name):
     lines = []
     for command in [commands[name]] if name else commands.values():
-        lines += [f"{escaped(command.summary)}:", "", *(f"    {line}" for line in command.examples), ""]
+        lines += [f"{escaped(command.summary)}:", "", *(f"    {line}" for example in command.examples for line in example.split("\n")), ""]
     return lines
 
 
@@ -100,5 +113,5 @@ def of_file(root, _commands, name):
     return [f"    {line}".rstrip() for line in (root / name).read_text().splitlines()]
 
 
-MARKS = {"commands": of_commands, "synopsis": of_synopsis, "help": of_help, "examples": of_examples, "section": of_section,
+MARKS = {"commands": of_commands, "synopsis": of_synopsis, "help": of_help, "options": of_options, "examples": of_examples, "section": of_section,
          "beginning": of_beginning, "paragraph": of_paragraph, "file": of_file}

@@ -4,8 +4,7 @@
     tools/completions --check [PROGRAM]      tests whether they are what the help lists, and exits with 1 if one is not
 
 PROGRAM is the built program, or the one that is given. The commands, options and operands are those that `PROGRAM --help` and
-`PROGRAM COMMAND --help` list, and the options of a command that its help leaves to docs/FORMATS.md (UNLISTED). The commands whose help
-clap does not write have no row in `PROGRAM --help` (SERVICE_COMMANDS).
+`PROGRAM COMMAND --help` list.
 """
 
 import argparse
@@ -21,11 +20,6 @@ from tools.compare.program import PROGRAM
 NAME = "plant_script"
 FOLDER = "packaging/completions"
 HEADING = re.compile(r"(\w+):\s*$")
-# The heading of the options that clap does not read. An empty line follows it.
-FURTHER = "Further options, before the command or after it:"
-# The commands whose help clap does not write, and the heading of their options.
-SERVICE_COMMANDS = ("resume", "restore", "snapshot")
-SERVICE_OPTIONS = "Options, before the command or after it:"
 ROW = re.compile(r"  +(\S.*?)(?:  +(\S.*))?$")
 OPTION = re.compile(r"(?:(-\w)(?:, )?)?(--[\w-]+)?(?: <?(\w+)>?)?$")
 # The values of options and the operands that are names of files or of folders.
@@ -61,19 +55,12 @@ class Command:
     operands: list = field(default_factory=list)
 
 
-# Options that the help of a command does not list.
-UNLISTED = {"serve": (Option(("--state",), "FOLDER", "keep the lines and the state in FOLDER"),
-                      Option(("--snapshot-every",), "N", "save the state each N lines (with --state)"))}
-
-
 def sections_of(text):
     """Returns the rows below each heading of a help: pairs of a term and what it means."""
     rows, sections = [], {}
     for line in text.splitlines():
         heading, row = HEADING.match(line), ROW.match(line)
-        if line in (FURTHER, SERVICE_OPTIONS):
-            rows = sections[line] = []
-        elif heading:
+        if heading:
             rows = sections[heading[1]] = []
         elif row:
             rows.append((row[1], row[2] or ""))
@@ -94,18 +81,7 @@ def read_command(name, text, help_text):
     if "Options" not in sections:
         raise NoHelp(f"the help of {name} lists no options")
     operands = [term.strip("<>[]") for term, _ in sections.get("Arguments", [])]
-    options = [option_of(*row) for row in sections["Options"] + sections.get(FURTHER, [])]
-    listed = spellings_of(options)
-    return Command(name, text, options + [option for option in UNLISTED.get(name, ()) if option.spellings[0] not in listed], operands)
-
-
-def read_service_command(name, help_text):
-    """Returns a command whose help clap does not write. The first line of the help says what the command does."""
-    rows = sections_of(help_text).get(SERVICE_OPTIONS)
-    if rows is None:
-        raise NoHelp(f"the help of {name} lists no options")
-    options = [option_of(term, text) for term, text in rows]
-    return Command(name, help_text.splitlines()[0], [Option(("-h", "--help"), None, "Print help"), *options])
+    return Command(name, text, [option_of(*row) for row in sections["Options"]], operands)
 
 
 def help_of(program, *words):
@@ -126,7 +102,6 @@ def read_program(program):
     if not rows:
         raise NoHelp(f"the help of {program} lists no commands")
     commands = [read_command(name, text, help_of(program, name)) for name, text in rows if name != "help"]
-    commands += [read_service_command(name, help_of(program, name)) for name in SERVICE_COMMANDS]
     commands += [Command(name, text) for name, text in rows if name == "help"]
     return read_command("", "", top_help), commands
 

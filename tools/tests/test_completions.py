@@ -52,23 +52,11 @@ Arguments:
   <OPERATOR>  Name of the operator
 
 Options:
-  -h, --help  Print help
-
-Further options, before the command or after it:
-
-    --input FILE    read FILE
+      --input <FILE>    Read FILE
+      --state <FOLDER>  Keep it in FOLDER
+  -h, --help            Print help
 
     plant_script history A < script.txt
-"""
-SERVICE = """Serve it
-
-Usage: plant_script COMMAND
-
-Options, before the command or after it:
-
-    --input FILE    read FILE of the service
-
-Standard input: lines.
 """
 PROGRAM = f"""#!/bin/sh
 case "$*" in
@@ -80,9 +68,6 @@ case "$*" in
 ;;
 "history --help") cat <<'END'
 {HISTORY}END
-;;
-"resume --help" | "restore --help" | "snapshot --help") cat <<'END'
-{SERVICE}END
 ;;
 *) exit 2 ;;
 esac
@@ -120,24 +105,21 @@ class Completions(unittest.TestCase):
 
     def test_what_the_help_lists_is_read(self):
         top, commands = self.read
-        self.assertEqual([command.name for command in commands], ["run", "history", "resume", "restore", "snapshot", "help"])
+        self.assertEqual([command.name for command in commands], ["run", "history", "help"])
         self.assertEqual(top.options, [TOOL.Option(("-h", "--help"), None, "Print help")])
         self.assertEqual(commands[0].options, [TOOL.Option(("--input",), "FILE", "Read FILE"), TOOL.Option(("--json",), None, "Write JSON: a line each"),
                                                TOOL.Option(("--level",), "N", "Set the level"), TOOL.Option(("-h", "--help"), None, "Print help")])
-        self.assertEqual(commands[1].options, [TOOL.Option(("-h", "--help"), None, "Print help"), TOOL.Option(("--input",), "FILE", "read FILE")])
-        self.assertEqual([command.operands for command in commands], [[], ["OPERATOR"], [], [], [], []])
-        self.assertEqual(commands[2].text, "Serve it")
-        self.assertEqual(commands[2].options, [TOOL.Option(("-h", "--help"), None, "Print help"), TOOL.Option(("--input",), "FILE", "read FILE of the service")])
+        self.assertEqual(commands[1].options, [TOOL.Option(("--input",), "FILE", "Read FILE"), TOOL.Option(("--state",), "FOLDER", "Keep it in FOLDER"),
+                                               TOOL.Option(("-h", "--help"), None, "Print help")])
+        self.assertEqual([command.operands for command in commands], [[], ["OPERATOR"], []])
 
     def test_bash(self):
-        self.assertEqual(self.bash(""), ["run", "history", "resume", "restore", "snapshot", "help", "-h", "--help"])
+        self.assertEqual(self.bash(""), ["run", "history", "help", "-h", "--help"])
         self.assertEqual(self.bash("h"), ["history", "help"])
         self.assertEqual(self.bash("run", "--"), ["--input", "--json", "--level", "--help"])
-        self.assertEqual(self.bash("re"), ["resume", "restore"])
         self.assertEqual(self.bash("run", "--input", "plant"), ["plant_script"])
-        self.assertEqual(self.bash("snapshot", "--"), ["--help", "--input"])
-        self.assertEqual(self.bash("history", "--"), ["--help", "--input"])
-        self.assertEqual(self.bash("help", "r"), ["run", "resume", "restore"])
+        self.assertEqual(self.bash("history", "--"), ["--input", "--state", "--help"])
+        self.assertEqual(self.bash("help", "r"), ["run"])
 
     @is_here("fish")
     def test_fish(self):
@@ -146,14 +128,14 @@ class Completions(unittest.TestCase):
 
         self.assertEqual(sorted(offered("plant_script h")), ["help\tPrint this message or the help of the given subcommand(s)", "history\tPrint [all] of it"])
         self.assertEqual(sorted(offered("plant_script run --")), ["--help\tPrint help", "--input\tRead FILE", "--json\tWrite JSON: a line each", "--level\tSet the level"])
-        self.assertEqual(sorted(offered("plant_script help r")), ["restore", "resume", "run"])
+        self.assertEqual(sorted(offered("plant_script help r")), ["run"])
 
     @is_here("zsh")
     def test_zsh(self):
         self.assertEqual(self.shell("zsh", "-n", self.path("_plant_script")), "")
         text = self.path("_plant_script").read_text()
         for part in ("#compdef plant_script\n", "'run:Run it\\: the operator'\"'\"'s part'", "'--input[Read FILE]:FILE:_files'", "'--json[Write JSON\\: a line each]'",
-                     "'--level[Set the level]:N:'", "'(-h --help)'{-h,--help}'[Print help]'", "        history) _arguments '(-h --help)'{-h,--help}'[Print help]' '--input[read FILE]:FILE:_files' :OPERATOR: ;;",
+                     "'--level[Set the level]:N:'", "'(-h --help)'{-h,--help}'[Print help]'", "        history) _arguments '--input[Read FILE]:FILE:_files' '--state[Keep it in FOLDER]:FOLDER:_files -/' '(-h --help)'{-h,--help}'[Print help]' :OPERATOR: ;;",
                      "        help) _describe command commands ;;\n"):
             self.assertIn(part, text)
 
@@ -182,21 +164,14 @@ class Stored(unittest.TestCase):
         text = (ROOT / TOOL.FOLDER / "plant_script.fish").read_text()
         stored = dict(re.findall(r"^complete -c plant_script -n __fish_use_subcommand -a (\w+) -d '(.*)'$", text, re.MULTILINE))
         stored.pop("help")
-        source = (ROOT / "crates/program_runner/src/service_help.rt").read_text()
-        summary |= {name: re.search(f'{name.upper()}_HELP: &\\[u8\\] = b"(.*)', source)[1] for name in TOOL.SERVICE_COMMANDS}
         self.assertEqual(stored, summary)
 
-    def test_options_that_the_help_does_not_list(self):
+    def test_options_of_folders(self):
         texts = {name: (ROOT / TOOL.FOLDER / name).read_text() for name in TOOL.FILES_OF_SHELLS}
-        self.assertIn("    serve) words='-h --help --input --json --state --snapshot-every' ;;\n", texts["plant_script.bash"])
+        self.assertIn("    serve) words='--input --json --state --snapshot-every -h --help' ;;\n", texts["plant_script.bash"])
         self.assertIn('    --state)\n        compopt -o filenames\n        mapfile -t COMPREPLY < <(compgen -d -- "$word")\n', texts["plant_script.bash"])
         self.assertIn("FOLDER:_files -/' '--snapshot-every[", texts["_plant_script"])
         self.assertIn(" -l state -x -a '(__fish_complete_directories)' -d ", texts["plant_script.fish"])
-        self.assertEqual(sum(" -l state " in line for line in texts["plant_script.fish"].splitlines()), 1)
-
-    def test_an_option_that_the_help_lists_is_there_once(self):
-        serve = TOOL.read_command("serve", "", RUN.replace("--level <N>", "--state <FOLDER>"))
-        self.assertEqual([option.spellings[0] for option in serve.options], ["--input", "--json", "--state", "-h", "--snapshot-every"])
 
     def test_all_files_are_there(self):
         self.assertEqual({path.name for path in (ROOT / TOOL.FOLDER).iterdir()}, set(TOOL.FILES_OF_SHELLS))

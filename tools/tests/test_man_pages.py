@@ -20,7 +20,7 @@ from tools.compare.program import PROGRAM
 from tools.manual import man_pages as TOOL
 from tools.manual.documents import for_page, section
 from tools.manual.faults import NoPage
-from tools.manual.help_texts import SOURCE, help_of, read_help
+from tools.manual.help_texts import PROGRAM_SOURCE, SOURCE, TEXTS, help_of, read_help
 from tools.manual.pages import NAMES, TEMPLATES, escaped
 from tools.prose.markdown import COMMANDS
 
@@ -30,7 +30,7 @@ SECTIONS_OF_TOOL = [name for name in SECTIONS if name not in ("COMMANDS", "INPUT
 SECTIONS_OF_FILE = ["NAME", "SYNOPSIS", "DESCRIPTION", "EXAMPLES", "FILES", "SEE ALSO"]
 # Characters that pandoc spells.
 SPELLED = {"aq": "'", "dq": '"', "ga": "`", "ha": "^", "rs": "\\", "ti": "~", "at": "@"}
-SOURCES = (SOURCE, "README.md", "CHANGELOG.md", "docs/FORMATS.md", "docs/OPERATING.md", "examples/plant_p2.toml", "docs/man")
+SOURCES = (SOURCE, TEXTS, PROGRAM_SOURCE, "README.md", "CHANGELOG.md", "docs/FORMATS.md", "docs/OPERATING.md", "examples/plant_p2.toml", "docs/man")
 # What a page is not if a command is not installed.
 USES = {"mandoc": "checked", "man": "formatted"}
 
@@ -82,10 +82,12 @@ class Pages(unittest.TestCase):
 
     def test_commands(self):
         _, commands = read_help(ROOT)
-        self.assertEqual({term.split(" ")[0] for term in self.terms("plant_script.1", "COMMANDS")}, set(COMMANDS))
+        terms = {term.split(" ")[0] for term in self.terms("plant_script.1", "COMMANDS")}
+        self.assertEqual({term for term in terms if not term.startswith("-")}, set(commands))
+        self.assertEqual({term for term in terms if term.startswith("-")}, {option.name for command in commands.values() for option in command.options})
         synopsis, examples = (self.part_of_page("plant_script.1", part) for part in ("SYNOPSIS", "EXAMPLES"))
         for command in commands.values():
-            self.assertRegex(synopsis, rf"(?m)^plant_script {command.name}( {command.operand})?$")
+            self.assertRegex(synopsis, rf"(?m)^plant_script {command.name} \[OPTIONS\]( {command.operand})?$")
             for example in command.examples:
                 self.assertIn(f"\n{example}\n", examples)
 
@@ -152,10 +154,13 @@ class Help(unittest.TestCase):
     def test_all_commands(self):
         summary, commands = read_help(ROOT)
         self.assertTrue(summary)
-        self.assertEqual(set(commands), set(COMMANDS))
+        self.assertEqual(set(commands), {*COMMANDS, "resume", "restore", "snapshot"})
         for command in commands.values():
             self.assertTrue(command.summary and command.blocks and command.examples, command.name)
         self.assertEqual(commands["history"].operand, "OPERATOR")
+        self.assertEqual([(option.name, option.value) for option in commands["serve"].options],
+                         [("--input", "FILE"), ("--json", ""), ("--state", "FOLDER"), ("--snapshot-every", "N")])
+        self.assertEqual([option.name for option in commands["one"].options], ["--input"])
 
     def test_typed(self):
         found = help_of("run", "Run", "Standard input: a\nplant.\n\n    plant_script run < a\n    key = 1    one,\n               or two\n\nExit status: 0 success.")
@@ -169,7 +174,9 @@ class Help(unittest.TestCase):
         for command in commands.values():
             printed = subprocess.run([PROGRAM, command.name, "--help"], capture_output=True, text=True, check=True).stdout
             printed = " ".join(printed.split())
-            for block in (command.summary, *command.blocks):
+            self.assertEqual(set(re.findall(r"--[a-z-]+", printed.partition("Options:")[2].partition("-h, --help")[0])) - {"--state"},
+                             {option.name for option in command.options} - {"--state"})
+            for block in (command.summary, *(option.summary for option in command.options), *command.blocks):
                 self.assertIn(" ".join((" ".join(block) if isinstance(block, list) else block).split()), printed)
 
     @unittest.skipUnless(pathlib.Path(PROGRAM).exists(), "the program is not built: its help was not compared")
@@ -177,7 +184,7 @@ class Help(unittest.TestCase):
         for name in ("resume", "restore", "snapshot"):
             after, before = (subprocess.run([PROGRAM, *words], capture_output=True, text=True, check=True).stdout for words in ((name, "--help"), ("help", name)))
             self.assertEqual(before, after)
-            self.assertIn(f"\nUsage: plant_script {name}\n", before)
+            self.assertIn(f"\nUsage: plant_script {name} [OPTIONS]\n", before)
 
 
 class Markdown(unittest.TestCase):
@@ -218,4 +225,4 @@ class Installed(unittest.TestCase):
             self.assertEqual((done.returncode, done.stderr), (0, ""))
             text = re.sub(".\b", "", done.stdout)
             self.assertIn("SEE ALSO", text)
-            self.assertLessEqual(max(map(len, re.sub(r"^ {14}.*$", "", text, flags=re.MULTILINE).splitlines())), 80)
+            self.assertLessEqual(max(map(len, text.splitlines())), 80)

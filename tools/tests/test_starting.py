@@ -15,7 +15,7 @@ import unittest
 from tools import ROOT
 
 SCRIPTS = {name: (ROOT / name).read_text() for name in ("plant_script", "prove", "examples/serving/serve_plant.sh")}
-COMMANDS = "sh bash env readlink dirname find head tail awk mktemp rm cat flock cp mkdir".split()
+COMMANDS = "sh bash env readlink dirname find head tail awk mktemp rm cat flock cp mkdir sed".split()
 PROGRAM = "crates/plant_program/out/plant_program"
 TIMEOUT = 10  # seconds
 
@@ -54,6 +54,7 @@ case "$1 $2" in
     echo 'logic=proved functions=2 target=x86_64 statements=trusted' >&2
     mkdir -p out
     cp "$here/program" out/plant_program ;;
+'version ') echo 'rattle-kit-1 logic 0' ;;
 *) exit 99 ;;
 esac
 """
@@ -162,7 +163,7 @@ class Unproved(Starting):
     def test_help_waits_for_no_input(self):
         place = self.place()
         reading, writing = os.pipe()
-        for words in (["--help"], ["run", "-h"], ["help"], ["--version"], ["serve", "--help"], []):
+        for words in (["--help"], ["run", "-h"], ["help"], ["--version"], ["-V"], ["serve", "--help"], []):
             self.assertEqual(place.run("plant_script", *words, given=reading)[0], 0)
         os.close(reading)
         os.close(writing)
@@ -248,7 +249,7 @@ class Proving(Starting):
         place = self.place()
         status, output, errors = place.run("prove", "--jobs", "3")
         self.assertEqual((status, errors), (0, ""))
-        self.assertEqual(place.calls(), ["all|check|--jobs|3|a plant", "run|--jobs|1|--|one|plant_program"])
+        self.assertEqual(place.calls(), ["all|check|--jobs|3|a plant", "run|--jobs|1|--|one|plant_program", "version|a plant"])
         lines = output.splitlines()
         self.one_line(lines[0], "3 crates", "3 at a time")
         self.one_line(lines[1], "rt: waiting for another rt to finish in lists")
@@ -260,6 +261,17 @@ class Proving(Starting):
         self.assertIn(PROGRAM, lines[-1])
         self.assertEqual(place.run("plant_script", "run"), (3, "proved: <run>\n", "a proved reason\n"))
         self.assertIn("fn lists::new: proved", (place.top / "crates/plant_program/out/prove.log").read_text())
+
+    def test_the_version_names_the_kit_that_built_the_program(self):
+        place = self.place()
+        self.assertEqual(place.run("prove")[0], 0)
+        program = place.write(PROGRAM, PROVED.replace("exit 3", "exit 0"))
+        for option in ("--version", "-V"):
+            os.utime(program)
+            self.assertEqual(place.run("plant_script", option)[1], f"proved: <{option}>\n")
+            os.utime(program, (time.time() - 500,) * 2)
+            self.assertEqual(place.run("plant_script", option)[1], f"proved: <{option}>\nkit rattle-kit-1 logic 0\n")
+        self.assertEqual(place.run("plant_script", "run", "--version")[1], "proved: <run> <--version>\n")
 
     def test_it_does_nothing_where_nothing_is_newer(self):
         place = self.place()
@@ -286,7 +298,7 @@ class Proving(Starting):
         self.one_line(place.run("plant_script", "run")[2].splitlines()[0], "crates/tlv24/src/lib.rt", "newer")
         (place.rt / "edits").unlink()
         self.assertEqual(place.run("prove", "--jobs", "1")[0], 0)
-        self.assertEqual(len(place.calls()), 4)
+        self.assertEqual(len(place.calls()), 6)
 
     def test_without_rt_it_says_what_to_do(self):
         status, output, errors = self.place(has_rt=False).run("prove")
@@ -319,7 +331,9 @@ EDITS = [
     ("plant_script", "--json | --strict) ;;", "--json) ;;"),
     ("plant_script", "trap 'rm -rf \"$work\"' EXIT", ":"),
     ("plant_script", "head -c $((most_input + 1))", "head -c $most_input"),
-    ("plant_script", "        -h | --help | --version) return 0 ;;\n", ""),
+    ("plant_script", "        -h | --help | -V | --version) return 0 ;;\n", ""),
+    ("plant_script", '[ "$program" -nt "$program.kit" ] || ', ""),
+    ("plant_script", "    1:-V | 1:--version)\n", "    1:--version)\n"),
     ("plant_script", 'if [ "$(command_of "$@")" = serve ]', "if false"),
     ("plant_script", "if ! command -v rt >/dev/null; then", "if false; then"),
     ("plant_script", '    exec "$program" "$@"', '    [ -z "$source" ] || "$prove"\n    exec "$program" "$@"'),
@@ -328,6 +342,7 @@ EDITS = [
     ("plant_script", "-o -name '*.antt' ", ""),
     ("plant_script", "prove=./prove", "prove=prove"),
     ("plant_script", '[ "$(pwd -P)" != "$here" ] || ', ""),
+    ("prove", "KIT_LINE.write_bytes(", "len("),
     ("prove", '["all", "check", "--jobs", str(jobs)]', '["all", "check", "--jobs", "1"]'),
     ("prove", 'if line.startswith("rt: waiting"):', "if not line:"),
     ("prove", "            log.write(line)\n", ""),

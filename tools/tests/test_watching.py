@@ -406,9 +406,9 @@ class Files(unittest.TestCase):
 
     def test_what_is_known_of_the_program(self):
         program = self.folder / "program"
-        program.write_text("#!/bin/sh\n[ $1 = --version ] && printf 'plant_script 0.1\\nkit rattle-kit-1 of today\\n'\n")
+        program.write_text("#!/bin/sh\n[ $1 = --version ] && echo plant_script 0.1\n")
         program.chmod(0o755)
-        (self.folder / "build.txt").write_text("version: 0.1-1\ncommit: 0123\nprogram: not proved, sha256 0123\nproof log: none: x\n")
+        (self.folder / "build.txt").write_text("version: 0.1-1\ncommit: 0123\nprogram: not proved, sha256 0123\nproof log: none: x\ntoolchain kit: rattle-kit-1 of today\n")
         self.assertEqual(watch_channel.build_of(program, self.folder / "build.txt"),
                          {"version": "0.1", "kit": "rattle-kit-1 of today", "package": "0.1-1", "program": "not proved"})
         self.assertEqual(set(watch_channel.build_of("/nowhere", self.folder / "none").values()), {""})

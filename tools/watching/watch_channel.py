@@ -51,14 +51,14 @@ def rows_of(text, separator):
 
 
 def build_of(program, build=BUILD):
-    """Returns what is known of the installed program: what --version prints, and what the package says of it."""
+    """Returns what is known of the installed program: the version that it prints, and what the package says of it."""
     version = package = ""
     with contextlib.suppress(OSError, subprocess.SubprocessError):
         version = subprocess.run([program, "--version"], capture_output=True, text=True, check=False, timeout=10).stdout
     with contextlib.suppress(OSError):
         package = build.read_text()
     version, package = rows_of(version, " "), rows_of(package, ": ")
-    return {"version": version.get("plant_script", ""), "kit": version.get("kit", ""), "package": package.get("version", ""),
+    return {"version": version.get("plant_script", ""), "kit": package.get("toolchain kit", ""), "package": package.get("version", ""),
             "program": package.get("program", "").split(",")[0]}
 
 
