@@ -4,7 +4,8 @@
     tools/dsx flow WORD..            prints a flow encoding, as a plant file has it
     tools/dsx words HEX..            prints each message as words
     tools/dsx words flow HEX..       prints each flow encoding as words
-    tools/dsx read HEX..             prints the words, each byte, and the first fault that shows in the bytes alone
+    tools/dsx read HEX..             prints the words, each byte, which TLVs the program refuses, and the first fault that shows in the
+                                     bytes alone
     tools/dsx read flow HEX..        prints the same of flow encodings
     tools/dsx lines                  copies an input or an output of the program, and writes the words of each message below it
     tools/dsx script                 copies an input of the program in which messages may be words; leaves out comments (#) and indented lines
@@ -21,15 +22,24 @@ The fields are in the order of the words, in one encoding; the word `flow` begin
 
 Other words make invalid messages: 15=0200 is subtype 15 with these bytes, tlv43=AABB a TLV of type 43 next to the encodings, cut=0701
 bytes that end an encoding, rest=1805 bytes that end the message, unused=N reserved bytes that are not 0.
+
+`read` judges a message without the state of an operator. The checks 2, 3, 5, 10 to 12 and 15 to 21 need that state, and the earliest check
+decides. It takes each service class to exist, and each interval but 0 to be a frame or longer.
+
+Exit status: 0 success, 2 wrong words or bytes, 6 standard input or output failed, so that output is lost.
 """
 
 import re
 import sys
 
-from tools.messages.words import (FIELDS, KINDS, WordsFault, bytes_of_flow, bytes_of_message, first_fault, octets, parts_of_flow,
-                           parts_of_message, words_of)
+from .streams import IO_STATUS, MOST_BYTES, InputFault, InputLines, OutputFault, leave_output, report, write_at_once, write_lines
+from .verdicts import first_fault, marks_of
+from .words import (FIELDS, KINDS, WordsFault, bytes_of_flow, bytes_of_message, nearest, octets, parts_of_flow, parts_of_message, shortened,
+                    words_of)
 
 REQUESTS = ("DSA-REQ", "DSC-REQ", "DSD-REQ")
+# A line of TOML: a table, or a key with a value.
+OF_PLANT = re.compile(r"\[|melfjits-snapshot |[\w.\"'-]+\s*=")
 
 
 def shown(data):
@@ -48,20 +58,24 @@ def words_line(data, is_flow=False):
 def read(data, is_flow):
     """Returns the words, the bytes part by part, and for a request its first fault."""
     found = parts(data, is_flow)
+    marks = {} if is_flow else marks_of(data, found)
     lines = [words_line(data, is_flow), ""]
-    lines += [f"{'  ' * part.depth + part.data.hex().upper():<34}  {part.text}" for part in found]
+    lines += [part_line(part, marks.get(place)) for place, part in enumerate(found)]
     if found and found[0].text in REQUESTS:
         fault = first_fault(data)
         lines += ["", "nothing in its bytes is at fault" if fault is None else fault]
     return lines
 
 
+def part_line(part, mark):
+    return f"{'  ' * part.depth + part.data.hex().upper():<34}  {part.text}" + (f"  {mark}" if mark else "")
+
+
 def each(words, lines_of):
-    """Prints the lines of each message, or of each flow encoding after the word `flow`."""
+    """Yields the lines of each message, or of each flow encoding after the word `flow`."""
     is_flow = words[:1] == ["flow"]
     for text in words[1:] if is_flow else words:
-        for line in lines_of(b"" if text == "-" else octets(text, text), is_flow):
-            print(line)
+        yield from lines_of(b"" if text == "-" else octets(text, text), is_flow)
 
 
 def place_of_message(line):
@@ -87,12 +101,42 @@ def described(text):
 
 def script(texts):
     """Yields the plant file as it is, and the script after `---`. An input of `one` has no plant file."""
-    texts = list(texts)
-    start = texts.index("---") + 1 if "---" in texts else 0
-    if start == 0 and any(text.startswith("[") for text in texts):
-        start = len(texts)
-    yield from texts[:start]
-    for text in texts[start:]:
+    held = comments(texts)
+    last = held.pop() if held else ""
+    if last == "---" or OF_PLANT.match(last):
+        yield from [*held, last]
+        if last != "---":
+            yield from through_dashes(texts)
+        yield from spelled(texts)
+    else:
+        yield from spelled([last])
+        yield from spelled(texts)
+
+
+def comments(texts):
+    """Returns the lines up to the first that is neither empty, nor a comment, nor indented. A plant file or a script may begin with them."""
+    held, size = [], 0
+    for line in texts:
+        held.append(line)
+        size += len(line) + 1
+        if line and not line.startswith((" ", "#", "\t", "\r")):
+            break
+        if size > MOST_BYTES:
+            raise InputFault(f"the first {MOST_BYTES} characters of the input are comments")
+    return held
+
+
+def through_dashes(texts):
+    """Yields the lines up to `---`, which ends the plant file."""
+    for line in texts:
+        yield line
+        if line == "---":
+            return
+
+
+def spelled(texts):
+    """Yields the lines of a script, with bytes in place of words."""
+    for text in texts:
         line = text.split("#")[0].rstrip(" ")
         if line and not line.startswith(" "):
             yield spelled_line(line)
@@ -105,41 +149,74 @@ def spelled_line(line):
     return line[:found.end()] + shown(bytes_of_message(words)) if words and words[0] in KINDS else line
 
 
-def names():
+def names(_):
     for subtype, (word, name, unit) in FIELDS.items():
         yield f"{word + '=':<12} {subtype:>3}  {name}" + (f", {unit}" if unit else "")
 
 
-def copy(lines_of):
-    for line in lines_of(sys.stdin.read().splitlines()):
-        print(line)
+def copied(lines_of):
+    """Yields the lines of a copy of standard input. A fault of words gets the number of its line."""
+    texts = InputLines()
+    write_at_once()
+    try:
+        yield from lines_of(texts)
+    except WordsFault as fault:
+        raise WordsFault(f"line {texts.number}: {fault}") from fault
 
 
-def do(words):
-    if words[:1] == ["read"] and len(words) > 1:
-        each(words[1:], read)
-    elif words[:1] == ["words"] and len(words) > 1:
-        each(words[1:], lambda data, is_flow: [words_line(data, is_flow)])
-    elif words == ["lines"]:
-        copy(lines)
-    elif words == ["script"]:
-        copy(script)
-    elif words == ["names"]:
-        print("\n".join(names()))
-    elif words[:1] == ["flow"]:
-        print(shown(bytes_of_flow(words[1:])))
-    elif not words or words[0] in ("-h", "--help"):
-        print(__doc__)
-    else:
-        print(shown(bytes_of_message(words)))
+def alone(command, words):
+    """Checks that a command is given without words."""
+    if words:
+        raise WordsFault(f"{command} takes no words, and not {shortened(words[0])}")
+
+
+def some(command, words):
+    """Checks that a command is given a message or an encoding."""
+    if words in ([], ["flow"]):
+        raise WordsFault(f"{command} needs hexadecimal, such as {command} 0F0001180A010200010601060F0102")
+
+
+def lines_of_words(words):
+    """Returns what the command that words are prints, line by line."""
+    command, rest = words[0] if words else "--help", words[1:]
+    if command in ("-h", "--help"):
+        return __doc__.splitlines()
+    if command in ("read", "words"):
+        some(command, rest)
+        return each(rest, read if command == "read" else lambda data, is_flow: [words_line(data, is_flow)])
+    if command in ("lines", "script", "names"):
+        alone(command, rest)
+        return names(rest) if command == "names" else copied(lines if command == "lines" else script)
+    if command == "flow":
+        return [shown(bytes_of_flow(rest))]
+    if command not in KINDS:
+        known = [*KINDS, "flow", "words", "read", "lines", "script", "names"]
+        raise WordsFault(f"{shortened(command)}: " + nearest(command, "message or command", known))
+    return [shown(bytes_of_message(words))]
+
+
+def status_of(words):
+    """Runs a command, and returns its exit status."""
+    try:
+        write_lines(lines_of_words(words))
+        return 0
+    except WordsFault as fault:
+        report(f"dsx: {fault}")
+        return 2
+    except InputFault as fault:
+        report(f"dsx: {fault}")
+    except OutputFault as fault:
+        leave_output()
+        report(f"dsx: {fault}")
+    return IO_STATUS
 
 
 def main():
     try:
-        do(sys.argv[1:])
-    except WordsFault as fault:
-        print(f"dsx: {fault}", file=sys.stderr)
-        sys.exit(2)
+        sys.exit(status_of(sys.argv[1:]))
+    except KeyboardInterrupt:
+        leave_output()
+        sys.exit(130)
 
 
 if __name__ == "__main__":

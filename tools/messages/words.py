@@ -1,11 +1,11 @@
 """Translates messages between words, such as `dsa tid=1 ref=1 set=6 type=be`, and bytes. The help of tools/dsx lists the words."""
 
 import difflib
+import re
 from dataclasses import dataclass
 
-from tools.reference.encodings import CLASS_NAME, ERRORS, LENGTHS, REFERENCE, SCHEDULING, SFID, in_range, number_of, split_tlvs, tlv
-from tools.reference.messages import (DSA_ACK, DSA_REQ, DSC_ACK, DSC_REQ, DSD_REQ, FLOW, RESPONSE, NoAnswer, Refused, read_flows, read_header,
-                                write_number)
+from tools.reference.encodings import CLASS_NAME, ERRORS, LENGTHS, SCHEDULING, in_range, number_of, split_tlvs, tlv
+from tools.reference.messages import DSA_ACK, DSA_REQ, DSC_ACK, DSC_REQ, DSD_REQ, FLOW, LEFT_OUT, RESPONSE, write_number
 from tools.generator.message_bytes import WIDTH
 
 
@@ -50,12 +50,21 @@ FIELDS = {
 }
 SUBTYPE = {word: subtype for subtype, (word, _, _) in FIELDS.items()}
 SCHEDULING_TYPES = {"be": (2, "best effort"), "nrtps": (3, "non-real-time polling"), "rtps": (4, "real-time polling"), "ugs": (6, "unsolicited grant")}
+# Names that a person may write for a scheduling type, with the word that is meant.
+OTHER_NAMES = {"voice": "ugs", "voip": "ugs", "unsolicited": "ugs", "besteffort": "be", "realtime": "rtps", "nonrealtime": "nrtps"}
 SET_TYPES = {0: "no set", 1: "provisioned", 2: "admitted", 3: "provisioned and admitted", 4: "active", 6: "admitted and active",
              7: "provisioned, admitted and active"}
 CODES = {0: "okay", 1: "reject-other", 2: "reject-unrecognized-configuration-setting", 3: "reject-temporary", 4: "reject-permanent",
          5: "reject-not-owner", 6: "reject-service-flow-not-found", 8: "reject-required-parameter-not-present",
          10: "reject-unknown-transaction-id", 18: "reject-duplicate-reference-ID-or-index-in-message",
          19: "reject-multiple-upstream-service-flows", 23: "reject-parameter-invalid-for-context", 24: "reject-authorization-failure"}
+# The named numbers of a word, and what they are called.
+NAMED = {"type": ("scheduling type", {number: f"{word} ({text})" for word, (number, text) in SCHEDULING_TYPES.items()}),
+         "set": ("set type", {number: f"{number} ({name})" for number, name in SET_TYPES.items()}),
+         "code": ("confirmation code", {number: f"{number} ({name})" for number, name in CODES.items()})}
+# Types of TLVs next to the flow encodings (Annex C).
+TLV_NAMES = {22: "upstream classifier", 23: "downstream classifier", 25: "downstream flow", 26: "payload header suppression",
+             27: "HMAC-Digest", 31: "Key Sequence Number"}
 # Words that give bytes as they are: after the whole TLVs of an encoding, and after those of the message.
 CUT, REST = "cut", "rest"
 
@@ -73,7 +82,7 @@ def bytes_of_message(words):
         if key not in widths:
             others.append(word)
         elif key in stated:
-            raise WordsFault(f"{word}: `{key}` stands twice")
+            raise WordsFault(f"{shortened(word)}: `{key}` stands twice")
         else:
             stated[key] = write_number(number(word, value, widths[key]), widths[key])
     missing = [key for key, _ in kind.fixed if key not in stated and key not in MAY_BE_ABSENT]
@@ -128,9 +137,9 @@ def bytes_of_flow(words):
         elif key.isdigit():
             data += tlv(number(word, key, 1), octets(word, value))
         elif key not in SUBTYPE:
-            raise WordsFault(f"{word}: " + nearest(key, "field", [*SUBTYPE]))
+            raise WordsFault(f"{shortened(word)}: " + nearest(key, "field", [*SUBTYPE]))
         elif key in stated:
-            raise WordsFault(f"{word}: `{key}` stands twice")
+            raise WordsFault(f"{shortened(word)}: `{key}` stands twice")
         else:
             stated.add(key)
             data += tlv(SUBTYPE[key], value_of(SUBTYPE[key], word, value))
@@ -150,14 +159,16 @@ def value_of(subtype, word, value):
         data = write_number(number(word, value, WIDTH[subtype]), WIDTH[subtype])
     least, greatest = LENGTHS[subtype]
     if not least <= len(data) <= greatest:
-        raise WordsFault(f"{word}: a {name} has {least} to {greatest} bytes, this one {len(data)}")
+        raise WordsFault(f"{shortened(word)}: a {name} has {least} to {greatest} bytes, this one {len(data)}")
     if not in_range(subtype, data):
-        raise WordsFault(f"{word}: {name} does not take that; {subtype}={data.hex().upper()} gives it all the same")
+        raise WordsFault(f"{shortened(word)}: {name} does not take that; {subtype}={data.hex().upper()} gives it all the same")
     return data
 
 
 def error_value(word, value):
-    subtype, _, code = value.partition("/")
+    subtype, slash, code = value.partition("/")
+    if not slash:
+        raise WordsFault(f"{shortened(word)}: an error is SUBTYPE/CODE, such as error=19/23")
     return bytes([1, 1, number(word, subtype, 1), 2, 1, number(word, code, 1)])
 
 
@@ -171,33 +182,64 @@ def number(word, text, width):
     try:
         value = int(text, 16 if text.startswith("0x") else 10)
     except ValueError as fault:
-        raise WordsFault(f"{word}: `{text}` is no number") from fault
+        raise WordsFault(f"{shortened(word)}: " + no_number(word, text)) from fault
     if not 0 <= value < 256 ** width:
-        raise WordsFault(f"{word}: {value} is not between 0 and {256 ** width - 1}")
+        raise WordsFault(f"{shortened(word)}: {shortened(text)} is not between 0 and {256 ** width - 1}")
     return value
+
+
+def no_number(word, text):
+    """Returns why a text is not a number, and the names that are taken in place of numbers, or that numbers have."""
+    key, equals, _ = word.partition("=")
+    if not equals:
+        return f"it has no value; write {shortened(key)}=NUMBER"
+    if key not in NAMED:
+        return f"`{shortened(text)}` is no number"
+    what, names = NAMED[key]
+    meant = nearest_name(text, list(names.values()))
+    return f"no such {what}" + (f"; the nearest is {meant}" if meant else "") + f"; there are {', '.join(names.values())}"
+
+
+def nearest_name(text, names):
+    """Returns the name, such as `ugs (unsolicited grant)`, of which a word is closest to a text, or None."""
+    plain = letters(text)
+    plain, words = OTHER_NAMES.get(plain, plain), {}
+    for part, name in [(part, name) for name in names for part in (*re.split("[()]", name), *re.split("[(), ]+", name))]:
+        words.setdefault(letters(part), name)
+    near = difflib.get_close_matches(plain, [word for word in words if word], 1)
+    return words[near[0]] if near else None
+
+
+def letters(text):
+    return re.sub("[^a-z]", "", text.lower())
 
 
 def octets(word, text):
     try:
         return bytes.fromhex(text)
     except ValueError as fault:
-        raise WordsFault(f"{word}: `{text}` is no hexadecimal of whole bytes") from fault
+        raise WordsFault(f"{shortened(word)}: `{shortened(text)}` is no hexadecimal of whole bytes") from fault
+
+
+def shortened(text, most=40):
+    return text if len(text) <= most else f"{text[:most]}.. ({len(text)} characters)"
 
 
 def nearest(word, what, known):
     near = difflib.get_close_matches(word, known, 1)
-    return f"no such {what}" + (f"; the nearest is {near[0]}" if near else f"; there are {', '.join(known)}")
+    return f"no such {what}" + (f"; the nearest is {near[0]}" if near else "") + f"; there are {', '.join(known)}"
 
 
 # From bytes to words
 
 @dataclass(frozen=True)
 class Part:
-    """Bytes of a message, their depth, the word that spells them (None if other words do) and what they mean."""
+    """Bytes of a message, their depth, the word that spells them (None if other words do), what they mean, and their fault if they have one."""
     data: bytes
     depth: int
     word: str
     text: str
+    fault: str = ""
 
 
 def words_of(parts):
@@ -229,8 +271,8 @@ def fixed_part(key, value):
     return Part(value, 0, None if key == "unused" and not found else f"{key}={found}", text + named)
 
 
-def rest_of(data, word, depth, text):
-    return [Part(data, depth, f"{word}={data.hex().upper()}", text)] if data else []
+def rest_of(data, word, depth, text, fault=""):
+    return [Part(data, depth, f"{word}={data.hex().upper()}", text, fault)] if data else []
 
 
 def whole_tlvs(data):
@@ -249,9 +291,15 @@ def parts_of_tlvs(body):
             parts.append(Part(head, 0, "flow" if says_flow else None, f"upstream flow encoding, {len(value)} bytes"))
             parts += parts_of_flow(value, 1)
         else:
-            parts.append(Part(head + value, 0, f"tlv{kind}={value.hex().upper()}", f"type {kind}, {len(value)} bytes"))
+            parts.append(other_part(head, kind, value))
         is_open = kind == FLOW
-    return parts + rest_of(behind, REST, 0, "cut: a TLV reaches past the end")
+    return parts + rest_of(behind, REST, 0, "cut: a TLV reaches past the end", "cut")
+
+
+def other_part(head, kind, value):
+    name = f" ({TLV_NAMES[kind]})" if kind in TLV_NAMES else ""
+    fault = "left out" if kind in LEFT_OUT else ""
+    return Part(head + value, 0, f"tlv{kind}={value.hex().upper()}", f"type {kind}{name}, {len(value)} bytes", fault)
 
 
 def parts_of_flow(data, depth=0):
@@ -260,7 +308,7 @@ def parts_of_flow(data, depth=0):
     for subtype, value in tlvs:
         parts.append(field_part(subtype, value, depth, subtype in stated))
         stated.add(subtype)
-    return parts + rest_of(behind, CUT, depth, "cut: a TLV reaches past the end")
+    return parts + rest_of(behind, CUT, depth, "cut: a TLV reaches past the end", "cut")
 
 
 def field_part(subtype, value, depth, again):
@@ -270,11 +318,11 @@ def field_part(subtype, value, depth, again):
         return Part(data, depth, raw, f"subtype {subtype}: skipped")
     word, name, unit = FIELDS[subtype]
     if not least <= len(value) <= greatest:
-        return Part(data, depth, raw, f"{name}: of wrong length, {len(value)} bytes")
+        return Part(data, depth, raw, f"{name}: of wrong length, {len(value)} bytes", "wrong length")
     if again:
-        return Part(data, depth, raw, f"{name}: there twice")
+        return Part(data, depth, raw, f"{name}: there twice", "twice")
     if not in_range(subtype, value):
-        return Part(data, depth, raw, f"{name}: out of range")
+        return Part(data, depth, raw, f"{name}: out of range", "out of range")
     value_word = value_words(subtype, value)
     return Part(data, depth, raw if value_word is None else f"{word}={value_word}", f"{name} {value_text(subtype, value, unit)}")
 
@@ -299,30 +347,3 @@ def value_text(subtype, value, unit):
         return f"subtype {value[2]}, code {value[5]}" + (f" ({CODES[value[5]]})" if value[5] in CODES else "")
     named = {"set": SET_TYPES, "type": dict(SCHEDULING_TYPES.values())}.get(FIELDS[subtype][0], {})
     return f"{found}" + (f" ({named[found]})" if found in named else "") + (f" {unit}" if unit else "")
-
-
-# What becomes of a message by its bytes alone
-
-def first_fault(data):
-    """Returns the first fault of a modem's message by the checks that ask its bytes alone, in words, or None."""
-    try:
-        kind, body = read_header(data)
-        if kind in (DSA_ACK, DSC_ACK):
-            return None
-        if body[0] >= 0x80:
-            return "check 1: the transaction ID is of the CMTS's own half, code 10"
-        if kind != DSD_REQ:
-            read_flows(body[2:])
-    except NoAnswer as nothing:
-        return f"check 0: {nothing.cause}"
-    except Refused as refused:
-        return f"check {refused.check}: code {refused.code} ({CODES[refused.code]})" + naming(kind, refused)
-    return None
-
-
-def naming(kind, refused):
-    if refused.subtype is None:
-        return ""
-    identifier = refused.flow.get(REFERENCE if kind == DSA_REQ else SFID)
-    of_flow = "" if identifier is None else f" of the encoding with {'reference' if kind == DSA_REQ else 'SFID'} {identifier}"
-    return f" naming subtype {refused.subtype}{of_flow}"

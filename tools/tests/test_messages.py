@@ -10,7 +10,8 @@ import unittest
 from tools import EXAMPLES, ROOT
 from tools.compare.handwritten_inputs import all_inputs
 from tools.generator.case import case
-from tools.messages.words import WordsFault, bytes_of_flow, bytes_of_message, first_fault, parts_of_flow, parts_of_message, words_of
+from tools.messages.verdicts import first_fault
+from tools.messages.words import WordsFault, bytes_of_flow, bytes_of_message, parts_of_flow, parts_of_message, words_of
 from tools.reference.encodings import LENGTHS, tlv
 from tools.reference.messages import FIXED_PART, NoAnswer, read_header
 from tools.reference.program import answer
