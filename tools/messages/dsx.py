@@ -10,6 +10,8 @@
     tools/dsx lines                  copies an input or an output of the program, and writes the words of each message below it
     tools/dsx script                 copies an input of the program in which messages may be words; leaves out comments (#) and indented lines
     tools/dsx names                  prints all words of fields, with their subtypes and names
+    tools/dsx split ..               separates a modem's request into what the program takes and the rest: tools/dsx split --help
+    tools/dsx join ..                puts the program's reply and the rest together: tools/dsx join --help
 
 KIND is dsa, dsc, dsd, dsa-ack, dsc-ack, or a reply: dsa-rsp, dsc-rsp, dsd-rsp. Acknowledgements and replies have code=N, 0 by default;
 dsd has sfid=N.
@@ -32,6 +34,7 @@ Exit status: 0 success, 2 wrong words or bytes, 6 standard input or output faile
 import re
 import sys
 
+from . import splitting
 from .streams import IO_STATUS, MOST_BYTES, InputFault, InputLines, OutputFault, leave_output, report, write_at_once, write_lines
 from .verdicts import first_fault, marks_of
 from .words import (FIELDS, KINDS, WordsFault, bytes_of_flow, bytes_of_message, nearest, octets, parts_of_flow, parts_of_message, shortened,
@@ -187,10 +190,12 @@ def lines_of_words(words):
     if command in ("lines", "script", "names"):
         alone(command, rest)
         return names(rest) if command == "names" else copied(lines if command == "lines" else script)
+    if command in ("split", "join"):
+        return splitting.lines_of_split(rest) if command == "split" else splitting.lines_of_join(rest)
     if command == "flow":
         return [shown(bytes_of_flow(rest))]
     if command not in KINDS:
-        known = [*KINDS, "flow", "words", "read", "lines", "script", "names"]
+        known = [*KINDS, "flow", "words", "read", "lines", "script", "names", "split", "join"]
         raise WordsFault(f"{shortened(command)}: " + nearest(command, "message or command", known))
     return [shown(bytes_of_message(words))]
 
