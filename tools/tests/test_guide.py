@@ -1,6 +1,6 @@
-"""Runs the commands that README.md and docs/GUIDE.md show, with the second implementation as plant_script, and with the program if it is
-built. The lines below a command that begins with `$` are its output. Other commands have to end with status 0. A block of `toml` is a
-part of examples/plant_p2.toml.
+"""Runs the commands that README.md, docs/GUIDE.md and docs/CONNECT.md show, with the second implementation as plant_script, and with the
+program if it is built. The lines below a command that begins with `$` are its output. Other commands have to end with status 0. A block of
+`toml` is a part of examples/plant_p2.toml.
 """
 
 import pathlib
@@ -13,7 +13,7 @@ import unittest
 from tools import ROOT
 
 PROGRAM = ROOT / "crates/plant_program/out/plant_program"
-DOCUMENTS = ("README.md", "docs/GUIDE.md")
+DOCUMENTS = ("README.md", "docs/GUIDE.md", "docs/CONNECT.md")
 # Not run: what proves, installs or serves.
 NOT_RUN = ("./prove", ".ci/run", "tools/build_package", "apt-get", "systemctl")
 # Files of the reader, with those that replace them.
