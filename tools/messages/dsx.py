@@ -35,7 +35,7 @@ import re
 import sys
 
 from . import splitting
-from .streams import IO_STATUS, MOST_BYTES, InputFault, InputLines, OutputFault, leave_output, report, write_at_once, write_lines
+from .streams import IO_STATUS, MOST_BYTES, InputFault, OutputFault, copied, leave_output, report, write_lines
 from .verdicts import first_fault, marks_of
 from .words import (FIELDS, KINDS, WordsFault, bytes_of_flow, bytes_of_message, nearest, octets, parts_of_flow, parts_of_message, shortened,
                     words_of)
@@ -155,16 +155,6 @@ def spelled_line(line):
 def names(_):
     for subtype, (word, name, unit) in FIELDS.items():
         yield f"{word + '=':<12} {subtype:>3}  {name}" + (f", {unit}" if unit else "")
-
-
-def copied(lines_of):
-    """Yields the lines of a copy of standard input. A fault of words gets the number of its line."""
-    texts = InputLines()
-    write_at_once()
-    try:
-        yield from lines_of(texts)
-    except WordsFault as fault:
-        raise WordsFault(f"line {texts.number}: {fault}") from fault
 
 
 def alone(command, words):

@@ -14,9 +14,12 @@ which may be lines M. For each message, split prints two words for join:
     program=HEX    the message with its upstream flow encodings (type 24) alone; the program gets it
     rest=HEX       the message without them: types 22, 23, 25 and 26, the HMAC-Digest (27), the Key Sequence Number (31), all others
 
-program=- means that the program gets nothing: there is no upstream flow. rest=- means that nothing is kept. Several upstream flows all go to
-the program, which decides. A message of another type, or one that is cut, goes to the program as it is, and the program replies as it does
-to every such message. Standard error says so. The same bytes always give the same two words.
+program=- means that the program gets nothing: the request is about the downstream or classifiers alone. rest=- means that nothing is kept.
+Several upstream flows all go to the program, which decides. So does a request of nothing: code 8. A message of another type, or one that is
+cut, goes to the program as it is, and the program replies as it does to every such message. Standard error says so. The same bytes always
+give the same two words.
+
+Standard error also says if the rest can be in no reply, and with which code to refuse it.
 
 join
 
@@ -52,9 +55,9 @@ import re
 from dataclasses import dataclass
 
 from tools.reference.encodings import REFERENCE, SFID, number_of, split_tlvs, tlv
-from tools.reference.messages import DSA_REQ, DSC_REQ, FLOW, OKAY, write_number
+from tools.reference.messages import DSA_REQ, DSC_REQ, FLOW, LEFT_OUT, OKAY, write_number
 
-from .streams import InputLines, report
+from .streams import InputLines, copied, report
 from .words import WordsFault, number, octets, parted, shortened
 
 UP_CLASSIFIER, DOWN_CLASSIFIER, DOWN_FLOW, SUPPRESSION, HMAC, KEY = 22, 23, 25, 26, 27, 31
@@ -78,7 +81,11 @@ def lines_of_split(words):
     if words in (["-h"], ["--help"]):
         yield from __doc__.splitlines()
         return
-    for text in words or InputLines():
+    yield from lines_of_parts(words) if words else copied(lines_of_parts)
+
+
+def lines_of_parts(texts):
+    for text in texts:
         found = re.fullmatch("(?:M [0-9A-Fa-f]{12} )?(.*)", text)
         program, rest = split(octets(text, found.group(1)))
         yield f"program={shown(program)}"
@@ -95,27 +102,28 @@ def split(data):
         report("dsx: the TLVs are cut: the program gets the message as it is, and refuses it with code 1")
         return data, b""
     flows, others = [it for it in tlvs if it[0] == FLOW], [it for it in tlvs if it[0] != FLOW]
-    if not flows:
+    rest = joined(data[:3], others) if others else b""
+    program = joined(data[:3], flows)
+    if not flows and any(kind in LEFT_OUT for kind, _ in others):
         report("dsx: there is no upstream flow: the program gets nothing; make the reply with join and program=-")
-    program, rest = joined(data[:3], flows), joined(data[:3], others)
-    fault = fault_of_rest(program, rest)
+        program = b""
+    fault = fault_of_rest(data[:3], flows, rest)
     if fault is not None:
         report(f"dsx: {fault}; the program need not get its part")
     return program, rest
 
 
-def fault_of_rest(program, rest):
+def fault_of_rest(head, flows, rest):
     """Returns why join refuses to reply with this rest, whatever the program and the caller give, or None."""
-    told = Join(b"", rest, program, {})
-    flows = [encoding(FLOW, {REFERENCE: fields.get(REFERENCE, []), SFID: [write_number(1, 4)]}) for fields in flows_of(program[3:])]
-    told.reply = bytes([RESPONSE_TO[told.request]]) + program[1:3] + bytes([OKAY]) + b"".join(flows)
-    added = [kind for kind, value in told.rest_tlvs(DOWN_FLOW, *ACTION) if kind != DOWN_FLOW and told.adds((kind, value))]
-    told.stated = {"classifier": [1 for kind in added if kind in CLASSIFIERS], "phs": [1 for kind in added if kind == SUPPRESSION]}
-    if told.request == DSA_REQ and told.rest_tlvs(DOWN_FLOW):
-        told.stated["sfid"] = 1
+    made = [encoding(FLOW, {REFERENCE: dict_of(value).get(REFERENCE, []), SFID: [write_number(1, 4)]}) for _, value in flows]
+    given = Given(bytes([RESPONSE_TO[head[0]]]) + head[1:] + bytes([OKAY]) + b"".join(made), rest, b"", {})
+    added = [kind for kind, value in given.rest_tlvs(DOWN_FLOW, *ACTION) if kind != DOWN_FLOW and given.adds((kind, value))]
+    given.stated = {"classifier": [1 for kind in added if kind in CLASSIFIERS], "phs": [1 for kind in added if kind == SUPPRESSION]}
+    if given.request == DSA_REQ and given.rest_tlvs(DOWN_FLOW):
+        given.stated["sfid"] = 1
     try:
         check_message("rest", rest, tuple(RESPONSE_TO), 3)
-        rest_of_reply(told)
+        rest_of_reply(given)
     except WordsFault as fault:
         return str(fault)
     return None
@@ -127,8 +135,8 @@ def flows_of(body):
 
 
 def joined(head, tlvs):
-    """Returns a message of these TLVs, or no byte if there is none."""
-    return head + b"".join(tlv(*it) for it in tlvs) if tlvs else b""
+    """Returns a message of these TLVs."""
+    return head + b"".join(tlv(*it) for it in tlvs)
 
 
 def shown(data):
@@ -138,7 +146,7 @@ def shown(data):
 # join
 
 @dataclass
-class Join:
+class Given:
     """What join is given: the messages that it has, and its words."""
     reply: bytes
     rest: bytes
@@ -169,29 +177,36 @@ def lines_of_join(words):
     if words in (["-h"], ["--help"]):
         yield from __doc__.splitlines()
         return
-    told = given(words or [word for line in InputLines() for word in line.split()])
-    tlvs = tlvs_of_reply(told)
-    key = told.stated.get("key", number_of(b"".join(value for _, value in told.rest_tlvs(KEY))) if told.rest_tlvs(KEY) else None)
-    tid = (told.reply or told.rest)[1:3]
-    head = bytes([RESPONSE_TO[told.request]]) + tid + bytes([told.code])
-    data = head + tlvs + (b"" if key is None else tlv(KEY, bytes([key])))
-    yield signed(told, data)
+    given = read_words(words or [word for line in InputLines() for word in line.split()])
+    tlvs = tlvs_of_reply(given)
+    tid = (given.reply or given.rest)[1:3]
+    yield signed(given, bytes([RESPONSE_TO[given.request]]) + tid + bytes([given.code]) + tlvs + key_of(given))
 
 
-def signed(told, data):
+def key_of(given):
+    """Returns the TLV of the Key Sequence Number: the one that is stated, or that of the request, or none."""
+    if "key" in given.stated:
+        return tlv(KEY, bytes([given.stated["key"]]))
+    asked = given.rest_tlvs(KEY)
+    if len(asked) > 1 or any(len(value) != 1 for _, value in asked):
+        raise WordsFault("the Key Sequence Number (type 31) of the request is not one byte: give key=N, or refuse the request with code=1")
+    return b"".join(tlv(*it) for it in asked)
+
+
+def signed(given, data):
     """Returns the last word: with the digest, without one, or with its place open."""
-    if "hmac" in told.stated:
-        if len(told.stated["hmac"]) != DIGEST_BYTES:
-            raise WordsFault(f"hmac=: a digest has {DIGEST_BYTES} bytes, this one {len(told.stated['hmac'])}")
-        return "modem=" + shown(data + tlv(HMAC, told.stated["hmac"]))
-    if told.rest_tlvs(HMAC):
+    if "hmac" in given.stated:
+        if len(given.stated["hmac"]) != DIGEST_BYTES:
+            raise WordsFault(f"hmac=: a digest has {DIGEST_BYTES} bytes, this one {len(given.stated['hmac'])}")
+        return "modem=" + shown(data + tlv(HMAC, given.stated["hmac"]))
+    if given.rest_tlvs(HMAC):
         report(f"dsx: the request has an HMAC-Digest (type 27): compute that of the reply over its {len(data) - 1} bytes after the type, and append "
                "1B14 and its 20 bytes, or give it as hmac=")
         return "unsigned=" + shown(data)
     return "modem=" + shown(data)
 
 
-def given(words):
+def read_words(words):
     """Returns what words say, once they fit together."""
     stated = {}
     for word in words:
@@ -203,9 +218,9 @@ def given(words):
         stated[key] = value_of(key, word, value)
     if "rest" not in stated:
         raise WordsFault("join needs rest=, which split prints")
-    told = Join(stated.get("reply", b""), stated["rest"], stated.get("program", b""), stated)
-    check_messages(told)
-    return told
+    given = Given(stated.get("reply", b""), stated["rest"], stated.get("program", b""), stated)
+    check_messages(given)
+    return given
 
 
 def value_of(key, word, text):
@@ -216,18 +231,18 @@ def value_of(key, word, text):
     return b"" if text == "-" else octets(word, text)
 
 
-def check_messages(told):
+def check_messages(given):
     """Checks that the messages are whole and of one transaction."""
-    check_message("reply", told.reply, (16, 19), 4)
-    check_message("rest", told.rest, (DSA_REQ, DSC_REQ), 3)
-    check_message("program", told.program, (DSA_REQ, DSC_REQ), 3)
-    if not told.reply and (told.program or "program" not in told.stated or not told.rest):
+    check_message("reply", given.reply, (16, 19), 4)
+    check_message("rest", given.rest, (DSA_REQ, DSC_REQ), 3)
+    check_message("program", given.program, (DSA_REQ, DSC_REQ), 3)
+    if not given.reply and (given.program or "program" not in given.stated or not given.rest):
         raise WordsFault("join needs reply=, the program's reply; or program=- and a rest, if the program got nothing")
-    for name, data in (("rest", told.rest), ("program", told.program)):
-        if data and told.reply and (RESPONSE_TO[data[0]], data[1:3]) != (told.reply[0], told.reply[1:3]):
-            raise WordsFault(f"{name}=: it is {named(data)}, and reply= is {named(told.reply)}")
-    if told.reply and told.reply[3] and told.stated.get("code", told.reply[3]) != told.reply[3]:
-        raise WordsFault(f"code={told.stated['code']}: the program refuses already, with code {told.reply[3]}")
+    for name, data in (("rest", given.rest), ("program", given.program)):
+        if data and given.reply and (RESPONSE_TO[data[0]], data[1:3]) != (given.reply[0], given.reply[1:3]):
+            raise WordsFault(f"{name}=: it is {named(data)}, and reply= is {named(given.reply)}")
+    if given.reply and given.reply[3] and given.stated.get("code", given.reply[3]) != given.reply[3]:
+        raise WordsFault(f"code={given.stated['code']}: the program refuses already, with code {given.reply[3]}")
 
 
 def check_message(name, data, types, fixed):
@@ -244,24 +259,24 @@ def named(data):
     return f"a {NAMES[data[0]]} of transaction {number_of(data[1:3])}"
 
 
-def tlvs_of_reply(told):
+def tlvs_of_reply(given):
     """Returns the TLVs of the reply, without the key and the digest."""
-    if told.code == OKAY:
-        return flows_of_reply(told) + rest_of_reply(told)
-    if told.rest_tlvs(DOWN_FLOW, *ACTION):
-        report(f"dsx: the reply refuses with code {told.code}: nothing of the rest is in it; drop the rest and what was made for it")
-    if told.reply and told.reply[3] == OKAY:
-        undo = bytes([told.reply[0] + 1]) + told.reply[1:3] + bytes([told.code])
+    if given.code == OKAY:
+        return flows_of_reply(given) + rest_of_reply(given)
+    if given.rest_tlvs(DOWN_FLOW, *ACTION):
+        report(f"dsx: the reply refuses with code {given.code}: nothing of the rest is in it; drop the rest and what was made for it")
+    if given.reply and given.reply[3] == OKAY:
+        undo = bytes([given.reply[0] + 1]) + given.reply[1:3] + bytes([given.code])
         report(f"dsx: the program accepted its part: before you send this, take it back by {shown(undo)} in the modem's name")
         return b""
-    return told.reply[4:]
+    return given.reply[4:]
 
 
-def flows_of_reply(told):
+def flows_of_reply(given):
     """Returns the upstream flow of the reply. With the request it has the parameters of each of its encodings."""
-    asked, made = flows_of(told.program[3:]), flows_of(told.reply[4:])
+    asked, made = flows_of(given.program[3:]), flows_of(given.reply[4:])
     if not asked or len(made) != 1:
-        return told.reply[4:]
+        return given.reply[4:]
     return b"".join(encoding(FLOW, {**fields, **made[0]}) for fields in asked)
 
 
@@ -277,24 +292,25 @@ def encoding(kind, fields):
     """Returns an encoding with its subtypes in ascending order."""
     data = b"".join(tlv(subtype, value) for subtype in sorted(fields) for value in fields[subtype])
     if len(data) > 255:
-        raise WordsFault(f"the encoding of type {kind} has {len(data)} bytes with its identifiers, and a TLV holds 255: refuse the request with code=1")
+        raise WordsFault(f"the encoding of type {kind} has {len(data)} bytes with its identifiers, and a TLV holds 255: "
+                         "refuse the request with code=1")
     return tlv(kind, data)
 
 
 # The rest, with its identifiers
 
-def rest_of_reply(told):
+def rest_of_reply(given):
     """Returns the TLVs of the rest that get identifiers."""
-    flows = {UP_CLASSIFIER: references(told.reply), DOWN_CLASSIFIER: downstream(told)}
-    added = [it for it in told.rest_tlvs(*CLASSIFIERS) if told.adds(it)]
-    rules = [it for it in told.rest_tlvs(SUPPRESSION) if told.adds(it)]
-    numbers = iter(identifiers(told, "classifier", added, "classifiers"))
-    indexes = iter(identifiers(told, "phs", rules, "payload header suppression rules"))
+    flows = {UP_CLASSIFIER: references(given.reply), DOWN_CLASSIFIER: downstream(given)}
+    added = [it for it in given.rest_tlvs(*CLASSIFIERS) if given.adds(it)]
+    rules = [it for it in given.rest_tlvs(SUPPRESSION) if given.adds(it)]
+    numbers = iter(identifiers(given, "classifier", added, "classifiers"))
+    indexes = iter(identifiers(given, "phs", rules, "payload header suppression rules"))
     data, classifiers = b"", {}
-    for kind, value in told.rest_tlvs(DOWN_FLOW, *ACTION):
+    for kind, value in given.rest_tlvs(DOWN_FLOW, *ACTION):
         fields = dict_of(value)
         if kind == DOWN_FLOW:
-            data += encoding(kind, {**fields, SFID: [write_number(told.stated["sfid"], 4)]}) if told.request == DSA_REQ else b""
+            data += encoding(kind, {**fields, SFID: [write_number(given.stated["sfid"], 4)]}) if given.request == DSA_REQ else b""
         elif (kind, value) in added:
             fields = {**of_flow(kind, fields, flows[kind]), CLASSIFIER_ID: [write_number(next(numbers), 2)]}
             classifiers.update({reference: fields[CLASSIFIER_ID] for reference in fields.get(CLASSIFIER_REFERENCE, [])})
@@ -308,27 +324,28 @@ def references(reply):
     return {flow[REFERENCE][0]: flow[SFID][0] for flow in flows if REFERENCE in flow and SFID in flow}
 
 
-def downstream(told):
+def downstream(given):
     """Returns the SFID of the downstream flow that a DSA adds, by its reference."""
-    flows = [dict_of(value) for _, value in told.rest_tlvs(DOWN_FLOW)] if told.request == DSA_REQ else []
+    flows = [dict_of(value) for _, value in given.rest_tlvs(DOWN_FLOW)] if given.request == DSA_REQ else []
     found = {reference for flow in flows for reference in flow.get(REFERENCE, [])}
     if len(found) > 1:
         raise WordsFault("the rest has several downstream flows: refuse the request with code=20 (reject-multiple-downstream-service-flows)")
     if flows and not found:
         raise WordsFault("the downstream flow has no reference: refuse the request with code=8 (reject-required-parameter-not-present)")
-    if flows and not told.stated.get("sfid"):
+    if flows and not given.stated.get("sfid"):
         raise WordsFault("the rest has a downstream flow: give it an SFID that no slice of the plant has, as sfid=N")
-    if not flows and "sfid" in told.stated:
-        raise WordsFault(f"sfid={told.stated['sfid']}: the rest adds no downstream flow")
-    return {reference: write_number(told.stated["sfid"], 4) for reference in found}
+    if not flows and "sfid" in given.stated:
+        raise WordsFault(f"sfid={given.stated['sfid']}: the rest adds no downstream flow")
+    return {reference: write_number(given.stated["sfid"], 4) for reference in found}
 
 
-def identifiers(told, word, added, what):
+def identifiers(given, word, added, what):
     """Returns the numbers of a word, one for each TLV that is added."""
-    numbers = told.stated.get(word, [])
+    numbers = given.stated.get(word, [])
     if len(numbers) != len(added) or 0 in numbers:
         example = ",".join(map(str, range(1, len(added) + 1)))
-        raise WordsFault(f"the rest adds {len(added)} {what}" + (f": give each a number that is not 0, such as {word}={example}" if added else f": leave out {word}="))
+        advice = f"give each a number that is not 0, such as {word}={example}" if added else f"leave out {word}="
+        raise WordsFault(f"the rest adds {len(added)} {what}: {advice}")
     return numbers
 
 

@@ -3,6 +3,8 @@
 import os
 import sys
 
+from .words import WordsFault
+
 # What the program takes as an input, and so as a line of it.
 MOST_BYTES = 1_048_576
 IO_STATUS = 6
@@ -61,10 +63,15 @@ def write_and_flush(lines):
         sys.stdout.flush()
 
 
-def write_at_once():
-    """Has each line written when it is there, for a copy of what a service outputs."""
+def copied(lines_of):
+    """Yields the lines that are made of those of standard input. Each is written when it is there. A fault gets the number of its line."""
+    texts = InputLines()
     if sys.stdout is not None:
         sys.stdout.reconfigure(line_buffering=True)
+    try:
+        yield from lines_of(texts)
+    except WordsFault as fault:
+        raise WordsFault(f"line {texts.number}: {fault}") from fault
 
 
 def leave_output():

@@ -31,7 +31,7 @@ def first_fault(data):
         kind, body = read_header(data)
         if kind in (DSA_ACK, DSC_ACK):
             return None
-        if body[0] >= 0x80:
+        if is_of_cmts(body):
             return "check 1: the transaction ID is of the CMTS's own half, code 10"
         if kind != DSD_REQ:
             judge_flows(REQUESTS[kind], read_flows(body[2:]))
@@ -40,6 +40,11 @@ def first_fault(data):
     except Refused as refused:
         return f"check {refused.check}: {code_text(refused.code)}" + naming(kind, refused)
     return None
+
+
+def is_of_cmts(body):
+    """Tests whether a transaction ID belongs to the CMTS (check 1)."""
+    return body[0] >= 0x80
 
 
 def judge_flows(kind, flows):
@@ -64,7 +69,7 @@ def naming(kind, refused):
 
 def marks_of(data, parts):
     """Returns a mark for each part of a request that the program refuses, by the part's place: the check, the code, and what the reply names."""
-    if data[:1] not in (bytes([DSA_REQ]), bytes([DSC_REQ])):
+    if data[:1] not in (bytes([DSA_REQ]), bytes([DSC_REQ])) or is_of_cmts(data[1:]):
         return {}
     found = {place: mark_of(part) for place, part in enumerate(parts) if part.fault in ANSWERS}
     return found or mark_of_set(data, parts)

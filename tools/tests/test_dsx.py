@@ -30,7 +30,7 @@ def dsx(*words, given="", **options):
 
 def in_shell(command):
     """Returns the statuses of a pipeline's commands, its output and its errors. The last line of the errors has the statuses."""
-    text = f'{command}\necho "${{PIPESTATUS[*]}}" >&2'
+    text = f'unset PYTHONUNBUFFERED\n{command}\necho "${{PIPESTATUS[*]}}" >&2'
     done = subprocess.run(["bash", "-c", text], cwd=ROOT, capture_output=True, text=True, timeout=60, check=False, preexec_fn=limit_memory)
     errors = done.stderr.splitlines()
     return errors[-1].split(), done.stdout, errors[:-1]
@@ -136,6 +136,7 @@ MARKED = (
     ("0F0001180D010200010601060F01020F0102", "0F0102", 4, 23, 15), ("0F0001180801020001060106" + "0F", "0F", 4, 1, None),
     ("0F00011807010200010601" + "03", "060103", 13, 23, 6), ("0F000118040102" + "0001", "1804", 13, 8, 6),
     ("0F0001180A010200010601060F0105", "0F0105", 14, 23, 15), ("0F0001180A010200010601060F0104", "180A", 14, 8, 17),
+    ("0F0001180A010200010601060F0104" + "1104000007D0", "180A", 14, 8, 17),
     ("0F00011810010200010601060F0104110400000000", "110400000000", 14, 23, 17),
     ("0F00011817010200010601060F0106130200001404000007D0160101", "13020000", 14, 23, 19),
     ("0F00011817010200010601060F0106130200401404000007D0160180", "160180", 14, 23, 22),
@@ -143,7 +144,7 @@ MARKED = (
 )
 # Requests that have no mark, and the check that decides.
 UNMARKED = {"0F0001" + FLOW: None, "0F0001": 6, "0F000118070102000106010218070102000206010" + "4": 7, "0F0001180401020001180401020001": 8,
-            "0F00011803060106": 9, "0F8000": 1}
+            "0F00011803060106": 9, "0F8000": 1, "0F80001600": 1}
 
 
 class Marks(unittest.TestCase):

@@ -6,17 +6,19 @@ The second implementation replies to what split gives the program. Where tshark 
 import contextlib
 import hmac
 import io
+import random
 import re
 import shutil
 import subprocess
 import tempfile
+import threading
 import unittest
 
 from tools import EXAMPLES, ROOT
 from tools.messages.splitting import lines_of_join, lines_of_split
 from tools.messages.words import WordsFault
 from tools.reference.captures import framed, little
-from tools.reference.encodings import split_tlvs
+from tools.reference.encodings import split_tlvs, tlv
 from tools.reference.program import answer
 
 CALL = EXAMPLES / "telephone_call"
@@ -146,6 +148,18 @@ class Commands(unittest.TestCase):
         self.assertEqual(dsx("split", "0F0"), (2, "", "dsx: 0F0: `0F0` is no hexadecimal of whole bytes\n"))
         self.assertEqual(dsx("join")[0], 2)
 
+    def test_lines_that_come_one_by_one(self):
+        with subprocess.Popen([ROOT / "tools/dsx", "split"], stdin=subprocess.PIPE, stdout=subprocess.PIPE, stderr=subprocess.PIPE, text=True) as splitter:
+            watch = threading.Timer(10, splitter.kill)
+            watch.start()
+            self.addCleanup(watch.cancel)
+            splitter.stdin.write(f"M {MODEM} {REQUEST}\n")
+            splitter.stdin.flush()
+            self.assertEqual(splitter.stdout.readline(), f"program=0F0007{UP}\n")
+            _, errors = splitter.communicate("0F\n\n0F0\n")
+            self.assertEqual(errors.splitlines()[-1], "dsx: line 4: 0F0: `0F0` is no hexadecimal of whole bytes")
+            self.assertEqual(splitter.returncode, 2)
+
     def test_a_full_device(self):
         done = subprocess.run(["bash", "-c", f"yes {REQUEST} | timeout 30 tools/dsx split > /dev/full"], cwd=ROOT, capture_output=True, text=True,
                               timeout=60, check=False)
@@ -179,6 +193,13 @@ class OtherRequests(unittest.TestCase):
         whole = hexed("10000900 1922 01020002 020400001001", DOWN_PARAMETERS)
         self.assertEqual(join(*parts(program, rest), "sfid=4097"), (["modem=" + whole], ""))
         self.assertEqual(join(*parts(program, rest), "code=3")[0], ["modem=10000903"])
+        self.assertIn("refuse it with code=21", split(hexed("0F0009 1904 01020002 170A 010101 03020001 050180"))[1])
+
+    def test_a_request_of_nothing_goes_to_the_program(self):
+        for message, rest in {"0F0009": "-", "0F00091F01042B00": "0F00091F01042B00"}.items():
+            self.assertEqual(split(message), (["0F0009", rest], ""))
+            self.assertEqual(reply_to("0F0009"), "10000908")
+        self.assertEqual(join("program=0F0009", "rest=0F00091F01042B00", "reply=10000908"), (["modem=100009081F0104"], ""))
 
     def test_a_cut_message_goes_to_the_program(self):
         for end in (len(REQUEST) - 2, 8, 10, 40):
@@ -253,6 +274,14 @@ class Refusals(unittest.TestCase):
             with self.assertRaises(WordsFault, msg=rest):
                 join(*parts(program, hexed("0F0007", rest)), "reply=" + REPLY, "sfid=4097", "classifier=1")
 
+    def test_a_key_number_that_is_none(self):
+        """The caller may give one in its place."""
+        for wrong in ("1F020104", "1F00", "1F01041F0104"):
+            words = (*parts("0F0007" + UP, "0F0007" + wrong), "reply=" + REPLY)
+            with self.assertRaisesRegex(WordsFault, "is not one byte: give key=N"):
+                join(*words)
+            self.assertEqual(join(*words, "key=4"), (["modem=10000700" + WHOLE_UP + KEY_NUMBER], ""))
+
     def test_words_that_make_no_reply(self):
         program, rest = parts(*split(REQUEST)[0])
         for words, text in {
@@ -277,6 +306,55 @@ class Refusals(unittest.TestCase):
         self.assertIn("16FF010101", join(*parts(*split(longest)[0]), "reply=" + REPLY, "classifier=1")[0][0])
         longer = hexed("0F0007", UP, "16F6 010101 03020001 2BED") + "AA" * 237
         self.assertRegex(split(longer)[1], "has 256 bytes with its identifiers, .*: refuse the request with code=1")
+
+
+class RandomRequests(unittest.TestCase):
+    """Whatever a modem sends, split gives two parts, and join a reply or what is wrong."""
+
+    IDENTIFIERS_OF = {22: (2, 4), 23: (2, 4), 25: (2,), 26: (2, 4, 8)}
+
+    def encoding(self, rng, kind):
+        """Returns an encoding whose flow is mostly one of the request, with subtypes that may be of a wrong length or cut."""
+        data = b"".join(tlv(subtype, rng.randbytes(rng.choice((1, 2, 4)))) for subtype in rng.choices((5, 6, 7, 9, 43), k=rng.randrange(3)))
+        reference = bytes([0, 1 if kind in (22, 24) else 2])
+        named = {22: tlv(1, b"\1") + tlv(3, reference), 23: tlv(1, b"\2") + tlv(3, reference), 26: tlv(1, b"\1") + tlv(3, b"\0\1"), 27: b"", 31: b"\4", 43: b""}
+        data = named.get(kind, tlv(1, reference)) + (data if kind != 31 else b"")
+        return tlv(kind, data if rng.randrange(12) else data[:rng.randrange(len(data) + 1)])
+
+    def request(self, rng):
+        kinds = [24, *rng.choices((22, 22, 23, 24, 25, 26, 27, 31, 43), k=rng.randrange(6))]
+        data = bytes([rng.choice((15, 15, 18)), 0, 7]) + b"".join(self.encoding(rng, kind) for kind in kinds)
+        return data if rng.randrange(12) else data[:rng.randrange(len(data) + 1)]
+
+    def fields(self, kind, value):
+        return sorted(it for it in split_tlvs(value)[0] if it[0] not in self.IDENTIFIERS_OF[kind])
+
+    def replied(self, program, rest):
+        """Returns the reply to a request that the program accepts, or None if join names what is wrong."""
+        kinds = [kind for kind, _ in tlvs(rest, 3)[0]] if rest != "-" else []
+        words = [f"{word}={','.join('9' * count)}" for word, count in
+                 (("classifier", kinds.count(22) + kinds.count(23)), ("phs", kinds.count(26)), ("sfid", min(1, kinds.count(25)))) if count]
+        try:
+            return join(*parts(program, rest), "reply=" + REPLY, "hmac=" + "AA" * 20, *words)[0][0].removeprefix("modem=")
+        except WordsFault:
+            return None
+
+    def test_there_and_back(self):
+        rng, whole = random.Random(7), 0
+        for _ in range(3000):
+            message = self.request(rng)
+            (program, rest), _ = split(message.hex().upper())
+            if rest == "-":
+                self.assertEqual(program, message.hex().upper() or "-")
+                continue
+            reply = self.replied(program, rest)
+            if reply is not None and message[0] == 15:
+                asked = [(kind, self.fields(kind, value)) for kind, value in tlvs(rest, 3)[0] if kind in self.IDENTIFIERS_OF]
+                made = [(kind, self.fields(kind, value)) for kind, value in tlvs(reply, 4)[0] if kind in self.IDENTIFIERS_OF]
+                self.assertEqual(sorted(made), sorted(asked), message.hex())
+                self.assertEqual(tlvs(reply, 4)[0][-1][0], 27)
+                whole += 1
+        self.assertGreater(whole, 500)
 
 
 class Suppression(unittest.TestCase):
