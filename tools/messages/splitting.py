@@ -39,9 +39,9 @@ The caller chooses all identifiers. A reply with code 0 has the upstream flow, t
 request had it and with the identifiers. In a DSC, these are the classifiers and rules that are added. Vendor-specific and unknown types are
 not in the reply.
 
-If the reply refuses, its error encodings stay and nothing of the rest is in it: drop the rest, and what was made for it. If code= refuses
-what the program accepted, standard error has the acknowledgement that takes the program's part back. Write it in the modem's name before
-the reply is sent.
+If the reply refuses, its error encodings stay and nothing of the rest is in it: drop the rest, and what was made for it. A refusal by code=
+has no error encodings. If code= refuses what the program accepted, standard error has the acknowledgement that takes the program's part
+back. Write it in the modem's name before the reply is sent.
 
 A digest is never made up. If the request has one and hmac= is missing, the word is unsigned=HEX and not modem=HEX. The digest is computed
 over all bytes of it after the first, which is the type. Give it as hmac=, or append 1B14 and its 20 bytes.

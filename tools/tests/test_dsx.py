@@ -95,11 +95,10 @@ class Streams(unittest.TestCase):
         self.assertEqual(in_shell("tools/dsx lines <&-"), (["6"], "", ["dsx: standard input is closed: give it a file or a pipe"]))
 
     def test_inputs_without_an_end(self):
-        long_line = "timeout 30 tr '\\0' x < /dev/zero | timeout 30 tools/dsx "
         for command in ("lines", "script"):
-            statuses, _, errors = in_shell(long_line + command)
+            statuses, _, errors = in_shell(f"timeout 20 tr '\\0' x < /dev/zero | timeout 20 tools/dsx {command} > /dev/null")
             self.assertEqual((statuses[1], errors), ("6", ["dsx: line 1 has more than 1048576 characters, which no input of the program has"]))
-        statuses, output, errors = in_shell("timeout 30 yes '# of a plant file or of a script' | timeout 30 tools/dsx script")
+        statuses, output, errors = in_shell("timeout 20 yes '# of a plant file or of a script' | timeout 20 tools/dsx script")
         self.assertEqual((statuses[1], output, errors), ("6", "", ["dsx: the first 1048576 characters of the input are comments"]))
 
     def test_a_line_is_copied_when_it_comes(self):
