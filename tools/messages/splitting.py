@@ -312,7 +312,7 @@ def rest_of_reply(given):
         if kind == DOWN_FLOW:
             data += encoding(kind, {**fields, SFID: [write_number(given.stated["sfid"], 4)]}) if given.request == DSA_REQ else b""
         elif (kind, value) in added:
-            fields = {**of_flow(kind, fields, flows[kind]), CLASSIFIER_ID: [write_number(next(numbers), 2)]}
+            fields = {**of_flow(given, kind, fields, flows[kind]), CLASSIFIER_ID: [write_number(next(numbers), 2)]}
             classifiers.update({reference: fields[CLASSIFIER_ID] for reference in fields.get(CLASSIFIER_REFERENCE, [])})
             data += encoding(kind, fields)
     return data + b"".join(rule(dict_of(value), next(indexes), classifiers, {**flows[UP_CLASSIFIER], **flows[DOWN_CLASSIFIER]}) for _, value in rules)
@@ -333,7 +333,7 @@ def downstream(given):
     if flows and not found:
         raise WordsFault("the downstream flow has no reference: refuse the request with code=8 (reject-required-parameter-not-present)")
     if flows and not given.stated.get("sfid"):
-        raise WordsFault("the rest has a downstream flow: give it an SFID that no slice of the plant has, as sfid=N")
+        raise WordsFault("the rest has a downstream flow: give it an SFID that is in no operator's sfids, as sfid=N")
     if not flows and "sfid" in given.stated:
         raise WordsFault(f"sfid={given.stated['sfid']}: the rest adds no downstream flow")
     return {reference: write_number(given.stated["sfid"], 4) for reference in found}
@@ -349,10 +349,10 @@ def identifiers(given, word, added, what):
     return numbers
 
 
-def of_flow(kind, fields, flows):
-    """Returns the fields of a classifier with the SFID of its flow."""
+def of_flow(given, kind, fields, flows):
+    """Returns the fields of a classifier with the SFID of its flow. A DSC-REQ has that already."""
     named_flows = fields.get(FLOW_REFERENCE, [])
-    if FLOW_SFID in fields and not named_flows:
+    if given.request == DSC_REQ and FLOW_SFID in fields and not named_flows:
         return fields
     if len(named_flows) != 1 or named_flows[0] not in flows:
         direction = "upstream" if kind == UP_CLASSIFIER else "downstream"

@@ -267,6 +267,7 @@ class Refusals(unittest.TestCase):
     def test_what_split_notices(self):
         """A rest that no reply can have is noticed before the program gets its part."""
         for rest, code in {"160A 010101 03020009 050180": 21, "170A 010101 03020001 050180": 21, "1600": 21,
+                           "1609 010101 040400000101": 21,
                            "1904 01020002 1904 01020003": 20, "1903 060106": 8, "1A07 03020001 080105": 22, "16020103": 1}.items():
             (program, _), notes = split(hexed("0F0007", UP, rest))
             self.assertEqual(program, "0F0007" + UP)
