@@ -9,22 +9,25 @@ from tools.messages.words import CODES
 from tools.reference.messages import RESPONSE
 
 from .axis import slice_changes, time_of
+from .kinds import REQUESTED, UNSOLICITED, kinds_in
 from .run_output import frame_of, part_of
 from .styles import MARKS, PATTERNS, TILE, Style, styles, swatch
 
 TEMPLATE = pathlib.Path(__file__).with_name("page.html")
 DIGITS = "0123456789abcdefghijklmnopqrstuvwxyz"
-# At most so many points of a course, rows of the table of modems, and buttons of slice changes.
-POINTS, MODEMS, CHANGES = 240, 200, 24
+# At most so many points of a course, rows of the table of modems, buttons of frames, and faults.
+POINTS, MODEMS, CHANGES, FAULTS = 240, 200, 24, 24
+# What the page's script calls the kinds that the IUC of a span does not show.
+LETTERS = {UNSOLICITED: "u", REQUESTED: "r"}
 
 
 def page(title, run, sums, budgets, highlighted=None):
     """Returns the page. The operator `highlighted` is highlighted at first."""
     of_names = styles(len(run.names))
-    fault = f'<p class="fault">The run ended with {html.escape(run.fault)}.</p>' if run.fault else ""
     parts = {
-        "title": html.escape(title), "summary": html.escape(summary(run)), "fault": fault, "changes": changes_list(run),
-        "choices": choices(run.names), "legend": legend(run.names, of_names), "keys": keys(of_names), "time": time_note(budgets),
+        "title": html.escape(title), "summary": html.escape(summary(run)), "fault": fault_note(run), "changes": changes_list(run),
+        "service": service_note(run), "kinds": kinds_note(sums), "choices": choices(run.names), "legend": legend(run.names, of_names),
+        "keys": keys(of_names, unknown_grants(sums)), "time": time_note(budgets),
         "operators": operators_table(run, sums, budgets, of_names), "replies": replies_table(sums), "causes": causes_table(sums, budgets),
         "data": data_of(run, budgets, of_names, highlighted)}
     return re.sub(r"\{\{(\w+)\}\}", lambda found: parts[found[1]], TEMPLATE.read_text())
@@ -43,14 +46,55 @@ def time_note(budgets):
     return f"<p>A frame has {budgets.plant.frame_us:,} microseconds. Its time is its number times that.</p>"
 
 
+def fault_note(run):
+    """Returns what ended a run, or which lines a service refused."""
+    if not run.faults:
+        return ""
+    if not run.is_of_service:
+        return f'<p class="fault">The run ended with fault: {html.escape(run.faults[0])}.</p>'
+    named = ", ".join(map(html.escape, run.faults[:FAULTS])) + more(len(run.faults), FAULTS)
+    return f'<p class="fault">{counted(len(run.faults), "fault")}: {named}.</p>'
+
+
+def service_note(run):
+    """Returns what a service printed besides the lines of a run."""
+    notes = [f"A service began at line {line:,}" + ("" if frame is None else f", before frame {buttons([frame])}") for line, frame in run.starts]
+    if run.changes:
+        notes.append(f"The plant changed before frame {buttons(run.changes)}")
+    if run.renumberings:
+        notes.append(f"The next frame got the number {buttons(run.renumberings)}")
+    if run.snapshots:
+        notes.append(f"{counted(run.snapshots, 'snapshot')} left out")
+    if run.replaced:
+        notes.append(f"{counted(run.replaced, 'frame')} left out, whose number came again for the same operator")
+    return "".join(f"<p>{note}.</p>" for note in notes[:CHANGES]) + (f"<p>{len(notes) - CHANGES:,} more.</p>" if len(notes) > CHANGES else "")
+
+
+def unknown_grants(sums):
+    return sum(of.unknown_grants for of in sums.operators)
+
+
+def kinds_note(sums):
+    unknown = unknown_grants(sums)
+    if not unknown:
+        return ""
+    return (f"<p>The kind of {counted(unknown, 'grant')} is not known, unsolicited or on request. Neither the output shows it nor a script "
+            "that --plant gives.</p>")
+
+
 def changes_list(run):
     """Returns buttons that lead to the frames at which slices change, or nothing."""
     changes = slice_changes(run)
-    if not changes:
-        return ""
-    buttons = " ".join(f'<button type="button" class="to" data-frame="{number}">{number}</button>' for number in changes[:CHANGES])
-    more = f" and {len(changes) - CHANGES:,} more" if len(changes) > CHANGES else ""
-    return f"<p>Slices change at frame {buttons}{more}.</p>"
+    return f"<p>Slices change at frame {buttons(changes)}.</p>" if changes else ""
+
+
+def buttons(numbers):
+    """Returns buttons that lead to frames."""
+    return " ".join(f'<button type="button" class="to" data-frame="{number}">{number}</button>' for number in numbers[:CHANGES]) + more(len(numbers), CHANGES)
+
+
+def more(count, shown):
+    return f" and {count - shown:,} more" if count > shown else ""
 
 
 def choices(names):
@@ -63,14 +107,18 @@ def legend(names, of_names):
                      for name, style in zip(names, of_names))
 
 
-def keys(of_names):
-    """Returns what the drawings mean, in the style of the first operator."""
+def keys(of_names, unknown):
+    """Returns what the drawings mean, in the style of the first operator. Of some grants the kind may be unknown."""
     style = of_names[0] if of_names else Style("#888888", "plain")
     stripes = f"repeating-linear-gradient(135deg, {style.colour} 0 4px, {style.ink} 4px 5px)"
-    kinds = ((f"background: {style.colour}", "grant, with its SID"), (f"background: {stripes}", "poll"),
-             (f"background: {style.colour}; opacity: .2", "idle"), ("border-bottom: 4px solid var(--wait); border-radius: 0", "a grant is pending"),
+    corner = f"linear-gradient(135deg, {style.ink} 0 7px, {style.colour} 7px)"
+    kinds = ((f"background: {style.colour}", "grant, with its SID" if unknown else "grant that answers a request, with its SID"),
+             (f"background: {corner}; border-radius: 0", "unsolicited grant (marked corner)"),
+             (f"background: {stripes}", "poll (diagonal stripes)"),
+             (f"background: {style.colour}; opacity: .2", "idle (pale)"),
+             ("border-bottom: 4px solid var(--wait); border-radius: 0", "a grant is pending (line below)"),
              ("background: var(--head)", "head: every modem may send a request"),
-             ("height: 0; border-top: 2px dashed var(--ink); border-radius: 0", "slices change"))
+             ("height: 0; border-top: 2px dashed var(--ink); border-radius: 0", "slices change (dashed line)"))
     return "\n".join(f'<span class="key"><i style="{how}"></i>{what}</span>' for how, what in kinds)
 
 
@@ -83,7 +131,7 @@ def counted(number, one, many=None):
 def data_of(run, budgets, of_names, highlighted):
     places, rows = {}, []
     for number in run.numbers():
-        indices = [index_of(places, run.frames[name].get(number)) for name in run.names]
+        indices = [index_of(places, run, budgets, name, number) for name in run.names]
         time = time_of(number, budgets.plant.frame_us) if budgets.plant else "-"
         rows.append(f"{number} {time} " + " ".join(indices))
     operators = [{"name": name, "colour": style.colour, "ink": style.ink, "pattern": style.pattern, "least": least_slice(run.frames[name])}
@@ -100,16 +148,16 @@ def least_slice(frames):
     return min(part_of(elements).length for elements in set(frames.values()))
 
 
-def index_of(places, elements):
+def index_of(places, run, budgets, name, number):
     """Returns the place of a part among all that differ, to base 36."""
-    if elements is None:
+    if number not in run.frames[name]:
         return "-"
-    return base_36(places.setdefault(packed(elements), len(places)))
+    return base_36(places.setdefault(packed(run.frames[name][number], kinds_in(run, budgets, name, number)), len(places)))
 
 
-def packed(elements):
+def packed(elements, kinds):
     part = part_of(elements)
-    spans = ",".join(f"{sid}.{code}.{length}" for sid, code, _, length in part.spans)
+    spans = ",".join(f"{sid}.{code}.{length}" + (f".{LETTERS[kind]}" if kind in LETTERS else "") for (sid, code, _, length), kind in zip(part.spans, kinds))
     return f"{part.start};{spans};{','.join(map(str, part.pending))}"
 
 
@@ -124,12 +172,16 @@ def base_36(number):
 # The tables
 
 def table(heads, rows):
-    """Returns a table with texts on the left of their cells and numbers on the right."""
-    lines = ["<tr>" + "".join(f"<th{' class=text' if is_text else ''}>{name}</th>" for name, is_text in heads) + "</tr>"]
+    """Returns a table with texts on the left of their cells and numbers on the right. No word of a head is broken, not even at a hyphen."""
+    lines = ["<tr>" + "".join(f"<th{' class=text' if is_text else ''}><div>{words(name)}</div></th>" for name, is_text in heads) + "</tr>"]
     for row in rows:
         cells = (f"<td{' class=text' if is_text else ''}>{cell}</td>" for cell, (_, is_text) in zip(row, heads))
         lines.append("<tr>" + "".join(cells) + "</tr>")
     return "<table>\n" + "\n".join(lines) + "\n</table>"
+
+
+def words(name):
+    return " ".join(f"<span>{word}</span>" for word in name.split(" "))
 
 
 def percent(part, whole):
@@ -137,9 +189,11 @@ def percent(part, whole):
 
 
 def operators_table(run, sums, budgets, of_names):
+    if not run.names:
+        return "<p>No frame.</p>"
     heads = [("operator", True), ("slice", True), ("budget", False), ("committed", False), ("of the budget", False), ("given", False),
-             ("of the slice", False), ("use by frame", True), ("polls", False), ("short grants", False), ("long grants", False),
-             ("frames with pending", False)]
+             ("of the slice", False), ("use by frame", True), ("polls", False), ("unsolicited grants", False), ("short grants", False),
+             ("long grants", False), ("frames with pending", False)]
     rows = []
     for of, style in zip(sums.operators, of_names):
         last = max(of.filled)
@@ -148,11 +202,18 @@ def operators_table(run, sums, budgets, of_names):
         known = share is not None and share.committed is not None
         rows.append([f"{swatch(style)} {html.escape(of.name)}", f"{part.start} to {part.start + part.length - 1}",
                      share.budget if share else "–", share.committed if known else "–", percent(share.committed, share.budget) if known else "–",
-                     f"{of.given:,}", percent(of.given, of.of_slice), course(of, budgets, style.colour), f"{of.polls:,}", f"{of.short_grants:,}",
-                     f"{of.long_grants:,}", f"{of.pending_frames:,}"])
+                     f"{of.given:,}", percent(of.given, of.of_slice), course(of, budgets, style.colour), f"{of.polls:,}", unsolicited(of),
+                     f"{of.short_grants:,}", f"{of.long_grants:,}", f"{of.pending_frames:,}"])
     note = "Slice, budget and committed are those of the last frame. Given are the minislots of grants and polls in all frames. " \
+           "Unsolicited grants are among the short and the long ones. " \
            "In the drawing, the area is how much of the slice was given" + (", and the line how much of the budget was committed." if budgets.plant else ".")
     return f"<p>{note}</p>" + table(heads, rows)
+
+
+def unsolicited(of):
+    """Returns how many grants are unsolicited: a number, or the least and the greatest that it may be."""
+    least, most = of.unsolicited_grants, of.unsolicited_grants + of.unknown_grants
+    return f"{least:,}" if least == most else f"{least:,} to {most:,}"
 
 
 def course(of, budgets, colour):

@@ -4,12 +4,13 @@ import html
 from dataclasses import dataclass
 
 from .axis import slice_changes, slice_of, spread, time_of
+from .kinds import UNSOLICITED, kinds_in
 from .run_output import NoOutput, frame_of, part_of
 from .styles import MARKS, PATTERNS, TILE, styles
 
 # The width of a frame: of the only output, and of one of several.
 ONE_FRAME, FRAME = 920, 440
-GAP, MARGIN, TITLE, ROW, MOST_ROWS, KEY_LINE = 28, 8, 30, 22, 40, 20
+GAP, MARGIN, TITLE, ROW, MOST_ROWS, KEY_LINE, CORNER = 28, 8, 30, 22, 40, 20, 6
 LETTER, BOLD_LETTER, LINE, LEADER, STRIP = 6.8, 7.6, 13, 12, 7
 STYLE = """text { font: 11px "DejaVu Sans", Verdana, sans-serif; fill: #59636e; } .ground { fill: #ffffff; }
 .title { font-size: 14px; font-weight: bold; fill: #1b1f24; } .name { font-weight: bold; fill: #1b1f24; }
@@ -62,7 +63,7 @@ def picture(outputs, budgets, highlighted=None):
               for place, ((title, run), unit) in enumerate(zip(outputs, units))]
     rows = sheet.top + ROW * max(len(shown_numbers(run)) for _, run in outputs)
     wide = len(outputs) * (sheet.panel + GAP) - GAP + MARGIN
-    lines = key(sheet, any(slice_changes(run) for _, run in outputs), wide - sheet.left)
+    lines = key(sheet, any(slice_changes(run) for _, run in outputs), any(has_unsolicited(run, budgets) for _, run in outputs), wide - sheet.left)
     tall = rows + 10 + KEY_LINE * len(lines)
     return (f'<svg xmlns="http://www.w3.org/2000/svg" viewBox="0 0 {wide:.0f} {tall:.0f}" width="{wide:.0f}" height="{tall:.0f}" role="img">\n'
             f"<title>{html.escape(', '.join(title for title, _ in outputs))}</title>\n<style>{STYLE}</style>\n<defs>{definitions(sheet)}</defs>\n" + '<rect width="100%" height="100%" rx="6" class="ground"/>\n'
@@ -71,6 +72,11 @@ def picture(outputs, budgets, highlighted=None):
 
 def shown_numbers(run):
     return run.numbers()[:MOST_ROWS]
+
+
+def has_unsolicited(run, budgets):
+    """Tests whether a frame that is shown has an unsolicited grant."""
+    return any(UNSOLICITED in kinds_in(run, budgets, name, number) for number in shown_numbers(run) for name in run.names if number in run.frames[name])
 
 
 def definitions(sheet):
@@ -155,8 +161,8 @@ def panel(sheet, title, run, budgets, unit):
         lines.append(rect(sheet.left, y, head * unit, ROW - 3, 'class="head"'))
         for name in run.names:
             if number in run.frames[name]:
-                part = part_of(run.frames[name][number])
-                lines += sheet.group(name, drawn(part, sheet.styles[name], sheet.left, unit, y, sheet.highlighted in (None, name)))
+                part, kinds = part_of(run.frames[name][number]), kinds_in(run, budgets, name, number)
+                lines += sheet.group(name, drawn(part, kinds, sheet.styles[name], (sheet.left, y), unit, sheet.highlighted in (None, name)))
     lines += [change_mark(MARGIN, sheet.panel, sheet.top + place * ROW - 1.5) for place, number in enumerate(numbers) if number in changes]
     return "\n".join(line for line in lines if line)
 
@@ -165,10 +171,10 @@ def change_mark(left, right, y):
     return f'<path d="M{left:.1f} {y:.1f} H{right:.1f}" class="change"/>'
 
 
-def drawn(part, style, left, unit, y, has_labels):
+def drawn(part, kinds, style, corner, unit, has_labels):
     """Returns the spans of a part, and a line below them if a grant is pending."""
-    lines = []
-    for sid, code, start, length in part.spans:
+    lines, (left, y) = [], corner
+    for (sid, code, start, length), kind in zip(part.spans, kinds):
         x, wide = left + start * unit, length * unit - 1
         if not sid:
             lines.append(rect(x, y, wide, ROW - 3, f'fill="{style.colour}" class="idle"'))
@@ -178,6 +184,8 @@ def drawn(part, style, left, unit, y, has_labels):
             lines.append(rect(x, y, wide, ROW - 3, f'fill="url(#poll-{INKS[style.ink]})"'))
         elif has_labels and LETTER * len(str(sid)) + 2 <= wide:
             lines += label(sid, style, x + wide / 2, y)
+        if kind == UNSOLICITED:
+            lines += marked_corner(style, x, y, wide)
     if part.pending:
         lines.append(rect(left + part.start * unit, y + ROW - 5, part.length * unit - 1, 3, 'class="waits"'))
     return lines
@@ -191,6 +199,12 @@ def styled(style, x, y, wide, tall):
     return lines
 
 
+def marked_corner(style, x, y, wide):
+    """Returns the mark of an unsolicited grant: its upper left corner, on its colour alone."""
+    return [f'<path d="M{x:.1f} {y:g} h{min(side, wide):.1f} L{x:.1f} {y + side:g} z" fill="{colour}"{kind}/>'
+            for side, colour, kind in ((CORNER + 2, style.colour, ""), (CORNER, style.ink, ' class="unsolicited"')) if wide > 0]
+
+
 def label(sid, style, centre, y):
     """Returns a SID, on its colour alone."""
     half = LETTER * len(str(sid)) / 2 + 1
@@ -198,13 +212,15 @@ def label(sid, style, centre, y):
     return box + [f'<text x="{centre:.1f}" y="{y + 13}" class="on" style="fill: {style.ink}">{sid}</text>']
 
 
-def key(sheet, has_changes, room):
+def key(sheet, has_changes, has_unsolicited_grants, room):
     """Returns lines of drawings with what they mean, each line as wide as there is room: pairs of a place and a text."""
     style = next(iter(sheet.styles.values()))
     fill = f'fill="{style.colour}"'
     poll = rect(0, 0, 24, 12, fill) + rect(0, 0, 24, 12, f'fill="url(#poll-{INKS[style.ink]})"')
     kinds = [(rect(0, 0, 24, 12, fill), "grant, with its SID"), (poll, "poll"), (rect(0, 0, 24, 12, fill + ' class="idle"'), "idle"),
              (rect(0, 9, 24, 3, 'class="waits"'), "a grant is pending"), (rect(0, 0, 24, 12, 'class="head"'), "head: every modem may request")]
+    if has_unsolicited_grants:
+        kinds.insert(1, (rect(0, 0, 24, 12, fill) + "".join(marked_corner(style, 0, 0, 24)), "unsolicited grant"))
     if has_changes:
         kinds.append((change_mark(0, 24, 6), "slices change"))
     lines, x = [[]], 0
