@@ -1,7 +1,8 @@
 """Makes random flow encodings: parameters that suit a channel, and the ways in which an encoding can be invalid."""
 
+from tools.reference.encodings import WIDTH
+
 from . import message_bytes
-from .message_bytes import WIDTH
 
 MOST = {subtype: 256 ** width - 1 for subtype, width in WIDTH.items()}
 KNOWN = tuple(WIDTH) + (4, 5)

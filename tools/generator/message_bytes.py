@@ -1,10 +1,7 @@
 """Writes the bytes of messages and flow encodings from numbers. Each part may be as wrong as a test wants it."""
 
-from tools.reference.encodings import ERRORS, LENGTHS, tlv
+from tools.reference.encodings import WIDTH, tlv
 from tools.reference.messages import DSA_ACK, DSA_REQ, DSC_ACK, DSC_REQ, DSD_REQ, FLOW, write_number
-
-# Bytes of the subtypes whose value is a number.
-WIDTH = {subtype: least for subtype, (least, greatest) in LENGTHS.items() if least == greatest and subtype != ERRORS}
 
 
 def spelled(fields):

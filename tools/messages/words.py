@@ -4,9 +4,8 @@ import difflib
 import re
 from dataclasses import dataclass
 
-from tools.reference.encodings import CLASS_NAME, ERRORS, LENGTHS, SCHEDULING, in_range, number_of, split_tlvs, tlv
+from tools.reference.encodings import CLASS_NAME, ERRORS, LENGTHS, SCHEDULING, WIDTH, in_range, number_of, split_tlvs, tlv
 from tools.reference.messages import DSA_ACK, DSA_REQ, DSC_ACK, DSC_REQ, DSD_REQ, FLOW, LEFT_OUT, RESPONSE, write_number
-from tools.generator.message_bytes import WIDTH
 
 
 class WordsFault(Exception):

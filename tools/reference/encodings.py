@@ -11,6 +11,8 @@ LENGTHS = {
 REFERENCE, SFID, SID, CLASS_NAME, ERRORS, SET_TYPE, PRIORITY = 1, 2, 3, 4, 5, 6, 7
 SUSTAINED, BURST, RESERVED, SCHEDULING, POLICY = 8, 9, 10, 15, 16
 POLLING_INTERVAL, POLL_JITTER, GRANT_SIZE, GRANT_INTERVAL, GRANT_JITTER, GRANTS = 17, 18, 19, 20, 21, 22
+# Bytes of the subtypes whose value is a number.
+WIDTH = {subtype: least for subtype, (least, greatest) in LENGTHS.items() if least == greatest and subtype != ERRORS}
 
 
 class FlowFault(MetFault):
