@@ -1,4 +1,4 @@
-"""Builds the manual pages docs/man/plant_script.1, plant_script-serve.1, plant.toml.5 and describe_state.1.
+"""Builds the manual pages docs/man: plant_script.1, plant_script-serve.1, plant.toml.5, describe_state.1, plant_view.1 and dsx.1.
 
     tools/man_pages              builds the pages; it needs pandoc
     tools/man_pages --check      tests whether the pages are those of the sources, and exits with 1 if one is not

@@ -8,7 +8,7 @@ from .faults import NoPage
 from .help_texts import read_help
 
 TEMPLATES = pathlib.Path(__file__).with_name("pages")
-NAMES = ("plant_script.1", "plant_script-serve.1", "plant.toml.5", "describe_state.1")
+NAMES = ("plant_script.1", "plant_script-serve.1", "plant.toml.5", "describe_state.1", "plant_view.1", "dsx.1")
 VERSION = re.compile(r"^## (\S+) \(.*(\d{4}-\d\d-\d\d)\)$", re.MULTILINE)
 
 

@@ -26,8 +26,10 @@ from tools.prose.markdown import COMMANDS
 
 SECTIONS = ["NAME", "SYNOPSIS", "DESCRIPTION", "COMMANDS", "OPTIONS", "EXIT STATUS", "INPUT", "OUTPUT", "EXAMPLES", "FILES", "SEE ALSO"]
 # The page of a file has no sections of a command.
-SECTIONS_OF_TOOL = [name for name in SECTIONS if name not in ("COMMANDS", "INPUT")]
-SECTIONS_OF_FILE = ["NAME", "SYNOPSIS", "DESCRIPTION", "EXAMPLES", "FILES", "SEE ALSO"]
+SECTIONS_OF = {"describe_state.1": [name for name in SECTIONS if name not in ("COMMANDS", "INPUT")],
+               "plant_view.1": [name for name in SECTIONS if name not in ("COMMANDS", "INPUT", "FILES")],
+               "dsx.1": ["NAME", "SYNOPSIS", "DESCRIPTION", "COMMANDS", "EXIT STATUS", "WORDS", "EXAMPLES", "SEE ALSO"],
+               "plant.toml.5": ["NAME", "SYNOPSIS", "DESCRIPTION", "EXAMPLES", "FILES", "SEE ALSO"]}
 # Characters that pandoc spells.
 SPELLED = {"aq": "'", "dq": '"', "ga": "`", "ha": "^", "rs": "\\", "ti": "~", "at": "@"}
 SOURCES = (SOURCE, TEXTS, PROGRAM_SOURCE, "README.md", "CHANGELOG.md", "docs/FORMATS.md", "docs/OPERATING.md", "examples/plant_p2.toml", "docs/man")
@@ -69,8 +71,7 @@ class Pages(unittest.TestCase):
 
     def test_sections(self):
         for name in NAMES:
-            wanted = SECTIONS_OF_FILE if name.endswith(".5") else SECTIONS_OF_TOOL if name == "describe_state.1" else SECTIONS
-            self.assertEqual(re.findall("^.SH (.*)$", (ROOT / "docs/man" / name).read_text(), re.MULTILINE), wanted)
+            self.assertEqual(re.findall("^.SH (.*)$", (ROOT / "docs/man" / name).read_text(), re.MULTILINE), SECTIONS_OF.get(name, SECTIONS))
 
     def part_of_page(self, name, part):
         """Returns a section of a page as text: with neither fonts nor escapes."""
@@ -95,6 +96,22 @@ class Pages(unittest.TestCase):
         self.assertEqual(self.terms("plant_script.1", "EXIT STATUS"), ["0", "2", "3", "4", "5", "6", "7", "125", "126", "127"])
         self.assertEqual(self.terms("plant_script-serve.1", "EXIT STATUS"), ["0", "3", "5", "6"])
         self.assertEqual(self.terms("describe_state.1", "EXIT STATUS"), ["0", "1", "2", "3", "6"])
+        self.assertEqual(self.terms("plant_view.1", "EXIT STATUS"), ["0", "1", "2"])
+        self.assertEqual(self.terms("dsx.1", "EXIT STATUS"), ["0", "2"])
+
+    def test_options_of_plant_view(self):
+        """The page has the options that the command lists, and no other."""
+        listed = subprocess.run([ROOT / "tools/plant_view", "--help"], capture_output=True, text=True, check=True).stdout
+        options = set(re.findall(r"--[a-z]+", listed.partition("\noptions:\n")[2]))
+        terms = set(re.findall(r"--[a-z]+", " ".join(self.terms("plant_view.1", "OPTIONS"))))
+        self.assertEqual((terms, "--plant" in terms), (options, True))
+
+    def test_commands_of_dsx(self):
+        """The page has the commands that `dsx --help` lists, and no other."""
+        listed = subprocess.run([ROOT / "tools/dsx", "--help"], capture_output=True, text=True, check=True).stdout
+        commands = re.findall(r"^    (?:tools/)?dsx (\w+)", listed.partition("\nKIND is")[0], re.MULTILINE)
+        terms = [term.split(" ")[0] for term in self.terms("dsx.1", "COMMANDS") if not term.startswith("-")]
+        self.assertEqual((set(terms), "KIND" in terms), (set(commands), True))
 
     def test_keys(self):
         page = (ROOT / "docs/man/plant.toml.5").read_text()
@@ -120,16 +137,16 @@ class Check(unittest.TestCase):
 
     def test_sources(self):
         older = "is older than its sources"
-        self.assertEqual(self.changed("docs/FORMATS.md", "| `resends` | 0 to 255 | 3 |", "| `resends` | 0 to 255 | 4 |"), [None, None, older, None])
-        self.assertEqual(self.changed("docs/FORMATS.md", "| `T` | for each operator", "| `T` | for every operator"), [older, older, None, None])
-        self.assertEqual(self.changed("CHANGELOG.md", "\n## ", "\n## 9.9 (2026-11-22 to 2026-11-22)\n\n## "), [older] * 4)
-        self.assertEqual(self.changed("docs/OPERATING.md", "## State in words\n", "## State in words\n\nText.\n"), [None, None, None, older])
+        self.assertEqual(self.changed("docs/FORMATS.md", "| `resends` | 0 to 255 | 3 |", "| `resends` | 0 to 255 | 4 |"), [None, None, older, None, None, None])
+        self.assertEqual(self.changed("docs/FORMATS.md", "| `T` | for each operator", "| `T` | for every operator"), [older, older, None, None, None, None])
+        self.assertEqual(self.changed("CHANGELOG.md", "\n## ", "\n## 9.9 (2026-11-22 to 2026-11-22)\n\n## "), [older] * 6)
+        self.assertEqual(self.changed("docs/OPERATING.md", "## State in words\n", "## State in words\n\nText.\n"), [None, None, None, older, None, None])
         summary = read_help(ROOT)[1]["trace"].summary
-        self.assertEqual(self.changed(SOURCE, f'"{summary}"', '"Trace"'), [older, None, None, None])
+        self.assertEqual(self.changed(SOURCE, f'"{summary}"', '"Trace"'), [older, None, None, None, None, None])
 
     def test_pages(self):
-        self.assertEqual(self.changed("docs/man/plant.toml.5", "is TOML", "is JSON"), [None, None, "was changed by hand", None])
-        self.assertEqual(self.changed("docs/man/plant.toml.5", "Built by", "Made by"), [None, None, "has no head of tools/man_pages", None])
+        self.assertEqual(self.changed("docs/man/plant.toml.5", "is TOML", "is JSON"), [None, None, "was changed by hand", None, None, None])
+        self.assertEqual(self.changed("docs/man/plant.toml.5", "Built by", "Made by"), [None, None, "has no head of tools/man_pages", None, None, None])
         with tempfile.TemporaryDirectory() as folder:
             root = copied(folder)
             (root / "docs/man/plant_script.1").unlink()
