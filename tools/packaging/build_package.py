@@ -36,6 +36,7 @@ FILES = {"packaging/debian": "debian", "packaging/systemd": "systemd", "packagin
          "packaging/serve_channel": "serve_channel", "packaging/tick_channel": "tick_channel", "packaging/pass_reasons": "pass_reasons",
          "tools/reference": "tools/reference", "tools/watching": "tools/watching", "tools/__init__.py": "tools/__init__.py",
          "tools/describe_state": "tools/describe_state", "tools/watch_channel": "tools/watch_channel",
+         "tools/viewing": "tools/viewing", "tools/messages": "tools/messages", "tools/plant_view": "tools/plant_view", "tools/dsx": "tools/dsx",
          "docs": "docs", "examples": "examples", "README.md": "README.md", "CHANGELOG.md": "CHANGELOG.md"}
 COMMANDS = {"git": "git", "dpkg-buildpackage": "dpkg-dev", "dh": "debhelper"}
 
@@ -135,7 +136,7 @@ def proof_log(root, asked, program):
 def copy_files(root, program, folder):
     for source, target in FILES.items():
         if (root / source).is_dir():
-            shutil.copytree(root / source, folder / target, ignore=shutil.ignore_patterns("__pycache__"))
+            shutil.copytree(root / source, folder / target, ignore=shutil.ignore_patterns("__pycache__", ".gitignore"))
         else:
             shutil.copy(root / source, folder / target)
     shutil.copy(program, folder / "plant_script")

@@ -14,7 +14,7 @@ import tarfile
 import tempfile
 import unittest
 
-from tools import ROOT
+from tools import EXAMPLES, ROOT
 from tools.packaging import build_package as TOOL
 
 PACKED = """etc/plant_script usr/bin/plant_script usr/lib/systemd/system/plant@.service usr/lib/systemd/system/plant@.socket
@@ -23,20 +23,25 @@ usr/lib/sysusers.d/plant-script.conf usr/lib/tmpfiles.d/plant-script.conf usr/li
 usr/share/bash-completion/completions/plant_script usr/share/doc/plant-script/FORMATS.md.gz usr/share/doc/plant-script/GLOSSARY.md.gz
 usr/share/doc/plant-script/OPERATING.md.gz usr/share/doc/plant-script/README.md.gz usr/share/doc/plant-script/RULES.md.gz
 usr/share/doc/plant-script/SCOPE.md.gz usr/share/doc/plant-script/build.txt usr/share/doc/plant-script/changelog.Debian.gz
-usr/share/doc/plant-script/changelog.gz usr/share/doc/plant-script/copyright usr/share/doc/plant-script/examples/every_key/README.md
-usr/share/doc/plant-script/examples/every_key/check.out usr/share/doc/plant-script/examples/every_key/check.txt
-usr/share/doc/plant-script/examples/realtime.conf usr/share/doc/plant-script/examples/plant_p2.toml usr/share/fish/vendor_completions.d/plant_script.fish
+usr/share/doc/plant-script/changelog.gz usr/share/doc/plant-script/copyright usr/share/doc/plant-script/GUIDE.md.gz
+usr/share/doc/plant-script/examples/realtime.conf usr/share/fish/vendor_completions.d/plant_script.fish
 usr/share/lintian/overrides/plant-script usr/share/man/man1/plant_script-serve.1.gz usr/share/man/man1/plant_script.1.gz
 usr/share/man/man5/plant.toml.5.gz usr/share/zsh/vendor-completions/_plant_script
 usr/lib/systemd/system/plant-metrics@.service usr/libexec/plant_script/pass_reasons usr/libexec/plant_script/watch_channel
-usr/bin/describe_state usr/share/man/man1/describe_state.1.gz""".split()
-# The tools that are packed are those of the repository.
-TOOLS = ["tools/__init__.py", "tools/describe_state", "tools/watch_channel"] + [
-    str(path.relative_to(ROOT)) for folder in ("reference", "watching") for path in (ROOT / "tools" / folder).glob("*.py")]
+usr/bin/describe_state usr/share/man/man1/describe_state.1.gz usr/bin/plant_view usr/share/man/man1/plant_view.1.gz usr/bin/dsx
+usr/share/man/man1/dsx.1.gz usr/lib/plant_script/tools/viewing/page.html""".split()
+# The tools and the examples that are packed are those of the repository.
+COMMANDS = ("describe_state", "watch_channel", "plant_view", "dsx")
+TOOLS = ["tools/__init__.py", *(f"tools/{name}" for name in COMMANDS)] + [
+    str(path.relative_to(ROOT)) for folder in ("reference", "watching", "viewing", "messages") for path in (ROOT / "tools" / folder).glob("*.py")]
 PACKED += [f"usr/lib/plant_script/{name}" for name in TOOLS]
-EXECUTABLE = {"usr/bin/plant_script", "usr/lib/plant_script/tools/describe_state", "usr/lib/plant_script/tools/watch_channel"} | {
-    f"usr/libexec/plant_script/{name}" for name in ("serve_channel", "tick_channel", "pass_reasons")}
-LINKS = {"usr/bin/describe_state": "../lib/plant_script/tools/describe_state", "usr/libexec/plant_script/watch_channel": "../../lib/plant_script/tools/watch_channel"}
+PACKED += [f"usr/share/doc/plant-script/examples/{path.relative_to(EXAMPLES)}" for path in EXAMPLES.rglob("*")
+           if path.is_file() and path.name != ".gitignore" and "__pycache__" not in path.parts]
+EXECUTABLE = {"usr/bin/plant_script", *(f"usr/lib/plant_script/tools/{name}" for name in COMMANDS)} | {
+    f"usr/libexec/plant_script/{name}" for name in ("serve_channel", "tick_channel", "pass_reasons")} | {
+    f"usr/share/doc/plant-script/examples/{path.relative_to(EXAMPLES)}" for path in EXAMPLES.rglob("*") if path.is_file() and os.access(path, os.X_OK)}
+LINKS = {f"usr/bin/{name}": f"../lib/plant_script/tools/{name}" for name in ("describe_state", "plant_view", "dsx")}
+LINKS["usr/libexec/plant_script/watch_channel"] = "../../lib/plant_script/tools/watch_channel"
 MISSING = sorted({package for command, package in TOOL.COMMANDS.items() if not shutil.which(command)})
 VERSION = "0.1~20261124.0930.g"
 
@@ -168,11 +173,27 @@ class Package(unittest.TestCase):
 
     def test_its_tools_run_from_where_they_are_installed(self):
         subprocess.run(["dpkg-deb", "--extract", self.package, self.top / "installed"], check=True)
-        for name in ("usr/bin/describe_state", "usr/libexec/plant_script/watch_channel"):
+        for name, text in (("usr/bin/describe_state", "--json"), ("usr/libexec/plant_script/watch_channel", "CHANNEL PLANT PIPE"),
+                           ("usr/bin/plant_view", "--highlight NAME"), ("usr/bin/dsx", "KIND tid=N WORD..")):
             done = subprocess.run([self.top / "installed" / name, "--help"], cwd="/", capture_output=True, text=True, check=False)
             self.assertEqual((done.returncode, done.stderr), (0, ""))
-            self.assertIn("--json" if "describe" in name else "CHANNEL PLANT PIPE", done.stdout)
+            self.assertIn(text, done.stdout)
         self.assertEqual(list((self.top / "installed").rglob("__pycache__")), [])
+
+    def test_its_tools_do_what_those_of_the_repository_do(self):
+        """plant_view draws an example of the package, and dsx writes and reads a message."""
+        place = self.top / "in_use"
+        subprocess.run(["dpkg-deb", "--extract", self.package, place], check=True)
+        example = place / "usr/share/doc/plant-script/examples/isolation"
+        output = (example / "run_flood.out").read_text()
+        self.assertEqual(self.printed(place / "usr/bin/plant_view", "--plant", example / "run_flood.txt", given=output),
+                         self.printed(ROOT / "tools/plant_view", "--plant", EXAMPLES / "isolation/run_flood.txt", given=output))
+        message = "0F0001180A010200010601060F0102"
+        self.assertEqual(self.printed(place / "usr/bin/dsx", *"dsa tid=1 ref=1 set=6 type=be".split()), message + "\n")
+        self.assertEqual(self.printed(place / "usr/bin/dsx", "words", message), "dsa tid=1 ref=1 set=6 type=be\n")
+
+    def printed(self, *words, given=""):
+        return subprocess.run(words, input=given, cwd="/", capture_output=True, text=True, check=True).stdout
 
     def test_has_no_path_of_the_machine(self):
         subprocess.run(["dpkg-deb", "--raw-extract", self.package, self.top / "tree"], check=True)
