@@ -560,6 +560,12 @@ class Tool(unittest.TestCase):
         self.assertEqual((status, errors), (1, f"plant_view: {EXAMPLES / 'first_flow.txt'}: fault: plant 1\n"))
         self.assertEqual(self.tool(given="")[0], 0)
 
+    def test_a_script_is_of_one_output(self):
+        """Of several outputs, no script says which of their grants are unsolicited."""
+        folder = EXAMPLES / "isolation"
+        words = ["--plant", folder / "run_flood.txt", "--svg", f"flood={folder / 'run_flood.out'}", f"alone={folder / 'run_alone.out'}"]
+        self.assertEqual([self.tool(*words[:count])[1].count('class="unsolicited"') for count in (4, 5)], [5, 0])
+
     def test_highlight(self):
         output = (EXAMPLES / "two_operators.out").read_text()
         status, made, _ = self.tool("--highlight", "B", given=output)

@@ -36,7 +36,7 @@ from tools.viewing.sums import csv_lines, sums_of
 
 def read_arguments():
     parser = argparse.ArgumentParser("plant_view", description=__doc__, formatter_class=argparse.RawDescriptionHelpFormatter)
-    parser.add_argument("--plant", metavar="FILE", help="the plant file, or the whole input of `run`")
+    parser.add_argument("--plant", metavar="FILE", help="the plant file, or the whole input of `run` or `serve`")
     parser.add_argument("--highlight", metavar="NAME", help="the operator to highlight; the others are faded")
     parser.add_argument("--title", default="Frames of a plant", help="the title of the page")
     parser.add_argument("--csv", action="store_true", help="write the numbers alone")
