@@ -350,7 +350,7 @@ class Page(unittest.TestCase):
         run = read_output(OUTPUT.splitlines())
         made = page("<b> & {{data}}", run, sums_of(run), Budgets())
         self.assertIn("<h1>&lt;b&gt; &amp; ", made)
-        self.assertIn("The run ended with fault: line 9.", made)
+        self.assertIn("The output ends with fault: line 9.", made)
         self.assertNotIn("A service began", made)
         for text in ("http:", "https:", "src=", "@import", "url(", "fetch("):
             self.assertNotIn(text, made)
@@ -361,7 +361,7 @@ class Page(unittest.TestCase):
         for text in ("2 faults: line 2, memory.", "A service began at line 1, before frame 6.", "A service began at line 18.", "The plant changed before frame 7.",
                      "The next frame got the number 536870919.", "1 snapshot left out.", "1 frame left out, whose number came again"):
             self.assertIn(text, made)
-        self.assertNotIn("The run ended", made)
+        self.assertNotIn("The output ends", made)
 
     def test_kinds(self):
         """The page's script has the kind of each grant. The legend says what marks it, and the page of how many grants no kind is known."""

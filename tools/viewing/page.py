@@ -47,11 +47,11 @@ def time_note(budgets):
 
 
 def fault_note(run):
-    """Returns what ended a run, or which lines a service refused."""
+    """Returns with which fault the output ends, or all faults that a service answered."""
     if not run.faults:
         return ""
     if not run.is_of_service:
-        return f'<p class="fault">The run ended with fault: {html.escape(run.faults[0])}.</p>'
+        return f'<p class="fault">The output ends with fault: {html.escape(run.faults[0])}.</p>'
     named = ", ".join(map(html.escape, run.faults[:FAULTS])) + more(len(run.faults), FAULTS)
     return f'<p class="fault">{counted(len(run.faults), "fault")}: {named}.</p>'
 
