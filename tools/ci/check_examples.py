@@ -5,7 +5,10 @@
 An input is `COMMAND.txt` or `COMMAND_more.txt`, and its output has the same name with `.out`. The first examples have names of their own.
 The second implementation has to print this output, and so has the program, if it is built.
 
-A block of a README that begins with ``` and the name of an input shows the script of this input. Below each line is what it prints, and
+A block of any page that begins with ```stderr quotes standard error (tools/ci/quoted_errors.py). The second implementation writes no reasons
+there, so these blocks are compared only if the program is built.
+
+Another block of a README that begins with ``` and the name of an input shows the script of this input. Below each line is what it prints, and
 below a message, indented, its words (tools/dsx). A block of an input of `trace` shows the output, which has the lines of the script. All
 blocks of an input together are the whole script, in order. A block of `toml` is a part of one of the plant files.
 
@@ -18,6 +21,7 @@ import re
 import sys
 
 from tools import EXAMPLES, show_help
+from tools.ci.quoted_errors import wrong_quotes
 from tools.compare.program import PROGRAM, fixed_answer, program_answer
 from tools.messages.words import CODES, WordsFault, octets, parts_of_message, words_of
 from tools.reference import coverage
@@ -166,10 +170,14 @@ def main():
     found = [what for path in inputs for what in wrong_answers(program, path)]
     found += [f"{folder.name}: {what}" for folder in sorted(EXAMPLES.iterdir()) if folder.is_dir() for what in differences(folder)]
     found += left_out()
+    quotes, wrong = wrong_quotes(program)
+    found += wrong
     for line in found:
         print(line)
-    who = "the program and the second implementation" if pathlib.Path(program).exists() else "the second implementation (the program is not built)"
-    print(f"{len(inputs)} examples, {len(found)} faults, by {who}")
+    is_built = pathlib.Path(program).exists()
+    who = "the program and the second implementation" if is_built else "the second implementation (the program is not built)"
+    compared = f"{quotes} quotes of standard error" + ("" if is_built else " that were not compared")
+    print(f"{len(inputs)} examples, {compared}, {len(found)} faults, by {who}")
     sys.exit(1 if found else 0)
 
 

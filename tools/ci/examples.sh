@@ -1,7 +1,8 @@
 #!/bin/bash
 # Checks every output in examples/: the second implementation prints for each input what the file next to it has, and so does the
 # program, if it is built. Each README shows what is printed. A's lines next to a flood of B are A's lines alone, and the picture
-# shows these two runs.
+# shows these two runs. What pages under docs/ and examples/ quote of standard error, in blocks that begin with ```stderr, is what
+# the program writes. The second implementation writes no reasons there, so this is compared only if the program is built.
 # Usage: tools/ci/examples.sh [PROGRAM]     Needs bash and python3.
 set -euo pipefail
 
