@@ -33,7 +33,7 @@ pub(crate) trait Turns<R: Wait, G: Gate<R>> {
     /// The operator's place.
     ghost place: { Self → ℕ };
 
-    /// Returns the operator.
+    /// Returns the operator of which this is the cell.
     fn op(&self) -> Op
         ensures { result ≡ place self.now };
 
