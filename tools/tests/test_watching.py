@@ -565,6 +565,21 @@ Operator B
   cached responses: 0 of at most 6
   inbox: 0 of at most 7
   backlog: 0 minislots
+
+Modem 020000000001 of operator Alfa: 3 flows, last transaction 447 ticks ago
+  flow 257, SID 257: admitted and active ugs, 1 x 64 bytes every 20000 us
+    unsolicited grants, no requests: not known how long it is silent
+  flow 259, no SID: provisioned be
+    no active set: it may not request
+  flow 260, SID 260: pending admitted rtps, polled every 4000 us
+    no active set: it may not request
+    awaits an acknowledgement of transaction 1
+
+Modem 02000000000A of operator Alfa: 2 flows, last transaction 1493 ticks ago
+  flow 258, SID 258: admitted and active be, priority 1, reserved 64000 bit/s
+    backlog of 70 minislots, waiting since frame 15, 2 frames
+  flow 261, SID 261: admitted be
+    no active set: it may not request
 """
 
     def run_with(self, *words, given=b""):
@@ -583,6 +598,11 @@ Operator B
         self.assertEqual((first["slice"], first["next_slice"]), ({"start": 8, "length": 30, "budget": 28}, {"start": 8, "length": 24, "budget": 24}))
         self.assertEqual((first["flows"], first["committed_minislots"], first["inbox_limit"]),
                          ({"pending": 1, "active": 2, "admitted": 1, "provisioned": 1, "null": 0}, 6, 3))
+        modem = json.loads(output)["modems"][1]
+        self.assertEqual((modem["address"], modem["operator"], modem["ticks_since_transaction"]), ("02000000000A", "Alfa", 1493))
+        self.assertEqual(modem["flows"][0], {
+            "sfid": 258, "sid": 258, "sets": dict.fromkeys(("admitted", "active"), "be, priority 1, reserved 64000 bit/s"), "is_pending": False,
+            "awaits_transaction": None, "may_request": True, "backlog_minislots": 70, "since": 15, "frames_since": 2})
 
     def test_what_is_not_a_snapshot_is_refused(self):
         for given in (b"", PLANT.encode(), SNAPSHOT[:-2] + b"\n", snapshot_text(RECORDS.replace("slice 8 30 28", "slice 8 30 5"))):
@@ -651,7 +671,7 @@ class Folder(unittest.TestCase):
         self.write(journal_text(b"T", b"T B"))
         status, output, errors = self.describe("--folder", self.folder)
         self.assertEqual((status, output), (1, ""))
-        self.assertIn("some operators may have ticked and others not: the program answers fault: line 3", errors)
+        self.assertIn("gives no state: some operators have ticked and others not. There is one once the others have had as many ticks", errors)
 
     def test_what_is_no_journal_has_no_state(self):
         for data in (b"", b"=line 5\n", b"=line 5\n\n-", SNAPSHOT):

@@ -1,18 +1,25 @@
-"""Prints the state of a channel in words: its frame, and for each operator slice, budget, flows, what is committed, responses and inbox.
+"""Prints the state of a channel in words: its frame, for each operator slice, budget, flows, what is committed, responses and inbox, and
+for each modem its flows, with their sets and what is known of their requests.
 
     describe_state [--json] --channel NAME    says it of the channel NAME of this machine
     describe_state [--json] --folder FOLDER   reads the folder of a channel, such as /var/lib/plant_script/NAME/folder
     describe_state [--json] FILE              reads a snapshot; - is standard input
+    describe_state --release ADDRESS ..       prints the lines that delete all flows of a modem; .. is one of the three above
 
 --json prints an object in place of the words. Of a channel with a folder the state is computed from a copy of the journal there, also while
-the channel is stopped. Only root and the user _plant_script may read the folder. The program PLANT_SCRIPT, or /usr/bin/plant_script, does
-the lines of the copy again.
+the channel is stopped. Only root and the user _plant_script may read the folder. A program does the lines of the copy again: the one that
+PLANT_SCRIPT names, or /usr/bin/plant_script, or the one that ./prove has built.
 
 If /etc/plant_script/NAME.env has an empty FOLDER=, --channel asks the channel for a snapshot by the line K. This needs the rights of a
 client: a member of the group _plant_script has them. The channel must run with a STATE, and its answers must be in a file. The snapshot is
 one more answer there. Its readers skip it.
 
-Exit status: 0 success; 1 the channel gave no snapshot; 2 wrong arguments; 3 the text is not a snapshot; 6 a file cannot be read or written.
+--release is for a modem that is gone. It prints a DSD-REQ in the modem's name for each flow, as a line of `serve`, and deletes nothing by
+itself. Each line is written at once, so the output may go into the pipe of the channel. A flow whose sets await an acknowledgement has no
+line, nor has one for whose response there is no room: standard error says after how many ticks to give the command once more.
+
+Exit status: 0 success, also if the modem has no flows; 1 there is no state, or no program that computes it; 2 wrong arguments, a malformed
+address, or one that no operator lists; 3 the text is not a snapshot; 4 --release leaves flows for later; 6 a file cannot be read or written.
 """
 
 import argparse
@@ -21,18 +28,22 @@ import json
 import os
 import pathlib
 import re
+import stat
 import sys
 import time
 
 from tools.reference.resuming import SNAPSHOT
 
-from .folder_states import NoState, snapshot_of_folder
-from .operator_state import Unreadable, read_state
+from .folder_states import NoState, program_of, snapshot_of_folder
+from .modem_flows import counted, modem_words
+from .operator_state import Unreadable, read_books, read_state
 from .outputs import Outputs
+from .release import NotListed, judged_address, release_of
 from .snapshot_requests import write_request
 
 PIPE, ANSWERS = "/run/plant_script/{}/in", "/var/lib/plant_script/{}/answers"
-SETTINGS, FOLDER, PROGRAM = "/etc/plant_script/{}.env", "/var/lib/plant_script/{}/folder", "/usr/bin/plant_script"
+SETTINGS, FOLDER = "/etc/plant_script/{}.env", "/var/lib/plant_script/{}/folder"
+LEFT_FOR_LATER = 4
 SECONDS = 5
 PAUSE_SECONDS = 0.05
 
@@ -41,9 +52,8 @@ class NoAnswer(Exception):
     """A channel gave no snapshot."""
 
 
-def counted(number, noun):
-    """Returns a number with its noun, which is regular or an inbox's."""
-    return f"{number} {noun}{'' if number == 1 else 's'}"
+class Missing(Exception):
+    """A file or a folder is missing, or may not be read."""
 
 
 def listed(counts, words):
@@ -74,14 +84,30 @@ def operator_words(one):
 
 
 def words_of(state):
-    """Returns the state of a channel in words, an operator in each paragraph."""
+    """Returns the state of a channel in words: an operator in each paragraph, then a modem that has flows in each."""
     head = f"The channel is before frame {state.frame}. It has {counted(len(state.operators), 'operator')}."
-    return "\n\n".join((head, *map(operator_words, state.operators))) + "\n"
+    return "\n\n".join((head, *map(operator_words, state.operators), *map(modem_words, state.modems))) + "\n"
 
 
 def object_of(state):
     """Returns the state of a channel as an object of JSON."""
-    return json.dumps({"frame": state.frame, "operators": [dataclasses.asdict(one) for one in state.operators]}, indent=2) + "\n"
+    members = {name: [dataclasses.asdict(one) for one in getattr(state, name)] for name in ("operators", "modems")}
+    return json.dumps({"frame": state.frame, **members}, indent=2) + "\n"
+
+
+def why_not_written(pipe):
+    """Returns why a line cannot be written into the pipe of a channel."""
+    try:
+        if not stat.S_ISFIFO(os.stat(pipe).st_mode):
+            return "it is not a pipe. Remove the file and restart the unit plant@NAME.socket"
+        os.close(os.open(pipe, os.O_WRONLY | os.O_NONBLOCK))
+    except FileNotFoundError:
+        return "it is missing. The channel is not started, or has another name"
+    except PermissionError:
+        return "you may not write there. Members of the group _plant_script may"
+    except OSError:
+        return "nobody reads it: the channel does not run"
+    return "it is full: the channel does not read it"
 
 
 def ask_channel(pipe, answers, seconds=SECONDS):
@@ -89,7 +115,7 @@ def ask_channel(pipe, answers, seconds=SECONDS):
     with open(answers, "rb") as file:
         file.seek(0, 2)
         if not write_request(pipe):
-            raise NoAnswer(f"the line K cannot be written into {pipe}: the channel does not run, its pipe is full, or you may not write there")
+            raise NoAnswer(f"the line K cannot be written into {pipe}: {why_not_written(pipe)}")
         outputs, last, end = Outputs(), b"", time.monotonic() + seconds
         while time.monotonic() < end:
             for output in outputs.take(file.read()):
@@ -97,19 +123,24 @@ def ask_channel(pipe, answers, seconds=SECONDS):
                     return output
                 last = output if output.startswith(b"fault: ") else last
             time.sleep(PAUSE_SECONDS)
-    why = f" The answers have {last.decode(errors='replace')}: some operators may have ticked and others not, or the channel has no STATE." if last else ""
-    raise NoAnswer(f"no snapshot in {seconds} seconds.{why}")
+    if not last:
+        raise NoAnswer(f"no snapshot in {seconds} seconds, and no fault: nobody answers the pipe, or the answers are not in {answers}")
+    raise NoAnswer(f"no snapshot in {seconds} seconds. The answers have {last.decode(errors='replace')}, of this request or of another client's "
+                   "line. The channel refuses the request if some operators have ticked and others not, or if its settings have an empty STATE=")
 
 
 def read_arguments():
     ask = argparse.ArgumentParser("describe_state", description=__doc__, formatter_class=argparse.RawDescriptionHelpFormatter)
     ask.add_argument("--json", action="store_true", help="print an object")
+    ask.add_argument("--release", metavar="ADDRESS", help="print the lines that delete all flows of a modem")
     ask.add_argument("--channel", metavar="NAME", help="a channel of the machine")
     ask.add_argument("--folder", metavar="FOLDER", help="the folder of a channel")
     ask.add_argument("file", metavar="FILE", nargs="?", help="a snapshot")
     asked = ask.parse_args()
     if (asked.channel, asked.folder, asked.file).count(None) != 2:
         ask.error("give --channel NAME, --folder FOLDER or a FILE")
+    if asked.json and asked.release is not None:
+        ask.error("--release prints lines: give it without --json")
     return asked
 
 
@@ -120,9 +151,35 @@ def folder_of(channel):
     return found[-1].strip("\"' ") if found else FOLDER.format(channel)
 
 
-def state_in_folder(folder):
+def judge_folder(folder):
+    """Raises Missing if a folder has no journal that can be read, and says what is missing."""
     try:
-        return snapshot_of_folder(folder, os.environ.get("PLANT_SCRIPT") or PROGRAM)
+        path = pathlib.Path(folder)
+        if not path.is_dir():
+            raise Missing(f"there is no folder {folder}: no channel has run with it on this machine, or its name is another")
+        with open(path / "journal", "rb"):
+            pass
+    except FileNotFoundError as fault:
+        raise Missing(f"the folder {folder} has no file journal: no channel has run with it") from fault
+    except PermissionError as fault:
+        raise Missing(f"you may not read {folder}/journal: only root and the user _plant_script may") from fault
+
+
+def judge_answers(path):
+    """Raises Missing if the answers of a channel cannot be read, and says why."""
+    try:
+        with open(path, "rb"):
+            pass
+    except FileNotFoundError as fault:
+        raise Missing(f"there are no answers {path}: the channel has not run, or its settings have another ANSWERS=") from fault
+    except PermissionError as fault:
+        raise Missing(f"you may not read {path}: members of the group _plant_script may") from fault
+
+
+def state_in_folder(folder):
+    judge_folder(folder)
+    try:
+        return snapshot_of_folder(folder, program_of(os.environ.get("PLANT_SCRIPT")))
     except NoState as fault:
         raise NoAnswer(f"the journal in {folder} gives no state: {fault}") from fault
 
@@ -131,19 +188,53 @@ def snapshot_of(asked):
     folder = asked.folder if asked.channel is None else folder_of(asked.channel)
     if folder:
         return state_in_folder(folder)
-    if asked.channel is not None:
-        return ask_channel(PIPE.format(asked.channel), ANSWERS.format(asked.channel))
-    return sys.stdin.buffer.read() if asked.file == "-" else pathlib.Path(asked.file).read_bytes()
+    if asked.channel is None:
+        return sys.stdin.buffer.read() if asked.file == "-" else pathlib.Path(asked.file).read_bytes()
+    answers = ANSWERS.format(asked.channel)
+    judge_answers(answers)
+    return ask_channel(PIPE.format(asked.channel), answers)
+
+
+def print_release(address, data):
+    """Prints the lines that delete the flows of a modem, each by one write, and returns the exit status."""
+    release = release_of(read_books(data), address)
+    for line in release.lines:
+        # (print may write the LF by itself)
+        sys.stdout.write(f"{line}\n")
+        sys.stdout.flush()
+    for remark in release.remarks:
+        print(f"describe_state: {remark}", file=sys.stderr)
+    return 0 if release.is_complete else LEFT_FOR_LATER
+
+
+def describe(asked):
+    """Prints what is asked, and returns the exit status."""
+    if asked.release is not None:
+        address = judged_address(asked.release)
+        return print_release(address, snapshot_of(asked))
+    state = read_state(snapshot_of(asked))
+    print(object_of(state) if asked.json else words_of(state), end="", flush=True)
+    return 0
+
+
+def leave_output():
+    """Drops what standard output has not accepted, so that nobody tries to write it at the end."""
+    os.dup2(os.open(os.devnull, os.O_WRONLY), sys.stdout.fileno())
 
 
 def main():
     asked = read_arguments()
     try:
-        state = read_state(snapshot_of(asked))
-    except (NoAnswer, Unreadable, OSError) as fault:
+        status = describe(asked)
+    except BrokenPipeError:
+        leave_output()
+        status = 6
+    except (NoAnswer, NotListed, Unreadable, Missing, OSError) as fault:
         print(f"describe_state: {fault}", file=sys.stderr)
-        sys.exit(next(status for kind, status in ((NoAnswer, 1), (Unreadable, 3), (OSError, 6)) if isinstance(fault, kind)))
-    sys.stdout.write(object_of(state) if asked.json else words_of(state))
+        status = next(status for kind, status in ((NoAnswer, 1), (NotListed, 2), (Unreadable, 3), (Missing, 6), (OSError, 6)) if isinstance(fault, kind))
+        if isinstance(fault, OSError):
+            leave_output()
+    sys.exit(status)
 
 
 if __name__ == "__main__":

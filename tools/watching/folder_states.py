@@ -7,9 +7,11 @@ import contextlib
 import os
 import pathlib
 import re
+import shutil
 import subprocess
 import tempfile
 
+from tools import ROOT
 from tools.reference.journals import read_journal
 from tools.reference.resuming import SNAPSHOT
 
@@ -22,41 +24,73 @@ FIRST = re.compile(rb"=line (\d{1,20})\n")
 MOST_FIRST = 32
 # Less than the channel.
 NICE = "10"
+INSTALLED, BUILT = "/usr/bin/plant_script", "crates/plant_program/out/plant_program"
+OUT_OF_MEMORY = 5
+MOST_REASON = 500
 
 
 class NoState(Exception):
-    """A journal gives no state: it is not the journal of a service, or some operators have ticked and others not."""
+    """A journal gives no state: it is not the journal of a service, the program is missing, or some operators have ticked and others not."""
+
+
+def program_of(variable: str | None, top: pathlib.Path = ROOT) -> str:
+    """Returns the program that does lines again: what the variable PLANT_SCRIPT names, or the installed one, or the one that is built here."""
+    if variable:
+        if shutil.which(variable) is None:
+            raise NoState(f"the program is missing: the variable PLANT_SCRIPT names {variable}, which is not a file that can be executed. "
+                          "Name the program there, or unset the variable")
+        return variable
+    places = [INSTALLED] + [str(top / BUILT)] * (top / "crates").is_dir()
+    if found := next(filter(shutil.which, places), None):
+        return found
+    raise NoState(f"the program is missing, which has to do the lines again. It was looked for at {' and at '.join(places)}. Install the "
+                  "package plant-script, or build the program by ./prove at the top of the repository, or let PLANT_SCRIPT name it")
 
 
 def input_of_resume(data):
-    """Returns the input of `resume` that leads to the state of a journal, and requests it."""
+    """Returns the input of `resume` that leads to the state of a journal and requests it, and the number of its last line."""
     found = read_journal(data)
     if found is None or not found[0][1:]:
         raise NoState("it has no saved state")
     snapshot, lines, _ = found
     lines = [INVALID if OF_RESUME.match(line) else line for line in lines]
-    return b"".join(line + b"\n" for line in (*snapshot[1:], b"---", *lines, b"K"))
+    return b"".join(line + b"\n" for line in (*snapshot[1:], b"---", *lines, b"K")), len(lines) + 1
 
 
-def snapshot_of_output(data):
-    """Returns the snapshot at the end of what `resume` printed."""
+def snapshot_of_output(data: bytes, last_line: int) -> bytes:
+    """Returns the snapshot at the end of what `resume` printed. The number of the line K is given, which was the last one."""
     outputs = Outputs().take(data)
-    if not outputs or not outputs[-1].startswith(SNAPSHOT):
-        last = outputs[-1].decode(errors="replace") if outputs else "nothing"
-        raise NoState(f"some operators may have ticked and others not: the program answers {last}")
-    return outputs[-1]
+    if outputs and outputs[-1].startswith(SNAPSHOT):
+        return outputs[-1]
+    last = outputs[-1].decode(errors="replace") if outputs else ""
+    if last == f"fault: line {last_line}":
+        raise NoState("some operators have ticked and others not. There is one once the others have had as many ticks")
+    raise NoState(f"the program ended before the last line, after {last or 'no answer'}")
+
+
+def judge_status(program: str, status: int, output: bytes, reasons: bytes) -> None:
+    """Raises NoState with the reason if the program did not end with status 0."""
+    if status == 0:
+        return
+    if status < 0:
+        raise NoState(f"the program {program} was killed by signal {-status} while it did the lines again")
+    if status == OUT_OF_MEMORY:
+        raise NoState(f"the program {program} ran out of memory while it did the lines again")
+    said = [data.strip().splitlines()[-1].decode(errors="replace")[:MOST_REASON] for data in (output, reasons) if data.strip()]
+    raise NoState(f"the program {program} ended with status {status}: {'; '.join(said) or 'it said nothing'}")
 
 
 class Replay:
     """A process that does the lines of a copy of a journal again."""
 
     def __init__(self, folder, program):
-        lines = input_of_resume(pathlib.Path(folder, "journal").read_bytes())
+        self.program = program
+        lines, self.last_line = input_of_resume(pathlib.Path(folder, "journal").read_bytes())
         with tempfile.TemporaryFile() as given:
             given.write(lines)
             given.seek(0)
-            self.output = tempfile.TemporaryFile()
-            self.process = subprocess.Popen(["nice", "-n", NICE, program, "resume"], stdin=given, stdout=self.output, stderr=subprocess.DEVNULL)
+            self.output, self.reasons = tempfile.TemporaryFile(), tempfile.TemporaryFile()
+            self.process = subprocess.Popen(["nice", "-n", NICE, program, "resume"], stdin=given, stdout=self.output, stderr=self.reasons)
 
     def is_running(self):
         return self.process.poll() is None
@@ -64,9 +98,12 @@ class Replay:
     def snapshot(self):
         """Waits for the end of the process, and returns its snapshot."""
         self.process.wait()
-        with self.output:
+        with self.output, self.reasons:
             self.output.seek(0)
-            return snapshot_of_output(self.output.read())
+            self.reasons.seek(0)
+            output = self.output.read()
+            judge_status(self.program, self.process.returncode, output, self.reasons.read())
+            return snapshot_of_output(output, self.last_line)
 
 
 def snapshot_of_folder(folder, program):

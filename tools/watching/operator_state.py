@@ -2,11 +2,13 @@
 
 from dataclasses import dataclass
 
-from tools.reference.book import Share, all_committed
+from tools.reference.book import Book, Share, all_committed
 from tools.reference.coverage import MetFault
 from tools.reference.plant import read_plant
-from tools.reference.snapshots import read_snapshot
+from tools.reference.snapshots import SnapshotFault, read_snapshot
 from tools.reference.states import books_of
+
+from .modem_flows import ModemState, modems_of
 
 # Each flow is in one of these: sets await an acknowledgement; or the greatest set that it has; or it has none.
 FLOW_STATES = ("pending", "active", "admitted", "provisioned", "null")
@@ -37,9 +39,10 @@ class OperatorState:
 
 @dataclass(frozen=True)
 class ChannelState:
-    """The state of a channel before a frame, and the operator of each modem."""
+    """The state of a channel before a frame, the modems that have flows, and the operator of each modem."""
     frame: int
     operators: tuple
+    modems: tuple[ModemState, ...]
     operator_of: dict
 
 
@@ -72,12 +75,20 @@ def operators_of_modems(plant_text):
     return {modem: row.name for row in plant.rows for modem in row.modems}
 
 
-def read_state(data):
-    """Returns the state of a channel from the bytes of a snapshot."""
+def read_books(data: bytes) -> list[Book]:
+    """Returns the books of the operators in the states of a snapshot, which is given as its bytes."""
     try:
         saved = read_snapshot(data)
-        plant = read_plant(saved.plant_text.decode())
-        books = books_of(plant, saved)
+        return books_of(read_plant(saved.plant_text.decode()), saved)
+    except SnapshotFault as fault:
+        raise Unreadable(f"the snapshot cannot be read: its line {fault.line} is invalid ({fault.reason}). A snapshot begins with the line "
+                         "melfjits-snapshot and has a line end at its end") from fault
     except (MetFault, ValueError) as fault:
         raise Unreadable(f"the snapshot cannot be read: {' '.join(map(str, fault.args))}") from fault
-    return ChannelState(saved.frame, tuple(map(operator_state, books)), {modem: row.name for row in plant.rows for modem in row.modems})
+
+
+def read_state(data):
+    """Returns the state of a channel from the bytes of a snapshot."""
+    books = read_books(data)
+    operator_of = {modem: book.row.name for book in books for modem in book.row.modems}
+    return ChannelState(books[0].frame, tuple(map(operator_state, books)), modems_of(books), operator_of)
