@@ -95,7 +95,7 @@ class Pages(unittest.TestCase):
     def test_statuses(self):
         self.assertEqual(self.terms("plant_script.1", "EXIT STATUS"), ["0", "2", "3", "4", "5", "6", "7", "125", "126", "127"])
         self.assertEqual(self.terms("plant_script-serve.1", "EXIT STATUS"), ["0", "3", "5", "6"])
-        self.assertEqual(self.terms("describe_state.1", "EXIT STATUS"), ["0", "1", "2", "3", "6"])
+        self.assertEqual(self.terms("describe_state.1", "EXIT STATUS"), ["0", "1", "2", "3", "4", "6"])
         self.assertEqual(self.terms("plant_view.1", "EXIT STATUS"), ["0", "1", "2"])
         self.assertEqual(self.terms("dsx.1", "EXIT STATUS"), ["0", "2"])
 
