@@ -161,6 +161,28 @@ class Release(unittest.TestCase):
         self.assertEqual((status, errors), (0, ""))
         self.assert_deleted(answers(REFERENCE, later, release), 4)
 
+    def test_more_flows_than_responses_that_are_cached(self):
+        """Nothing is cached, and there is room for 2 responses. So 2 of 5 flows are deleted now, 2 after 20 ticks, and 1 after 20 more."""
+        lines = [line for tid in range(1, 6) for line in (*added(ONE, tid), *["T"] * 20)]
+        now, counts = snapshot_after(lines, PLANT.replace("transactions = 6", "transactions = 2", 1)), []
+        for left in (3, 1, 0):
+            status, release, errors = released(now)
+            self.assertEqual(status, 4 if left else 0)
+            self.assertEqual("Give this command once more after 20 ticks" in errors, left > 0)
+            *replies, now = answers(REFERENCE, now, [*release, "K"])
+            self.assert_deleted(replies, len(release))
+            counts.append(len(release))
+            now = self.flows_after(now, 20)[0]
+        self.assertEqual(counts, [2, 2, 1])
+
+    def test_a_message_in_the_inbox_takes_room(self):
+        """Of 5 responses 4 are cached, and the message that is handled first takes the fifth place."""
+        responses = "".join(f"response {ONE} {tid} dsd {tid} held 9 0 -\n" for tid in range(1, 5))
+        records = re.sub("(?s)response.*(?=operator B)", f"{responses}message {ONE} 150007000000000999\n", RECORDS).replace("Alfa 5 3 2", "Alfa 5 4 1")
+        self.assertEqual(released(snapshot_text(records))[:2], (4, []))
+        status, release, _ = released(snapshot_text(records.replace("message 020000000001 150007000000000999", "request 020000000001 257 4")))
+        self.assertEqual((status, [line[:1] for line in release]), (4, ["M", "Q"]))
+
     def test_what_waits_in_the_inbox_is_handled_before(self):
         """The plant of the snapshot has room for 3 in the inbox of Alfa. Flow 257 is of modem 1."""
         waiting = [f"message {ONE} 157FFF000000000999", f"request {ONE} 257 4", f"request {ONE} 257 5"]
@@ -197,13 +219,14 @@ class Release(unittest.TestCase):
     def test_each_line_is_one_write(self):
         """A pipe of packets gives each write by itself."""
         before = snapshot_after([*added(ONE, 1), *added(ONE, 2)])
-        output, end = os.pipe2(os.O_DIRECT)
-        with open(end, "wb") as file:
-            environment = {**os.environ, "PYTHONUNBUFFERED": "1"}
-            subprocess.run([ROOT / "tools/describe_state", "--release", ONE, "-"], input=before, stdout=file, check=True, env=environment)
-        with open(output, "rb", buffering=0) as file:
-            found = [file.read(4_096), file.read(4_096), file.read(4_096)]
-        self.assertEqual(found, [f"M {ONE} 157FFF000000000101\n".encode(), f"M {ONE} 157FFE000000000102\n".encode(), b""])
+        for unbuffered in ("", "1"):
+            output, end = os.pipe2(os.O_DIRECT)
+            with open(end, "wb") as file:
+                environment = {**os.environ, "PYTHONUNBUFFERED": unbuffered}
+                subprocess.run([ROOT / "tools/describe_state", "--release", ONE, "-"], input=before, stdout=file, check=True, env=environment)
+            with open(output, "rb", buffering=0) as file:
+                found = [file.read(4_096), file.read(4_096), file.read(4_096)]
+            self.assertEqual(found, [f"M {ONE} 157FFF000000000101\n".encode(), f"M {ONE} 157FFE000000000102\n".encode(), b""])
 
 
 class Flows(unittest.TestCase):
@@ -217,10 +240,20 @@ class Flows(unittest.TestCase):
                                                        f"Modem {THREE} of operator B: 1 flow, last transaction 1 tick ago"])
         self.assertIn("  flow 257, SID 257: admitted and active be\n    backlog of 3 minislots, waiting since frame 1, 0 frames\n", text)
 
+    def test_a_timer_that_is_longer_than_that_of_the_plant(self):
+        """The plant of the snapshot has the hold of 1,500 ticks that is the default."""
+        for ticks, said in ((1_500, "last transaction 0 ticks ago"), (1_501, "no transaction known")):
+            text = describe("-", given=snapshot_text(RECORDS.replace("dsa 0 held 7", f"dsa 0 held {ticks}")))[1]
+            self.assertIn(f"Modem 02000000000A of operator Alfa: 2 flows, {said}\n", text)
+
+    def test_the_last_of_two_transactions(self):
+        self.assertIn(f"Modem {ONE} of operator A: 2 flows, last transaction 1 tick ago\n", self.text([*added(ONE, 1), "T", "T", *added(ONE, 2), "T"]))
+        self.assertEqual(re.findall("last transaction (.*) ago", self.text([*added(ONE, 1), "T", "T", *added(TWO, 1), "T"])), ["3 ticks", "1 tick"])
+
     def test_a_backlog_that_was_granted(self):
         """The request comes in frame 5, and is granted in it. After frame 104 the response of the flow is not cached any more."""
         text = self.text([*added(ONE, 1), *["T"] * 5, f"Q {ONE} 257 3", *["T"] * 100])
-        self.assertIn(f"Modem {ONE} of operator A: 1 flow, no transaction is cached\n"
+        self.assertIn(f"Modem {ONE} of operator A: 1 flow, no transaction known\n"
                       "  flow 257, SID 257: admitted and active be\n    no backlog, and none has begun since frame 5, 100 frames\n", text)
 
     def test_a_backlog_that_waits(self):
@@ -238,7 +271,7 @@ class Flows(unittest.TestCase):
 
     def test_a_provisioned_flow_without_a_transaction(self):
         text = self.text([], PROVISIONED)
-        self.assertIn(f"Modem {ONE} of operator A: 1 flow, no transaction is cached\n  flow 257, SID 257: provisioned, admitted and active be\n", text)
+        self.assertIn(f"Modem {ONE} of operator A: 1 flow, no transaction known\n  flow 257, SID 257: provisioned, admitted and active be\n", text)
 
 
 class What(unittest.TestCase):
@@ -286,7 +319,8 @@ class What(unittest.TestCase):
     def test_how_a_program_ended(self):
         for text, said in (("kill -KILL $$", "was killed by signal 9"), ("echo fault: memory; exit 5", "ran out of memory"),
                            ("echo fault: state; echo the limit of flows >&2; exit 3", "ended with status 3: fault: state; the limit of flows"),
-                           ("exit 7", "ended with status 7: it said nothing"), ("echo MAP 7 01", "ended before the last line, after MAP 7 01")):
+                           ("exit 7", "ended with status 7: it said nothing"), ("echo MAP 7 01", "ended before the last line, after MAP 7 01"),
+                           ("echo fault: line 1", "ended before the last line, after fault: line 1")):
             self.assertIn(said, self.fault(self.program(text)))
 
     def test_operators_that_have_ticked_apart(self):

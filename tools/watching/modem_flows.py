@@ -123,6 +123,6 @@ def flow_words(flow: FlowState) -> str:
 def modem_words(modem: ModemState) -> str:
     """Returns the paragraph of a modem."""
     ticks = modem.ticks_since_transaction
-    last = "no transaction is cached" if ticks is None else f"last transaction {counted(ticks, 'tick')} ago"
+    last = "no transaction known" if ticks is None else f"last transaction {counted(ticks, 'tick')} ago"
     head = f"Modem {modem.address} of operator {modem.operator}: {counted(len(modem.flows), 'flow')}, {last}"
     return "\n".join((head, *map(flow_words, modem.flows)))
