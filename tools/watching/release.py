@@ -10,7 +10,7 @@ from tools.reference.messages import DSD_REQ
 from .modem_flows import awaited, counted
 
 ADDRESS = re.compile("[0-9A-Fa-f]{12}")
-# Transaction IDs of modems. A modem that comes back counts from the other end.
+# Transaction IDs of modems are at most this. A modem that comes back and counts up from 0 gets there last.
 GREATEST_OF_MODEM = 0x7FFF
 
 
