@@ -11,7 +11,7 @@ the channel is stopped. Only root and the user _plant_script may read the folder
 PLANT_SCRIPT names, or /usr/bin/plant_script, or the one that ./prove has built.
 
 If /etc/plant_script/NAME.env has an empty FOLDER=, --channel asks the channel for a snapshot by the line K. This needs the rights of a
-client: a member of the group _plant_script has them. The channel must run with a STATE, and its answers must be in a file. The snapshot is
+client: a member of the group of the pipe has them. The channel must run with a STATE, and its answers must be in a file. The snapshot is
 one more answer there. Its readers skip it.
 
 --release is for a modem that is gone. It prints a DSD-REQ in the modem's name for each flow, as a line of `serve`, and deletes nothing by
@@ -104,7 +104,7 @@ def why_not_written(pipe):
     except FileNotFoundError:
         return "it is missing. The channel is not started, or has another name"
     except PermissionError:
-        return "you may not write there. Members of the group _plant_script may"
+        return "you may not write there. Root may, and members of its group"
     except OSError:
         return "nobody reads it: the channel does not run"
     return "it is full: the channel does not read it"
@@ -173,7 +173,7 @@ def judge_answers(path):
     except FileNotFoundError as fault:
         raise Missing(f"there are no answers {path}: the channel has not run, or its settings have another ANSWERS=") from fault
     except PermissionError as fault:
-        raise Missing(f"you may not read {path}: members of the group _plant_script may") from fault
+        raise Missing(f"you may not read {path}: root may, and members of its group") from fault
 
 
 def state_in_folder(folder):
