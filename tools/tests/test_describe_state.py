@@ -191,8 +191,8 @@ class Release(unittest.TestCase):
         for count in range(4):
             records = head.replace("Alfa 5 3 2", f"Alfa 5 0 {count}") + "".join(line + "\n" for line in waiting[:count]) + tail
             before = snapshot_text(records)
-            status, release, _ = released(before)
-            self.assertEqual(status, 0)
+            status, release, errors = released(before)
+            self.assertEqual((status, f"the inbox of operator Alfa has {count} waiting" in errors), (0, count > 0))
             self.assertEqual(sum(line.startswith("M") for line in release), 2)
             found = answers(REFERENCE, before, [*release, "K"])
             self.assertEqual(sum(DELETED.fullmatch(output) is not None for output in found), 2, found)

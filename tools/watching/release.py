@@ -88,6 +88,11 @@ def room_remark(book: Book, done: int, left: int) -> str:
             f"Give this command once more {when}")
 
 
+def inbox_remark(book: Book) -> str:
+    return (f"the inbox of operator {book.row.name} has {len(book.inbox)} waiting, which are handled before these lines. "
+            "The lines Q have no effect but that the deletions are handled, too")
+
+
 def provisioned_remark(flow: Flow) -> str:
     return (f"flow {flow.sfid} is provisioned. A reload or a restart does not bring it back. "
             "It comes back if the channel or its operator begins anew with the plant file")
@@ -101,7 +106,8 @@ def release_of(books: list[Book], address: str) -> Release:
     now = ready[:room_of(book)]
     before, after = moving_lines(book, address) if now else ([], [])
     lines = [*before, *map(deletion, now, free_transactions(book, address)), *after]
-    remarks = [provisioned_remark(flow) for flow in now if flow.provisioned is not None]
+    remarks = [inbox_remark(book)] * bool(before + after)
+    remarks += [provisioned_remark(flow) for flow in now if flow.provisioned is not None]
     remarks += [pending_remark(book, flow) for flow in pending]
     if len(now) < len(ready):
         remarks.append(room_remark(book, len(now), len(ready) - len(now)))
