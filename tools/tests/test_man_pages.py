@@ -97,7 +97,7 @@ class Pages(unittest.TestCase):
         self.assertEqual(self.terms("plant_script-serve.1", "EXIT STATUS"), ["0", "3", "5", "6"])
         self.assertEqual(self.terms("describe_state.1", "EXIT STATUS"), ["0", "1", "2", "3", "4", "6"])
         self.assertEqual(self.terms("plant_view.1", "EXIT STATUS"), ["0", "1", "2"])
-        self.assertEqual(self.terms("dsx.1", "EXIT STATUS"), ["0", "2"])
+        self.assertEqual(self.terms("dsx.1", "EXIT STATUS"), ["0", "2", "6"])
 
     def test_options_of_plant_view(self):
         """The page has the options that the command lists, and no other."""
