@@ -392,6 +392,16 @@ class Files(unittest.TestCase):
         self.assertLessEqual(seen, set(texts))
         self.assertEqual([path.name for path in self.folder.iterdir()], ["east.prom"])
 
+    def test_a_link_in_place_of_the_new_file_is_not_followed(self):
+        target = self.folder / "target"
+        for link in (os.symlink, os.link):
+            target.write_bytes(b"kept")
+            target.chmod(0o600)
+            link(target, self.folder / "east.new")
+            watch_channel.replace_file(self.folder / "east.prom", b"metrics")
+            self.assertEqual((target.read_bytes(), target.stat().st_mode & 0o777), (b"kept", 0o600))
+            self.assertEqual(((self.folder / "east.prom").read_bytes(), (self.folder / "east.prom").is_symlink()), (b"metrics", False))
+
     def test_a_folder_that_is_not_there_ends_it(self):
         with self.assertRaises(watch_channel.Ended) as found:
             watch_channel.replace_file(self.folder / "none/east.prom", b"")

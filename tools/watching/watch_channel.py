@@ -70,12 +70,19 @@ def modems_of_file(path):
         return {}
 
 
+def open_new(name, flags):
+    """Makes a file, and opens it. What has its name is removed before, and a link is not followed."""
+    pathlib.Path(name).unlink(missing_ok=True)
+    return os.open(name, flags | os.O_EXCL | os.O_NOFOLLOW, 0o644)
+
+
 def replace_file(path, data):
     """Replaces a file as a whole: a reader gets the old one or the new one."""
     new = path.with_suffix(".new")
     try:
-        new.write_bytes(data)
-        new.chmod(0o644)
+        with open(new, "wb", opener=open_new) as file:
+            file.write(data)
+            os.fchmod(file.fileno(), 0o644)
         new.replace(path)
     except OSError as fault:
         raise Ended(6, f"cannot write {path}: {fault.strerror}") from fault
