@@ -1,13 +1,14 @@
 """Tries the Debian package in a container under systemd: installs, starts, stops, upgrades, removes and purges it.
 
-    tools/ci/package_trial PACKAGE.deb [--base FOLDER] [--keep]
+    tools/ci/package_trial PACKAGE.deb [--base FOLDER] [--keep] [--only TRIAL ..]
 
 PACKAGE.deb is what tools/build_package built; the tarball must be next to it. The newer package of the upgrade is the same one with a
 later version. FOLDER is a Debian system that debootstrap filled before with the packages that container.py names; it is copied. Without
---base, debootstrap fetches one. --keep keeps the copy, and prints where it is.
+--base, debootstrap fetches one. --keep keeps the copy, and prints where it is. With --only, only these trials of unit_trials.py run, in a
+container in which the package is installed.
 
 Needs root, the network (without --base), and Debian's packages debootstrap, systemd-container, dpkg-dev and lintian. It is no part of
-.ci/run. Prints a line for each trial; exits with 1 if one fails. Takes half a minute with --base.
+.ci/run. Prints a line for each trial; exits with 1 if one fails. Takes four minutes with --base.
 """
 
 import argparse
@@ -21,91 +22,27 @@ import sys
 import tempfile
 import time
 
-from tools import EXAMPLES, ROOT
+from tools import ROOT
 from tools.manual.documents import section
+from tools.packaging import unit_trials
+from tools.packaging.channel_steps import FOLDER, LINES, PLANT, PROGRAM_OF, START, Lines, answers, begin_anew, run_answers, send, set_plant, shown, wait_for_answers, want
 from tools.packaging.container import Container, Failed, fill, run_here
 
 COMMANDS = {"debootstrap": "debootstrap", "systemd-nspawn": "systemd-container", "dpkg-deb": "dpkg-dev", "lintian": "lintian"}
-PLANT, LINES = (EXAMPLES / "isolation/run_flood.txt").read_text().split("---\n")
 MOST_EXPOSURE = 3.0
 WRITE_AT_ONCE = 4_096
 PAGES = ("plant_script", "plant_script-serve", "plant.toml", "describe_state", "plant_view", "dsx")
 PACKAGE = "plant-script"
 NEW_MODEM = "02000000FFFF"
 REQUEST = f"M {NEW_MODEM} 0F0001180A010200010601060F0102\n"
-START = re.compile(r"(?m)^S line (\d+)(?: frame \d+)?\n")
-FOLDER = "/var/lib/plant_script/{}/folder"
-# Finds the program of a channel, whose main process is a script.
-PROGRAM_OF = "for p in /proc/[0-9]*; do case $(tr '\\0' ' ' <$p/cmdline) in *'serve --state /var/lib/plant_script/{}/folder ') echo ${{p#/proc/}} ;; esac; done"
-
-
-def want(condition, what):
-    if not condition:
-        raise Failed(what)
-
-
-def answers(box, channel):
-    return (box.folder / f"var/lib/plant_script/{channel}/answers").read_text()
-
-
-def run_answers(box, lines, plant=PLANT):
-    """Returns what `run` prints for lines."""
-    return box.ask("plant_script run", plant + "---\n" + lines)
-
-
-class Lines:
-    """All lines that a channel with a folder has got, over its starts, and the answers that `serve` gives to them in one run."""
-
-    def __init__(self, channel):
-        self.channel, self.text = channel, ""
-
-    def send(self, box, lines):
-        self.text += lines
-        send(box, self.channel, lines)
-
-    def wait(self, box):
-        wanted = box.ask("plant_script serve", PLANT + "---\n" + self.text)
-        box.wait_until(f"cat /var/lib/plant_script/{self.channel}/answers", lambda output: START.sub("", output) == wanted, f"the answers of {self.channel} are not those of serve")
-
-    def next_line(self):
-        return self.text.count("\n") + 1
-
-    def started(self, box):
-        """Waits for the line of the last start, which must have the number of the next line."""
-        box.wait_until(f"cat /var/lib/plant_script/{self.channel}/answers", lambda output: (START.findall(output) or [""])[-1] == str(self.next_line()),
-                       f"{self.channel} does not go on with line {self.next_line()}")
 
 
 EAST = Lines("east")
 
 
-def begin_anew(box, channel):
-    """Removes the answers and the folder of a channel that is stopped."""
-    box.run(f"rm -rf /var/lib/plant_script/{channel}/answers {FOLDER.format(channel)}")
-
-
 def forget_failures(box):
-    """Resets how often units were started: a unit that is started five times in a minute stays down."""
+    """Resets how often units were started again."""
     box.ask("systemctl reset-failed 'plant@*'")
-
-
-def send(box, channel, lines):
-    """Writes lines into the pipe of a channel, from a client that then leaves."""
-    box.run(f"cat > /run/plant_script/{channel}/in", lines)
-
-
-def shown(box, unit, *names):
-    """Returns properties of a unit, in the order in which they are asked for."""
-    rows = dict(line.split("=", 1) for line in box.run(f"systemctl show {unit} " + " ".join(f"-p {name}" for name in names)).splitlines())
-    return [rows[name] for name in names]
-
-
-def wait_for_answers(box, channel, wanted):
-    box.wait_until(f"cat /var/lib/plant_script/{channel}/answers", lambda output: output == wanted, f"the answers of {channel} are not those of run")
-
-
-def set_plant(box, channel, text=PLANT):
-    box.write(f"/etc/plant_script/{channel}.toml", text)
 
 
 def lintian(package):
@@ -310,7 +247,7 @@ def without_folder(box):
 def watched(box):
     """Lets the unit of the metrics run, and asks the channel for its state in words. The channel goes on if the unit is killed."""
     folder, file = "/var/lib/prometheus/node-exporter", "/var/lib/prometheus/node-exporter/melfjits_east.prom"
-    box.run(f"install --directory --group=_plant_script --mode=0775 {folder}")
+    box.run(f"install --directory --group=_plant_metrics --mode=0775 {folder}")
     box.write("/etc/plant_script/east.env", "SNAPSHOT_SECONDS=1\n")
     box.run("systemctl enable --now plant-metrics@east")
     box.wait_until(f"cat {file}", lambda output: 'melfjits_flows_limit{channel="east",operator="A"}' in output, "no metrics of the state")
@@ -392,17 +329,6 @@ def ticked(box):
     box.run("systemctl disable --now plant-ticker@east")
     want(shown(box, "plant@east", "ActiveState") == ["active"], "the channel ends with its ticker")
     return "the ticker gives a MAP every 2 ms, and follows the channel"
-
-
-def full_disk(box):
-    """Serves a channel whose answers do not fit on the disk."""
-    set_plant(box, "full")
-    box.run("mkdir -p /var/lib/plant_script/full; mount -t tmpfs -o size=64k,nr_inodes=9 none /var/lib/plant_script/full; systemctl start plant@full")
-    send(box, "full", "T\n" * 20_000)
-    box.wait_until("systemctl show -P NRestarts plant@full", lambda output: output != "0\n", "the channel goes on with a full disk")
-    want("status=6" in box.run("journalctl --unit plant@full --output cat --no-pager"), "a full disk is not status 6")
-    box.run("systemctl stop plant@full.socket plant@full; umount /var/lib/plant_script/full; rm -r /var/lib/plant_script/full /etc/plant_script/full.toml")
-    return "a full disk ends the program with status 6, and the unit starts it again"
 
 
 def recorded(box):
@@ -490,7 +416,7 @@ def trials(box, package, work):
     yield lintian(package)
     yield install(box, package)
     for trial in (complete, verify_units, as_the_page_says, first_start, invalid_line, rights, second_channel, realtime, killed, goes_on, reloaded, reasons, changed_while_down, without_folder, watched,
-                  ticked, stopped_at_work, invalid_plant, full_disk, recorded, rebooted):
+                  ticked, stopped_at_work, invalid_plant, *unit_trials.TRIALS, recorded, rebooted):
         forget_failures(box)
         yield trial(box)
     yield upgraded(box, package, work)
@@ -498,11 +424,21 @@ def trials(box, package, work):
     yield from_tarball(box, package)
 
 
+def some_trials(box, package, names):
+    """Yields a line for each trial that is asked for, in a container in which nothing else was tried."""
+    box.copy(package, "/root/package.deb")
+    box.run("dpkg --install /root/package.deb")
+    for trial in unit_trials.TRIALS:
+        if trial.__name__ in names:
+            yield trial(box)
+
+
 def read_arguments():
     ask = argparse.ArgumentParser("package_trial", description=__doc__, formatter_class=argparse.RawDescriptionHelpFormatter)
     ask.add_argument("package", metavar="PACKAGE.deb", type=pathlib.Path, help="the package")
     ask.add_argument("--base", metavar="FOLDER", help="copy this Debian system in place of a new one")
     ask.add_argument("--keep", action="store_true", help="keep the copy, and print where it is")
+    ask.add_argument("--only", nargs="+", metavar="TRIAL", choices=[trial.__name__ for trial in unit_trials.TRIALS], help="run only these trials")
     return ask.parse_args()
 
 
@@ -520,7 +456,7 @@ def main():
         (work / "root").mkdir()
         fill(work / "root", asked.base)
         with Container(work / "root") as box:
-            for line in trials(box, asked.package, work):
+            for line in some_trials(box, asked.package, asked.only) if asked.only else trials(box, asked.package, work):
                 print(line, flush=True)
     except Failed as fault:
         sys.exit(f"package_trial: failed: {fault}")

@@ -457,6 +457,65 @@ class Channel(unittest.TestCase):
         self.refused(self.start(plant="bad", **how))
         self.assertFalse(notified.exists())
 
+    def logged(self, command, status=0):
+        """Puts a command before that of the system that only notes its arguments, and returns the PATH for it and the file of notes."""
+        (self.folder / "bin").mkdir(exist_ok=True)
+        self.write(f"bin/{command}", f'#!/bin/sh\necho "$*" >>"{self.folder}/{command}.log"\nexit {status}\n', 0o755)
+        return f"{self.folder}/bin:{os.environ['PATH']}", self.folder / f"{command}.log"
+
+    def test_starts_that_follow_short_runs_wait_longer_each_time(self):
+        path, log = self.logged("sleep")
+        (self.folder / "runtime").mkdir()
+        how = {"PATH": path, "RUNTIME_DIRECTORY": str(self.folder / "runtime")}
+        said = [self.refused(self.start(plant="bad", **how))[1].splitlines()[0] for _ in range(11)]
+        self.assertEqual(log.read_text().split(), ["1", "2", "4", "8", "15", "15", "15"])
+        self.assertEqual(said[4], "serve_channel: waiting for 1 s: this is start 5 in a row, and each run was short")
+        self.assertEqual(said[3], "fault: plant 1")
+        for seconds in (20, -60):
+            # (a run that was long enough, and a clock that was set back)
+            self.write("runtime/starts", f"11 {int(time.time()) - seconds}\n")
+            self.assertEqual(self.refused(self.start(plant="bad", **how))[1].splitlines()[0], "fault: plant 1")
+        self.write("runtime/starts", f"11 {int(time.time()) - 17}\n")
+        self.assertIn("waiting for 15 s", self.refused(self.start(plant="bad", **how))[1])
+
+    def fill_pipe(self):
+        """Fills the pipe, so that it has no room for a line."""
+        os.set_blocking(self.pipe, False)
+        with contextlib.suppress(BlockingIOError):
+            while True:
+                os.write(self.pipe, b"\n" * 4_096)
+        return self.waiting_bytes()
+
+    def test_a_reload_waits_for_room_in_the_pipe_for_some_seconds_only(self):
+        self.write("answers", "")
+        size, begun = self.fill_pipe(), time.monotonic()
+        status, errors = self.change("a = 2\n", CHANGE_SECONDS="1")
+        self.assertLess(time.monotonic() - begun, 4)
+        self.assertEqual((status, errors.splitlines()[1][:93]), (1, f"serve_channel: nothing is changed: the pipe {self.folder}/in took no line within 1 seconds."[:93]))
+        self.assertEqual((self.waiting_bytes(), list(self.folder.glob("state*"))), (size, []))
+
+    def noted(self, how):
+        """Starts a channel with a watchdog and a script in place of report_progress. Returns what that is given: a process and a folder."""
+        self.write("report_progress", f'#!/bin/sh\necho "$*" >"{self.folder}/reported"\n', 0o755)
+        (self.folder / "runtime").mkdir()
+        process = self.start(WATCHDOG_USEC="30000000", REPORT_PROGRESS=str(self.folder / "report_progress"), RUNTIME_DIRECTORY=str(self.folder / "runtime"), **how)
+        reported = self.folder / "reported"
+        wait_until(lambda: reported.exists() and reported.read_text().endswith("\n"))
+        main, notes = reported.read_text().split()
+        self.assertEqual((int(main), notes), (process.pid, f"{self.folder}/runtime/notes"))
+        return pathlib.Path(notes)
+
+    def commands_of(self, file):
+        """Waits until a file of processes is there, and returns their commands."""
+        wait_until(lambda: file.exists() and file.read_text().endswith("\n"))
+        return [pathlib.Path(f"/proc/{process}/cmdline").read_text().replace("\0", " ").strip() for process in file.read_text().split()]
+
+    def test_the_program_is_noted_for_its_watchdog(self):
+        notes = self.noted({})
+        self.send("one\n")
+        self.wait_for("P a = 1\nP b = 2\nA one\n")
+        self.assertEqual(self.commands_of(notes / "program"), [f"/bin/sh {self.program} serve"])
+
 
 class FolderChannel(Channel):
     """A channel with a folder: its program is started again for a change, and after a failure."""
@@ -483,6 +542,43 @@ class FolderChannel(Channel):
         self.start_and_send()
         self.assertEqual((self.folder / "folder").stat().st_mode & 0o777, 0o700)
         self.assertEqual((self.folder / "folder/journal").read_text().splitlines()[-1], "+one")
+
+    def test_the_name_of_a_new_folder_is_on_the_disk(self):
+        path, log = self.logged("sync")
+        for starts in (1, 2):
+            process = self.start(PATH=path)
+            wait_until(lambda starts=starts: self.answers.exists() and self.answers.read_text().count("S line") == starts)
+            self.stop(process)
+            self.assertEqual(log.read_text(), f"-- {self.folder}\n")
+
+    def test_a_folder_whose_name_cannot_be_written_is_refused(self):
+        status, errors = self.refused(self.start(PATH=self.logged("sync", 1)[0]))
+        self.assertEqual((status, errors.splitlines()[-1]), (6, f"serve_channel: cannot write the folder {self.folder} to the disk: mend the disk"))
+        self.assertFalse((self.folder / "folder/journal").exists())
+
+    def test_a_reload_with_a_folder_waits_for_room_in_the_pipe_for_some_seconds_only(self):
+        self.start_and_send()
+        self.send("hold\n")
+        self.fill_pipe()
+        time.sleep(0.2)
+        size, begun = self.fill_pipe(), time.monotonic()
+        status, errors = self.change("a = 2\n", CHANGE_SECONDS="1")
+        self.assertLess(time.monotonic() - begun, 4)
+        self.assertEqual((status, "took no line within 1 seconds" in errors), (1, True), errors)
+        self.assertEqual((self.waiting_bytes(), (self.folder / "folder.plant").exists()), (size, False))
+
+    def test_the_processes_of_a_folder_are_noted_for_its_watchdog(self):
+        (self.folder / "records").mkdir()
+        for records, recorder in (("", []), (str(self.folder / "records"), ["tee"])):
+            notes = self.noted({"RECORDS": records})
+            self.send("one\n")
+            wait_until(lambda: self.answers.exists() and " one " in self.answers.read_text())
+            self.assertEqual(self.commands_of(notes / "program"), [f"/bin/sh {self.program} serve --state {self.folder}/folder"])
+            self.assertEqual([command.split()[0] for command in self.commands_of(notes / "copiers")], [*recorder, "sed"])
+            os.killpg(int((self.folder / "reported").read_text().split()[0]), signal.SIGKILL)
+            shutil.rmtree(self.folder / "runtime")
+            (self.folder / "reported").unlink()
+            self.answers.unlink()
 
     def test_a_folder_goes_on_after_a_stop_and_keeps_no_state(self):
         process = self.start_and_send()
@@ -691,6 +787,15 @@ class Units(unittest.TestCase):
     def test_an_invalid_plant_file_is_not_tried_again(self):
         self.assertRegex((UNITS / "plant@.service").read_text(), r"(?m)^RestartPreventExitStatus=2 3$")
 
+    @unittest.skipUnless(shutil.which("systemd-analyze"), "systemd-analyze is not installed: the settings of the units were not tested")
+    def test_no_setting_is_unknown(self):
+        """Reads the units as this version of systemd does. Users and commands of the package are not there."""
+        with tempfile.TemporaryDirectory() as folder:
+            units = [pathlib.Path(shutil.copy(path, pathlib.Path(folder, path.name.replace("@.", "@east.")))) for path in UNITS.glob("*@.*")]
+            self.assertEqual(len(units), 4)
+            done = subprocess.run(["systemd-analyze", "verify", "--man=no", *units], capture_output=True, text=True, check=False)
+            self.assertEqual([line for line in done.stderr.splitlines() if folder in line], [])
+
 
 # Each edit of the script is a fault that the test which is named must notice.
 EDITS = [
@@ -724,12 +829,12 @@ EDITS = [
     ("a_reload_changes_the_plant", '    rm -f -- "$change"\n    say', "    say"),
     ("a_stop_within_a_plant_file_keeps_the_state", "end_cut_file; echo K)", "echo K)"),
     ("a_stop_within_a_plant_file_keeps_the_state", "\\n= cut off\\n---", "\\n---"),
-    ("a_reload_changes_the_plant", "    echo P >>", "    echo p >>"),
+    ("a_reload_changes_the_plant", "sh -c 'echo P >>", "sh -c 'echo p >>"),
     ("a_reload_changes_the_plant", "from frame ${answer#P frame } on", "from frame ${answer} on"),
     ("a_refused_change_is_reported", '--bytes="+$(($1 + 1))"', "--bytes=+1"),
     ("a_refused_change_is_reported", "$ANSWERS\"\n        exit 1\n", "$ANSWERS\"\n        exit 0\n"),
-    ("a_change_waits_for_its_answer", "'^P frame '; do\n        ((tries-- > 0)) || return", "'^P frame '; do\n        return 1"),
-    ("no_line_of_a_client_comes_into_a_plant_file", "    echo P >>\"$1\"", "    { echo P; plant_and_separator; } >>\"$1\""),
+    ("a_change_waits_for_its_answer", "'^P frame '; do\n        ! is_late \"${CHANGE_SECONDS-5}\" || return", "'^P frame '; do\n        return 1"),
+    ("no_line_of_a_client_comes_into_a_plant_file", "sh -c 'echo P >>\"$1\"' sh \"$1\"\n", "true; { echo P; plant_and_separator; } >>\"$1\"\n"),
     ("an_invalid_plant_file_is_not_sent", "    check_plant 4\n    before", "    before"),
     ("a_client_changes_no_plant", '[ -z "$change" ] || rm -f -- "$change"\n', ""),
     ("a_channel_without_a_state_is_not_changed", '[ -z "$change" ] || script=', "script="),
@@ -738,7 +843,7 @@ EDITS = [
     ("a_channel_without_a_state_is_not_changed", '"${ANSWERS-}" ] || [ ! -p "$1" ]', '"${ANSWERS-}" ]'),
     ("each_start_records_all_input", "$(date --utc +%Y%m%dT%H%M%S.%3NZ)", "record"),
     ("the_end_of_the_program_is_the_end_of_the_script", 'exec "$program" serve < ', '"$program" serve < '),
-    ("readiness_is_reported_once_the_plant_file_is_checked", "systemd-notify --ready", "true --ready"),
+    ("readiness_is_reported_once_the_plant_file_is_checked", "    notify --ready", "    true --ready"),
     ("reasons_have_priorities_in_the_journal", "trap - TERM && give_input) 2> >(pass_on)", "trap - TERM && give_input)"),
     ("reasons_have_priorities_in_the_journal", "/^ok\\$/!s", "s"),
     ("reasons_have_priorities_in_the_journal", 'check_plant 3\n', 'check_plant 4\n'),
@@ -749,6 +854,15 @@ EDITS = [
     ("a_journal_that_takes_nothing_stops_no_line", "end_cut_file; echo K) 2> >(pass_on)", "end_cut_file; echo K) 2> >(exec cat >&2)"),
     ("the_channel_goes_on_without_the_process_that_passes_reasons", '        exec "$pass_reasons"', '        "$pass_reasons"'),
     ("without_that_script_reasons_are_passed_as_they_are", ' && [ -x "$pass_reasons" ]', ""),
+    ("starts_that_follow_short_runs_wait_longer_each_time", "EPOCHSECONDS < last || ", ""),
+    ("starts_that_follow_short_runs_wait_longer_each_time", ">= last + 20", ">= last + 15"),
+    ("starts_that_follow_short_runs_wait_longer_each_time", "count < 8 ? 1 << count - 4 : 15", "count < 9 ? 1 << count - 4 : 15"),
+    ("starts_that_follow_short_runs_wait_longer_each_time", 'echo "$((count + 1)) $EPOCHSECONDS" >', 'echo "5 $EPOCHSECONDS" >'),
+    ("a_reload_waits_for_room_in_the_pipe_for_some_seconds_only", 'timeout "$(($2 ? $2 : 1))" sh', "sh"),
+    ("a_reload_waits_for_room_in_the_pipe_for_some_seconds_only", '    rm -f -- "$change"\n    [ "$status" = 124 ]', '    [ "$status" = 124 ]'),
+    ("a_reload_waits_for_room_in_the_pipe_for_some_seconds_only", '    [ "$status" = 124 ] || exit 6\n', "    exit 6\n"),
+    ("the_program_is_noted_for_its_watchdog", 'echo "$$" >"$notes/program"', "true"),
+    ("the_program_is_noted_for_its_watchdog", '"$$" "$notes" <&0', '"$BASHPID" "$notes" <&0'),
     ("wrong_arguments_are_refused", "    exit 2\nfi\n\n# Keeps", "    exit 1\nfi\n\n# Keeps"),
     ("wrong_arguments_are_refused", ' || [ "$1" = --change ]', ""),
     ("wrong_arguments_are_refused", '[ "$#:${1-}" != 3:--change ]', "[ $# != 3 ]"),
@@ -759,7 +873,7 @@ FOLDER_EDITS = [
     ("a_folder_goes_on_after_a_stop_and_keeps_no_state", '[ -z "$folder" ] && ', ""),
     ("a_folder_goes_on_after_a_program_that_was_killed", '    [ "$status" = 0 ] || kill "$copier" 2>/dev/null\n', ""),
     ("a_folder_goes_on_after_a_program_that_was_killed", '    exit "$status"\n}\n\nif [ -n "$folder" ]', '    exit\n}\n\nif [ -n "$folder" ]'),
-    ("a_stop_with_a_folder_answers_what_has_come", "(trap '' TERM; \"$program\"", '("$program"'),
+    ("a_stop_with_a_folder_answers_what_has_come", "(trap '' TERM; run_program", "(run_program"),
     ("a_stop_with_a_folder_answers_what_has_come", 'while kill -0 "$server" 2>/dev/null; do wait "$server"; done', 'wait "$server"'),
     ("a_stop_with_a_folder_answers_what_has_come", "    trap stop TERM\n", ""),
     ("a_stop_before_the_first_line_is_copied", '    [ -z "$stopping" ] || kill "$copier"\n', ""),
@@ -778,15 +892,21 @@ FOLDER_EDITS = [
     ("a_reload_of_no_channel", '[ ! -f "$folder/journal" ] || ', ""),
     ("a_start_takes_a_changed_plant_file", "    open_folder\n", ""),
     ("a_start_whose_change_is_refused_says_what_to_do", '$folder/journal"\n    exit "$status"\n', '$folder/journal"\n    exit 1\n'),
-    ("a_start_whose_change_is_refused_says_what_to_do", "    open_folder\n    notify\n", "    notify\n    open_folder\n"),
+    ("a_start_whose_change_is_refused_says_what_to_do", "    open_folder\n    report_ready\n", "    report_ready\n    open_folder\n"),
     ("a_folder_that_is_in_use_is_refused", '$folder/journal"\n    exit "$status"\n', '$folder/journal"\n    exit 3\n'),
-    ("readiness_is_reported_once_the_folder_is_open", "    open_folder\n    notify\n", "    open_folder\n"),
+    ("readiness_is_reported_once_the_folder_is_open", "    open_folder\n    report_ready\n", "    open_folder\n"),
     ("each_start_with_a_folder_records_its_input", '        exec 9> >(trap \'\' TERM; exec tee -- "$(new_record)" >&9 9>&-)\n', "        true\n"),
     ("a_stop_with_a_folder_answers_what_has_come", "server=$!\n", "server=''\n"),
-    ("reasons_of_a_folder_have_priorities", '"$folder" 2> >(pass_on);', '"$folder";'),
+    ("reasons_of_a_folder_have_priorities", 'exec "$program" serve --state "$folder" 2> >(pass_on)', 'exec "$program" serve --state "$folder"'),
     ("a_state_that_a_new_folder_does_not_take_is_reported", '[ ! -s "$folder/journal" ]', "false"),
     ("reasons_of_a_folder_have_priorities", "| with_priority 4", "| with_priority 3"),
     ("reasons_of_a_folder_have_priorities", "| with_priority 3", "| with_priority 4"),
+    ("the_name_of_a_new_folder_is_on_the_disk", '! sync -- "$above"', '! sync -- "$folder"'),
+    ("the_name_of_a_new_folder_is_on_the_disk", '[ ! -e "$folder/journal" ] && ', ""),
+    ("a_folder_whose_name_cannot_be_written_is_refused", '! sync -- "$above"', '! { sync -- "$above" || true; }'),
+    ("a_reload_with_a_folder_waits_for_room_in_the_pipe_for_some_seconds_only", 'timeout "$(($2 ? $2 : 1))" sh', "sh"),
+    ("the_processes_of_a_folder_are_noted_for_its_watchdog", 'echo "$BASHPID" >"$notes/program"', 'echo "$$" >"$notes/program"'),
+    ("the_processes_of_a_folder_are_noted_for_its_watchdog", 'echo "$recorder $copier" >', 'echo "$copier $recorder" >'),
 ]
 
 
