@@ -7,7 +7,7 @@ import re
 import time
 
 from tools import ROOT
-from tools.manual.documents import section
+from tools.manual.documents import section, without_subsections
 
 from .channel_steps import LINES, PLANT, PROGRAM_OF, answers, begin_anew, run_answers, send, set_plant, shown, want
 
@@ -212,7 +212,7 @@ def metrics_folder(box):
     folder = "/var/lib/prometheus/node-exporter"
     box.run(f"mkdir -p {folder}")
     set_plant(box, "east")
-    box.run("set -e\n" + "\n".join(line for line in section(ROOT, "docs/OPERATING.md#metrics") if line.startswith("    ")))
+    box.run("set -e\n" + "\n".join(line for line in without_subsections(section(ROOT, "docs/OPERATING.md#metrics")) if line.startswith("    ")))
     box.wait_until(f"cat {folder}/melfjits_east.prom", lambda output: "melfjits_build_info" in output, "no metrics")
     box.run("useradd --groups _plant_script client")
     want(not may(box, "client", f"ln -s /etc/hostname {folder}/link"), "a client may make a link in the folder of the metrics")

@@ -4,6 +4,7 @@ tools/ci/package_trial tries it under systemd with the real program.
 """
 
 import contextlib
+import io
 import os
 import pathlib
 import re
@@ -16,6 +17,7 @@ import unittest
 from tools import ROOT
 
 SCRIPT = ROOT / "packaging/report_progress"
+TEXTS = {"report_progress": SCRIPT.read_text()}
 SECONDS = 10
 WATCHDOG_USEC = 400_000
 # The time of some looks.
@@ -47,6 +49,9 @@ class Progress(unittest.TestCase):
         (self.folder / "bin").mkdir()
         (self.folder / "bin/systemd-notify").write_text(f'#!/bin/sh\necho "$*" >>"{self.folder}/notified"\n')
         (self.folder / "bin/systemd-notify").chmod(0o755)
+        self.path = self.folder / "report_progress"
+        self.path.write_text(TEXTS["report_progress"])
+        self.path.chmod(0o755)
         self.main = self.process(["sleep", "1000"])
 
     def process(self, words, **how):
@@ -76,7 +81,7 @@ class Progress(unittest.TestCase):
         for name, processes in (("program", [program] if program else []), ("copiers", copiers)):
             (self.folder / name).write_text(" ".join(map(str, processes)) + "\n")
         environment = {"PATH": f"{self.folder}/bin:{os.environ['PATH']}", "WATCHDOG_USEC": str(WATCHDOG_USEC), "JOURNAL_STREAM": "8:1"}
-        self.script = self.process([SCRIPT, str(self.main.pid), self.folder], stdin=self.lines, stderr=subprocess.PIPE, text=True, env=environment)
+        self.script = self.process([self.path, str(self.main.pid), self.folder], stdin=self.lines, stderr=subprocess.PIPE, text=True, env=environment)
         wait_until(lambda: self.count() > 0)
 
     def count(self):
@@ -113,15 +118,22 @@ class Progress(unittest.TestCase):
 
     def test_a_stopped_program_makes_none_until_it_goes_on(self):
         self.channel()
-        self.stop(self.program)
-        self.send("T\n")
-        self.assertFalse(self.is_reported())
-        os.kill(self.program.pid, signal.SIGCONT)
-        self.assertTrue(self.is_reported())
+        for _ in range(2):
+            self.stop(self.program)
+            self.send("T\n")
+            self.assertFalse(self.is_reported())
+            os.kill(self.program.pid, signal.SIGCONT)
+            self.assertTrue(self.is_reported())
         self.end(self.main)
         self.assertEqual(self.script.wait(SECONDS), 0)
         self.assertEqual(self.script.stderr.read(), f"<4>report_progress: process {self.program.pid} has lines to read, and was not scheduled for a while (state T): "
-                         "the channel is started again unless it goes on\n")
+                         "the channel is started again unless it goes on\n" * 2)
+
+    def test_a_program_that_is_slow_makes_progress(self):
+        """Lines wait all the time, and at each look the program sleeps."""
+        self.channel(("sh", "-c", "while read -r line; do sleep 0.05; done"))
+        self.send("T\n" * 1_000)
+        self.assertTrue(self.is_reported())
 
     def test_a_program_that_waits_for_ever_makes_none(self):
         self.channel(("sh", "-c", "read -r line; exec sleep 1000"))
@@ -178,5 +190,40 @@ class Progress(unittest.TestCase):
 
     def test_wrong_arguments_are_refused(self):
         for words, number in ((["1"], "30000000"), (["1", "2", "3"], "30000000"), (["1", "2"], ""), (["1", "2"], "0"), (["1", "2"], "1s")):
-            done = subprocess.run([SCRIPT, *words], env={"PATH": os.environ["PATH"], "WATCHDOG_USEC": number}, capture_output=True, text=True, timeout=SECONDS, check=False)
+            done = subprocess.run([self.path, *words], env={"PATH": os.environ["PATH"], "WATCHDOG_USEC": number}, capture_output=True, text=True, timeout=SECONDS, check=False)
             self.assertEqual((done.returncode, done.stderr), (2, "report_progress: usage: WATCHDOG_USEC=NUMBER report_progress MAIN NOTES\n"))
+
+
+# Each edit of the script is a fault that the test which is named must notice.
+EDITS = [
+    ("a_stopped_program_makes_none_until_it_goes_on", 'seen[$1]=$switches\n', "seen[$1]=''\n"),
+    ("a_program_that_is_slow_makes_progress", "    *ctxt_switches:)", "    none:)"),
+    ("a_stopped_program_makes_none_until_it_goes_on", "        missed=0\n", ""),
+    ("a_stopped_program_makes_none_until_it_goes_on", "done\nexit 0\n", "done\n"),
+    ("a_program_that_waits_for_ever_makes_none", "!= [StT] ]]", "!= [tT] ]]"),
+    ("a_stopped_copying_process_makes_none", "for process in $program $copiers", "for process in $program"),
+    ("a_stopped_copying_process_makes_none", ' || ! has_input "$process" || hanging', " || hanging"),
+    ("a_stopped_script_makes_none", "hanging=$main", "true"),
+    ("a_program_that_computes_makes_progress_though_lines_wait", ' || [ -z "$is_read" ]', ""),
+    ("a_program_that_computes_makes_progress_though_lines_wait", "is_read=''; else", "is_read=yes; else"),
+    ("a_program_that_waits_for_a_disk_makes_progress", "!= [StT] ]]", "!= [DStT] ]]"),
+    ("a_channel_that_handles_lines_makes_progress", "WATCHDOG_USEC / 4000000)) $((WATCHDOG_USEC / 4 ", "WATCHDOG_USEC / 1000000)) $((WATCHDOG_USEC "),
+    ("without_a_copying_process_the_program_alone_is_looked_at", '0<>"/proc/$1/fd/0"', "0<&0"),
+    ("wrong_arguments_are_refused", "[1-9][0-9]{3,12}$", "[0-9]+"),
+]
+
+
+def is_noticed(test, old, new):
+    """Returns whether a test fails once the script has the edit."""
+    text = TEXTS["report_progress"]
+    assert text.count(old) == 1, f"report_progress has {text.count(old)} times: {old}"
+    TEXTS["report_progress"] = text.replace(old, new)
+    try:
+        return not unittest.TextTestRunner(stream=io.StringIO()).run(Progress(f"test_{test}")).wasSuccessful()
+    finally:
+        TEXTS["report_progress"] = text
+
+
+class Edits(unittest.TestCase):
+    def test_each_edit_is_noticed(self):
+        self.assertEqual([edit for edit in EDITS if not is_noticed(*edit)], [])
