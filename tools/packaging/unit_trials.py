@@ -7,6 +7,7 @@ import re
 import time
 
 from tools import ROOT
+from tools.generator.plant_text import channel_text, operator_text
 from tools.manual.documents import section, without_subsections
 
 from .channel_steps import LINES, PLANT, PROGRAM_OF, answers, begin_anew, run_answers, send, set_plant, shown, want
@@ -17,6 +18,9 @@ RESTARTS = 7
 WATCHDOG_SECONDS = 2
 LONGEST_LINE = 4_096
 FRAMES_IN_JOURNAL = 30_000
+OPERATORS, SLICE = 32, 124
+MEMORY_LIMIT = 536_870_912
+LITTLE_MEMORY = 3_000_000
 STOP_COPIER = "for p in /proc/[0-9]*; do case $(tr '\\0' ' ' <$p/cmdline) in 'sed --unbuffered '*) kill -STOP ${p#/proc/} ;; esac; done"
 # Writes lines without an answer of a frame until the pipe is full, and waits for nothing.
 FILL = f"""python3 -c "
@@ -102,6 +106,21 @@ def answers_of(box, channel):
     return box.run(f"cat /var/lib/plant_script/{channel}/answers")
 
 
+def many_failures(box):
+    """Kills the program of a channel again and again. It is always started again, and its ticker as well."""
+    set_plant(box, "weak")
+    box.run("systemctl start plant@weak; systemctl enable --now plant-ticker@weak")
+    for count in range(1, RESTARTS + 1):
+        box.run(f"kill -KILL $({PROGRAM_OF.format('weak')})")
+        wait_for_restarts(box, "weak", count, f"a channel that was killed is not started again after {count - 1} times")
+        box.wait_until("systemctl is-active plant@weak plant-ticker@weak", lambda output: output == "active\n" * 2, f"channel and ticker are not both there after {count} times")
+        box.wait_until(PROGRAM_OF.format("weak"), str.strip, "no program")
+    wait_for_map(box, "weak", answers(box, "weak").count("MAP ") + 100)
+    box.run("systemctl disable plant-ticker@weak")
+    remove_channel(box, "weak")
+    return f"a channel and its ticker are back after {RESTARTS} failures in a row"
+
+
 def no_pipe(box):
     """Puts a file, links and a folder in place of the pipe of a channel that is down. The start makes the pipe all the same, and keeps one."""
     set_plant(box, "spot")
@@ -183,6 +202,32 @@ def answers_in_journal(box):
     return f"answers that go to the journal are all there ({FRAMES_IN_JOURNAL} MAPs at once)"
 
 
+def large_plant():
+    """Returns a plant file of 32 operators with 1,024 modems each."""
+    text = channel_text(4096, 0)
+    for place in range(OPERATORS):
+        addresses = [f"02{place + 1:02X}{number:08X}" for number in range(1024)]
+        text += operator_text(f"OP{place + 1}", addresses, (place * SLICE, SLICE), (1 + place * 128, (place + 1) * 128), 1)
+    return text
+
+
+def memory(box):
+    """Starts a channel with too little memory: the program says so, and ends by itself. With the limit of the unit it goes on."""
+    set_plant(box, "lean", large_plant())
+    drop_in(box, "plant@lean.service", f"[Service]\nLimitDATA={LITTLE_MEMORY}\n")
+    want(box.status_of("systemctl start plant@lean")[0], "a channel with too little memory starts")
+    wait_for_restarts(box, "lean", 2, "a channel with too little memory is not started again")
+    log = box.run("journalctl --unit plant@lean --output cat --no-pager")
+    want("fault: memory" in log and "status=5" in log, f"the journal has no fault: memory:\n{log[-1000:]}")
+    box.run("rm -r /etc/systemd/system/plant@lean.service.d; systemctl daemon-reload")
+    box.wait_until("systemctl is-active plant@lean", lambda output: output == "active\n", "the channel is not back with more memory")
+    first_map(box, "lean")
+    limits = box.run(f"cat /proc/$({PROGRAM_OF.format('lean')})/limits")
+    want(re.search(rf"(?m)^Max data size +{MEMORY_LIMIT} ", limits), f"the program has another limit:\n{limits}")
+    remove_channel(box, "lean")
+    return "a channel with too little memory says fault: memory, and goes on once it has more"
+
+
 def may(box, user, script):
     return box.status_of(f"runuser -u {user} -- sh -c '{script}'")[0] == 0
 
@@ -227,4 +272,4 @@ def metrics_folder(box):
     return "a client makes no link in the folder of the metrics, and they are written through none"
 
 
-TRIALS = (full_disk, no_pipe, hanging, full_pipe, answers_in_journal, groups, metrics_folder)
+TRIALS = (full_disk, many_failures, no_pipe, hanging, full_pipe, answers_in_journal, memory, groups, metrics_folder)
