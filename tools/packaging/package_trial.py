@@ -8,7 +8,7 @@ later version. FOLDER is a Debian system that debootstrap filled before with the
 container in which the package is installed.
 
 Needs root, the network (without --base), and Debian's packages debootstrap, systemd-container, dpkg-dev and lintian. It is no part of
-.ci/run. Prints a line for each trial; exits with 1 if one fails. Takes four minutes with --base.
+.ci/run. Prints a line for each trial; exits with 1 if one fails. Takes three minutes with --base.
 """
 
 import argparse
@@ -58,7 +58,7 @@ def install(box, package):
     build = dict(line.split(": ", 1) for line in box.run(f"cat /usr/share/doc/{PACKAGE}/build.txt").splitlines())
     want(box.run(f"dpkg-query -W -f '${{Version}}' {PACKAGE}") == build["version"], "build.txt has another version")
     want(hashlib.sha256((box.folder / "usr/bin/plant_script").read_bytes()).hexdigest() in build["program"], "build.txt is of another program")
-    want("plant_script <COMMAND>" in box.run("plant_script --help"), "the program has no help")
+    want("Usage: plant_script [OPTIONS] <COMMAND>" in box.run("plant_script --help"), "the program has no help")
     for page in PAGES:
         want("Melfjits" in box.run(f"man {page}"), f"the page {page} has no text")
     want(box.run("stat -c '%U %a' /etc/plant_script /var/lib/plant_script /run/plant_script").splitlines() == ["root 755"] * 3, "the folders are not root's")
