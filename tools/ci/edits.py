@@ -65,7 +65,8 @@ def refused_goals(crate, path, report, printed):
     answers = re.findall(rf"`{own}(?:Answers|Invariants|Proof)\.([^`]*)`", report.said.partition("it calls")[0])
     errors = collections.defaultdict(list)
     folder = re.escape(f"./proofs/{path.replace('::', '/')}/")
-    for goal, error in re.findall(rf"^{folder}\w+\.antt:\d+:\d+: error: `([^`]*)`: (.*)", printed, re.MULTILINE):
+    # An error may go on in lines that are indented.
+    for goal, error in re.findall(rf"^{folder}\w+\.antt:\d+:\d+: error: `([^`]*)`: (.*(?:\n  .*)*)", printed, re.MULTILINE):
         errors[goal].append(error)
     refused = [goal for goal in answers if not errors[goal] or not all(map(NOT_FOUND.search, errors[goal]))]
     searched = re.findall(r"`search` did not prove `([^`]*)`", report.said)
@@ -88,7 +89,7 @@ def judged(edit, reports, printed):
 def unjudged(edit, reports, printed):
     """Returns what became of an edit that was tried alone, where the prover did not judge the functions that it changes."""
     lines = printed.splitlines()
-    errors = [line for line in lines if re.match(r"\S+: error\b|error\b", line)]
+    errors = re.findall(r"^(?:\S+: )?error\b.*(?:\n  .*)*", printed, re.MULTILINE)
     said = [f"{path}: {reports[path].said}" for path in edit.functions if path in reports]
     if errors and said and all(NOT_FOUND.search(error) for error in errors) and not edit.is_harmless:
         return Outcome(False, f"SAYS LITTLE: a proof file names what it takes away. Change a value and keep the names: {errors[0][:400]}")

@@ -326,6 +326,16 @@ class Trying(unittest.TestCase):
         said = self.tried(kit, [edit_of("one", "f")])["one"].said
         self.assertTrue(said.startswith("SAYS LITTLE: a proof file names what it takes away."), said)
 
+    def test_an_error_may_say_on_its_second_line_that_a_name_is_gone(self):
+        class Naming(Kit):
+            def check(self, crate, texts, functions):
+                gone = "./proofs/f/Answers.antt:1:1: error: `returns`: record `Lts.View` (nearest: `ack`)\n  has no field `ack_of`\n"
+                return gone + super().check(crate, texts, functions)
+
+        kit = Naming(lambda path, _: "not proved; it stands on `Rattle.lists.proofs.f.Answers.returns`, which antt refuses")
+        said = self.tried(kit, [edit_of("one", "f")])["one"].said
+        self.assertTrue(said.startswith("SAYS LITTLE: a proof file names what it takes away."), said)
+
     def test_a_limit_of_the_prover_is_no_refusal(self):
         outcomes = self.tried(Kit(lambda path, _: "could not tell"), [edit_of("one", "f")])
         self.assertEqual((outcomes["one"].is_right, outcomes["one"].said), (False, "NOT JUDGED: f: could not tell"))
