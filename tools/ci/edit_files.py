@@ -215,27 +215,18 @@ def adds_form(pairs):
     )
 
 
-def without_twin(path):
-    """Returns the edits that a file lists as those without a twin."""
-    lines = path.read_text().splitlines() if path.exists() else []
-    return {line for line in lines if line and not line.startswith("#")}
-
-
-def twin_faults(root, crates, path):
-    """Returns which edits add a loop or a call and have no twin, except for those that a file lists, and which of these need no place there."""
-    faults, listed = [], without_twin(path)
+def twin_faults(root, crates):
+    """Returns which edits add a loop or a call and have no twin."""
+    faults = []
     for crate in crates:
         for file in edit_paths(root, crate):
             try:
                 pairs, twins, _ = pairs_of(lines_of(file))
             except WrongEdit:
                 continue
-            name = f"{crate}/{file.stem}"
-            if not twins and adds_form(pairs) and name not in listed:
-                faults.append(f"{name} adds a loop or a call and has no line `twin:`")
-            elif not twins and adds_form(pairs):
-                listed.discard(name)
-    return faults + [f"{path.name} has {name}, which is gone or needs no twin" for name in sorted(listed)]
+            if not twins and adds_form(pairs):
+                faults.append(f"{crate}/{file.stem} adds a loop or a call and has no line `twin:`")
+    return faults
 
 
 def strays(root, crates):

@@ -24,8 +24,8 @@ tried as they are only with --unedited. --unedited leaves out the edits themselv
 
 Prints for each edit the function and the goals that the prover refused. Exits with 1 if an edit is not refused, cannot be applied, does not
 compile or is not judged, or if a twin or a function as it is is not proved. Without names it also compares the number of edits of each crate
-with tools/ci/edit_counts.txt, and exits with 1 if they differ, or if an edit adds a loop or a call, has no twin and is not in
-tools/ci/edits_without_twin.txt. --check does only this, and reads all edits. --counts writes that file.
+with tools/ci/edit_counts.txt, and exits with 1 if they differ, or if an edit adds a loop or a call and has no twin. --check does only
+this, and reads all edits. --counts writes that file.
 """
 
 import argparse
@@ -46,7 +46,6 @@ from tools.proving.prover import Prover, crates_of, is_proved, kit_folder, repor
 
 ROOT = pathlib.Path(__file__).resolve().parents[2]
 COUNTS = "tools/ci/edit_counts.txt"
-WITHOUT_TWIN = "tools/ci/edits_without_twin.txt"
 PROVED = re.compile(r"rt: (\w+) (?:proved|is kept)\b")
 NOT_FOUND = re.compile(r"has no field|is not in scope|has no `|was not admitted|has-holes")
 
@@ -261,7 +260,7 @@ def print_lines(lines):
 
 def list_faults(crates):
     """Returns what is wrong with the list of all edits."""
-    return [*edit_files.count_faults(ROOT, crates, ROOT / COUNTS), *edit_files.twin_faults(ROOT, crates, ROOT / WITHOUT_TWIN)]
+    return [*edit_files.count_faults(ROOT, crates, ROOT / COUNTS), *edit_files.twin_faults(ROOT, crates)]
 
 
 def check(crates, edits, broken):
