@@ -58,7 +58,7 @@ from tools.reference.encodings import REFERENCE, SFID, number_of, split_tlvs, tl
 from tools.reference.messages import DSA_REQ, DSC_REQ, FLOW, LEFT_OUT, OKAY, write_number
 
 from .streams import InputLines, copied, report
-from .words import WordsFault, number, octets, parted, shortened
+from .words import WordsFault, number, octets, key_and_value, shortened
 
 UP_CLASSIFIER, DOWN_CLASSIFIER, DOWN_FLOW, SUPPRESSION, HMAC, KEY = 22, 23, 25, 26, 27, 31
 CLASSIFIERS = (UP_CLASSIFIER, DOWN_CLASSIFIER)
@@ -210,7 +210,7 @@ def read_words(words):
     """Returns what words say, once they fit together."""
     stated = {}
     for word in words:
-        key, value = parted(word)
+        key, value = key_and_value(word)
         if key not in WORDS:
             raise WordsFault(f"{shortened(word)}: no such word; there are {', '.join(f'{known}=' for known in WORDS)}")
         if key in stated:

@@ -77,7 +77,7 @@ def bytes_of_message(words):
         raise WordsFault(f"{words[0] if words else 'no word'}: " + nearest(words[0] if words else "", "message", [*KINDS]))
     widths, stated, others = dict(kind.fixed), {}, []
     for word in words[1:]:
-        key, value = parted(word)
+        key, value = key_and_value(word)
         if key not in widths:
             others.append(word)
         elif key in stated:
@@ -93,16 +93,16 @@ def bytes_of_message(words):
 
 def bytes_behind(kind, words):
     """Returns the bytes that follow a fixed part and are not read."""
-    if any(parted(word)[0] != REST for word in words) or len(words) > 1:
+    if any(key_and_value(word)[0] != REST for word in words) or len(words) > 1:
         raise WordsFault(f"{words[0]}: {kind} takes no such word")
-    return b"".join(octets(word, parted(word)[1]) for word in words)
+    return b"".join(octets(word, key_and_value(word)[1]) for word in words)
 
 
 def bytes_of_tlvs(words):
     """Returns the TLVs of a message: encodings and others."""
     done, encoding = b"", None
     for word in words:
-        key, value = parted(word)
+        key, value = key_and_value(word)
         if key == "flow" or key == REST or key.startswith("tlv"):
             done, encoding = done + closed(encoding), [] if key == "flow" else None
             done += b"" if key == "flow" else other_bytes(word, key, value)
@@ -130,7 +130,7 @@ def bytes_of_flow(words):
     """Returns a flow encoding as a plant file has it, without the type and length before it."""
     stated, data = set(), b""
     for word in words:
-        key, value = parted(word)
+        key, value = key_and_value(word)
         if key == CUT:
             data += octets(word, value)
         elif key.isdigit():
@@ -171,7 +171,7 @@ def error_value(word, value):
     return bytes([1, 1, number(word, subtype, 1), 2, 1, number(word, code, 1)])
 
 
-def parted(word):
+def key_and_value(word):
     key, _, value = word.partition("=")
     return key, value
 
