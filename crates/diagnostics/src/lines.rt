@@ -6,7 +6,7 @@ use crate::joint::name_of;
 use crate::reason::{GapText, Reason};
 use crate::report::Report;
 use crate::values::say_address;
-use plant::{OperatorRow, Plant};
+use plant::{OperatorRow, Plant, Routes};
 use script_format::{FieldError, FieldFault, LineStep, NumberName, message_in, put_line};
 
 /// Returns the field of a line, counted from 0; an empty one where there is none.
@@ -244,7 +244,7 @@ fn add_fault<'a>(
 /// dashes has the number `bar`.
 pub(crate) fn steps_of(
     report: &mut Report,
-    plant: &Plant,
+    routes: &mut Routes,
     script: &str,
     bar: usize,
 ) -> Vec<LineStep> {
@@ -254,11 +254,11 @@ pub(crate) fn steps_of(
     for line in script.split('\n') {
         number = number.saturating_add(1);
         let bytes = line.as_bytes();
-        match put_line(alloc, plant, number, bytes, &mut fields, &mut steps) {
+        match put_line(alloc, routes, number, bytes, &mut fields, &mut steps) {
             Ok(()) => {}
             Err(fault) => {
                 steps.clear();
-                add_fault(report, plant, bar, number, line, fault);
+                add_fault(report, routes.plant(), bar, number, line, fault);
             }
         }
     }

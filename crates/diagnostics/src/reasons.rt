@@ -10,7 +10,7 @@ use crate::refusals::refused_of;
 use crate::report::Report;
 use crate::unread::say_all_unread;
 use command_line::{BatchWord, RunReport, Word, text_of_wrong};
-use plant::Plant;
+use plant::{Plant, Routes};
 use script_format::LineStep;
 use slice_table::{PlantFault, read_plant};
 use std::alloc::{AllocError, Global};
@@ -66,9 +66,13 @@ pub fn reason_of_words<'a>(alloc: Global, words: &'a [&'a str]) -> Result<String
 fn say_script(reason: &mut Reason, plant: Plant, parts: &InputParts<'_>) {
     let script = parts.script.unwrap_or("");
     let mut report = Report::new(reason.alloc, MOST_LINES);
-    let steps = steps_of(&mut report, &plant, script, parts.bar());
+    let Ok(mut routes) = Routes::new(reason.alloc, plant) else {
+        reason.is_lost = true;
+        return;
+    };
+    let steps = steps_of(&mut report, &mut routes, script, parts.bar());
     if report.is_empty() {
-        say_refused(reason, plant, parts, steps);
+        say_refused(reason, routes.into_plant(), parts, steps);
     } else {
         report.say(reason, "invalid line", "invalid lines");
     }

@@ -211,7 +211,12 @@ fn say_core(reason: &mut Reason, core: &mut LiveCore, asked: &Asked, fault: Core
 /// Runs steps up to the first that is refused. Returns the number of its line, and the reason says why.
 fn first_refused(reason: &mut Reason, core: &mut LiveCore, steps: Vec<LineStep>) -> u64 {
     let mut outs = Vec::new(reason.alloc);
-    for LineStep { number, step } in steps {
+    for LineStep {
+        number,
+        step,
+        place: _,
+    } in steps
+    {
         let asked = asked_of(reason, &step);
         if let Err(fault) = core.step_over(reason.alloc, step, &mut outs) {
             say_core(reason, core, &asked, fault);

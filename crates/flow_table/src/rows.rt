@@ -381,6 +381,7 @@ fn end_of_packed(flows: &BTreeMap<u32, Box<Flow>>, first: u32) -> Option<u64>
 }
 
 /// Returns the flow of an SFID as it is scheduled, where it has an active set.
+#[inline(always)]
 fn scheduled_at(flows: &BTreeMap<u32, Box<Flow>>, sfid: u32) -> Option<Flowing>
     ensures { result ≡ scheduled_if sfid (flow_at sfid (flows_of flows.now.entries)) }
 {
@@ -389,6 +390,7 @@ fn scheduled_at(flows: &BTreeMap<u32, Box<Flow>>, sfid: u32) -> Option<Flowing>
 }
 
 /// Returns a flow as it is scheduled, where it has an active set.
+#[inline(always)]
 fn flowing_of(sfid: u32, flow: &Flow) -> Option<Flowing>
     ensures { result ≡ flowing_of_set sfid flow.now flow.now.sets.active }
 {

@@ -7,6 +7,7 @@ ghost use Rattle.live_core.specs.LiveView.{live_view};
 ghost use Rattle.live_core.specs.Following.{FollowRows};
 ghost use Rattle.lists.specs.Results.{Gives};
 ghost use Rattle.script_format.specs.Fields.{field_cause};
+ghost use Rattle.script_format.specs.Script.{ArePlaced};
 ghost use Rattle.script_format.specs.declared.fields.FieldFault.TheVariants.{NoMemory};
 ghost use Rattle.line_service.specs.Service.{steps_said, end_text};
 ghost use Rattle.line_service.specs.Ends.{line_outcome};
@@ -19,7 +20,7 @@ use crate::step_notes::StepNotes;
 use crate::steps_end::{StepsEnd, end_of};
 use grant_policy::{Policy, Ranks};
 use live_core::LiveCore;
-use plant::Plant;
+use plant::Routing;
 use run_model::Out;
 use script_format::{FieldError, FieldFault, LineStep, put_line, write_outs};
 use std::alloc::Global;
@@ -27,21 +28,23 @@ use std::io;
 use std::io::Write;
 
 /// Parses a line of at most 4,096 bytes into its steps. A longer one is invalid.
-pub fn steps_said(
+pub fn steps_said<P: Routing>(
     alloc: Global,
-    plant: &Plant,
+    routes: &mut P,
     number: u64,
     line: &[u8],
 ) -> Result<Vec<LineStep>, FieldFault>
-    ensures said { Gives field_cause (λ steps. steps.items) result (steps_said plant.now number line.now) }
+    ensures said { Gives field_cause (λ steps. steps.items) result (steps_said (P.plant_of routes.old) number line.now) }
+    ensures placed { IfOk result (λ steps. ArePlaced (P.plant_of routes.old) steps.items) }
     ensures memory { result ≡ Err NoMemory → length line.now ≤ 4096 }
+    ensures same { routes.new ≡ routes.old }
 {
     if line.len() > MOST_BYTES {
         return Err(FieldFault::Invalid(FieldError::TooLong));
     }
     let mut fields = Vec::new(alloc);
     let mut steps = Vec::new(alloc);
-    match put_line(alloc, plant, number, line, &mut fields, &mut steps) {
+    match put_line(alloc, routes, number, line, &mut fields, &mut steps) {
         Ok(()) => Ok(steps),
         Err(fault) => Err(fault),
     }
@@ -59,14 +62,20 @@ fn run_steps_in<R: Ranks, W: Write, N: StepNotes<W>>(
 ) -> io::Result<StepsEnd>
     requires reached { IsReachableFromStart (live_view core.old) }
     requires policies { FollowRows (map R.policy rankings.now) (live_view core.old).plant.rows }
+    requires placed { ArePlaced (live_view core.old).plant steps.items }
     ensures { IfOk result (λ end. BehindEachRun (live_view core.old) (λ plant start before shown. HasDone plant start before shown
         steps.items (live_view core.new) end (W.contents writer.old) (W.contents writer.new))) }
 {
-    for LineStep { number, step } in steps {
+    for LineStep {
+        number,
+        step,
+        place,
+    } in steps
+    {
         let Ok(()) = notes.note_step(alloc, core, &step, writer) else {
             return Ok(StepsEnd::NoMemory);
         };
-        match core.step_over_by(alloc, step, rankings, outs) {
+        match core.step_over_by(alloc, step, place, rankings, outs) {
             Ok(()) if outs.is_empty() => {}
             Ok(()) => write_outs(writer, core.plant(), outs.as_slice())?,
             Err(fault) => return Ok(end_of(number, fault)),
@@ -90,6 +99,7 @@ pub fn run_steps_by<R: Ranks, W: Write, N: StepNotes<W>>(
 ) -> io::Result<StepsEnd>
     requires reached { IsReachableFromStart (live_view core.old) }
     requires policies { FollowRows (map R.policy rankings.now) (live_view core.old).plant.rows }
+    requires placed { ArePlaced (live_view core.old).plant steps.items }
     // After whatever run led to the core, so many steps are done, and what they output is written.
     ensures { IfOk result (λ end. BehindEachRun (live_view core.old) (λ plant start before shown. HasDone plant start before shown
         steps.items (live_view core.new) end (W.contents writer.old) (W.contents writer.new))) }
@@ -109,6 +119,7 @@ pub fn run_steps<W: Write, N: StepNotes<W>>(
     writer: &mut W,
 ) -> io::Result<StepsEnd>
     requires reached { IsReachableFromStart (live_view core.old) }
+    requires placed { ArePlaced (live_view core.old).plant steps.items }
     ensures { IfOk result (λ end. BehindEachRun (live_view core.old) (λ plant start before shown. HasDone plant start before shown
         steps.items (live_view core.new) end (W.contents writer.old) (W.contents writer.new))) }
 {
@@ -141,7 +152,7 @@ fn do_line<W: Write, N: StepNotes<W>>(
     ensures { IfOk result (λ end. BehindEachRun (live_view core.old) (λ plant start before shown. HasAnswered plant start before shown
         number line.now (live_view core.new) end (W.contents writer.old) (W.contents writer.new))) }
 {
-    match steps_said(alloc, core.plant(), number, line) {
+    match steps_said(alloc, core, number, line) {
         Ok(steps) => {
             let end = run_steps(alloc, core, steps, notes, writer)?;
             Ok(outcome_of(end))

@@ -1,5 +1,4 @@
 mod Common
-pub mod CachedLemmas
 pub mod PlaceLemmas
 pub mod DeskPlaces
 pub mod OfferLemmas

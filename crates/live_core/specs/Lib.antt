@@ -1,4 +1,3 @@
-pub mod Cached
 pub mod DeskView
 pub mod Reachable
 pub mod Reslicing

@@ -8,8 +8,8 @@ ghost use Rattle.live_core.specs.After.{IsReachableFromStart};
 
 use crate::core_memory::CoreMemory;
 use crate::desk::LiveSlot;
-use crate::routes::Routes;
 use map_assembly::Gather;
+use plant::Routes;
 
 /// A plant's core with no history: the plant, each operator's machine with its frames that wait to
 /// be collected, and what is gathered. Contracts speak of `live_view` of it. The type keeps that

@@ -18,7 +18,6 @@ mod rest_fault;
 mod resting;
 mod resume_fault;
 mod resuming;
-mod routes;
 mod stepping;
 
 pub use act_plan::ActPlan;
@@ -31,4 +30,3 @@ pub use laws::{
 };
 pub use rest_fault::RestFault;
 pub use resume_fault::ResumeFault;
-pub use routes::Routes;

@@ -1,7 +1,6 @@
 //! Planning an action of an operator, and committing the plan.
 
 ghost use Rattle.std.specs.Prelude.{◌≡◌, ◌<◌, ◌++◌, ◌↔◌, ℕ, List, option_map, slice_get, vec_len, Some, IfOk, OnOk, OnErr};
-ghost use Rattle.plant.specs.Roster.{holder};
 ghost use Rattle.operator_model.specs.declared.action.Action.{Action};
 ghost use Rattle.operator_model.specs.declared.action.Action.TheVariants as actions;
 ghost use Rattle.operator_model.specs.Replay.{BookView};
@@ -21,21 +20,26 @@ use dsx_messages::Modem;
 use grant_policy::{Policy, Ranks};
 use operator_book::{FirstRequest, SpareOutputs, TickMemory};
 use operator_model::{Action, Heard};
-use plant::Op;
+use plant::{Op, Plant, Routing};
 use run_model::Out;
 use std::alloc::{AllocError, Global};
 use std::mem::replace;
 
-impl LiveCore {
-    /// Returns the operator that lists this modem, if one does.
-    #[inline(always)]
-    pub fn place_of(&mut self, modem: Modem) -> Option<Op>
-        ensures value { result ≡ holder (live_view self.old).plant.rows modem }
-        ensures core { live_view self.new ≡ live_view self.old }
-    {
-        self.routes.place_of(modem)
+/// A core knows to which operator a modem's messages go.
+impl Routing for LiveCore {
+    ghost plant_of = { λ core. core.routes };
+
+    fn plant(&self) -> &Plant {
+        self.routes.plant()
     }
 
+    #[inline(always)]
+    fn place_of(&mut self, modem: Modem) -> Option<Op> {
+        self.routes.place_of(modem)
+    }
+}
+
+impl LiveCore {
     /// Returns the policy of the operator at this place, or nothing past the last operator.
     #[inline(always)]
     pub(crate) fn policy_of(&self, op: Op) -> Option<Policy>

@@ -3,11 +3,13 @@
 ghost use Rattle.std.specs.Prelude.{◌≡◌, [], ◌∷◌, ◌++◌, List, map, slice_get, Some, OnOk, OnErr, IfOk};
 ghost use Rattle.operator_model.specs.declared.action.Action.TheVariants as actions;
 ghost use Rattle.operator_model.specs.Replay.{BookView};
+ghost use Rattle.plant.specs.Roster.{holder};
 ghost use Rattle.plant.specs.declared.operator_row.RowFields.{RowFields};
 ghost use Rattle.run_model.specs.declared.step.Out.{Out};
 ghost use Rattle.run_model.specs.declared.step.Step.{Step};
 ghost use Rattle.run_model.specs.declared.step.Step.TheVariants as steps;
 ghost use Rattle.run_model.specs.Steps.{Acts, Collects, Steps};
+ghost use Rattle.run_model.specs.Placed.{IsPlaced};
 ghost use Rattle.live_core.specs.Faults.{act_fault, collect_fault, step_fault, IsReported};
 ghost use Rattle.live_core.specs.Reachable.{IsOfAStep};
 ghost use Rattle.live_core.specs.Performing.{Performs};
@@ -22,7 +24,7 @@ use grant_policy::Ranks;
 use map_assembly::Gather;
 use operator_book::TickMemory;
 use operator_model::{Action, Heard, Output};
-use plant::Op;
+use plant::{Op, Routing};
 use run_model::{Out, Step};
 use std::alloc::{AllocError, Global};
 use std::mem::replace;
@@ -284,17 +286,47 @@ impl LiveCore {
         Ok(())
     }
 
+    /// Puts what was received of a modem into the inbox of the operator at this place, as `step_over` does with it. The caller knows
+    /// that this operator has the modem.
+    #[inline(always)]
+    fn receive_over(
+        &mut self,
+        alloc: Global,
+        op: Op,
+        modem: Modem,
+        heard: Heard,
+        outs: &mut Vec<Out>,
+    ) -> Result<(), CoreFault>
+        requires { holder (live_view self.old).plant.rows modem ≡ Some op }
+        ensures ok { OnOk result (Performs (Steps (steps.Arrive modem heard)) (live_view self.old) (live_view self.new)
+            outs.new.items) }
+        ensures reached { OnOk result (LeadsOnFromStart (live_view self.old) (steps.Arrive modem heard ∷ []) outs.new.items
+            (live_view self.new)) }
+        ensures err { OnErr result (live_view self.new ≡ live_view self.old) }
+        ensures outs { OnErr result (outs.new.items ≡ []) }
+        ensures fault { IsReported result (step_fault (live_view self.old) (steps.Arrive modem heard)) }
+    {
+        // For the proof: what always holds of `self`.
+        self.always();
+        empty(&mut self.memory.tick, &mut self.gather, outs);
+        self.receive(alloc, op, modem, heard, outs)?;
+        Ok(())
+    }
+
     /// Performs a step as `step_over` does. A tick of the operator at a place for which there is a ranking is ranked by it, and any
-    /// other by the policy of the row (implementation-specific). The caller knows that the rankings follow the rows' policies.
+    /// other by the policy of the row (implementation-specific). What arrives goes to the operator at `place`, if that is stated: no
+    /// address is looked for. The caller knows that the rankings follow the rows' policies, and that the operator lists the modem.
     #[inline(always)]
     pub fn step_over_by<R: Ranks>(
         &mut self,
         alloc: Global,
         step: Step,
+        place: Option<Op>,
         rankings: &[R],
         outs: &mut Vec<Out>,
     ) -> Result<(), CoreFault>
-        requires { FollowRows (map R.policy rankings.now) (live_view self.old).plant.rows }
+        requires policies { FollowRows (map R.policy rankings.now) (live_view self.old).plant.rows }
+        requires placed { IsPlaced (live_view self.old).plant step place }
         ensures ok { OnOk result (Performs (Steps step) (live_view self.old) (live_view self.new) outs.new.items) }
         ensures reached { OnOk result (LeadsOnFromStart (live_view self.old) (step ∷ []) outs.new.items (live_view self.new)) }
         ensures err { OnErr result (live_view self.new ≡ live_view self.old) }
@@ -305,6 +337,10 @@ impl LiveCore {
             Step::Tick { op } => match rankings.get(op) {
                 Some(ranking) => self.tick_over_by(alloc, op, ranking, outs),
                 None => self.step_over(alloc, Step::Tick { op }, outs),
+            },
+            Step::Arrive { modem, heard } => match place {
+                Some(op) => self.receive_over(alloc, op, modem, heard, outs),
+                None => self.step_over(alloc, Step::Arrive { modem, heard }, outs),
             },
             other => self.step_over(alloc, other, outs),
         }

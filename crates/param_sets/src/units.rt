@@ -6,7 +6,7 @@ ghost use Rattle.param_sets.specs.Units.{UnitSizes, AreUnits, frames_in_interval
 use std::marker::Model;
 
 /// How many bits a second fill one byte in each microsecond.
-const BITS_PER_BYTE_A_MICROSECOND: u128 = 8_000_000;
+const BITS_PER_BYTE_A_MICROSECOND: u64 = 8_000_000;
 
 /// How long a frame is and how much a minislot carries. Contracts see both sizes.
 #[derive(Clone, Copy, Debug, PartialEq, Eq)]
@@ -76,8 +76,8 @@ impl Units {
         ensures value { result ≡ reserve_of rate self.now }
         ensures most { result ≤ 2 ^ 29 }
     {
-        let bits = rate as u128 * self.frame_us as u128;
-        let minislot = BITS_PER_BYTE_A_MICROSECOND * self.bytes_per_minislot as u128;
+        let bits = u64::from(rate) * u64::from(self.frame_us);
+        let minislot = BITS_PER_BYTE_A_MICROSECOND * u64::from(self.bytes_per_minislot);
         bits.div_ceil(minislot) as u32
     }
 }

@@ -2,3 +2,4 @@ mod Common
 pub mod Addresses
 pub mod Holders
 pub mod Kept
+pub mod CachedLemmas

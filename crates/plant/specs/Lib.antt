@@ -5,3 +5,4 @@ pub mod Provisioned
 pub mod Row
 pub mod Plant
 pub mod Roster
+pub mod Cached

@@ -15,8 +15,9 @@ mod stepping;
 
 pub use core_fault::CoreOpenFault;
 pub use held::PlantCore;
-pub use live_core::{CoreFault, ResliceFault, Routes, Unfits, first_fault, is_same, least_meeting};
+pub use live_core::{CoreFault, ResliceFault, Unfits, first_fault, is_same, least_meeting};
 pub use opening::follow;
+pub use plant::Routes;
 pub use recorded::RecordedCore;
 pub use run_model::{
     equal_books_answer_alike, maps_are_shared_out, non_interference, opened_is_reached,

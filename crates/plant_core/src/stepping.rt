@@ -16,7 +16,7 @@ use dsx_messages::Modem;
 use grant_policy::Ranking;
 use live_core::CoreFault;
 use operator_model::{Action, Heard};
-use plant::Op;
+use plant::{Op, Routing};
 use run_model::{Out, Step};
 use std::alloc::Global;
 

@@ -18,7 +18,7 @@ ghost use Rattle.plant_script.specs.Statuses.{status_code};
 use crate::answer::Answer;
 use crate::input::AnswerFault;
 use crate::status::Status;
-use plant::Plant;
+use plant::{Plant, Routes};
 use script_format::{LineFault, before_bar, plant_text, script_text, steps_of};
 use slice_table::{PlantFault, read_plant};
 use std::alloc::{AllocError, Global};
@@ -74,12 +74,13 @@ pub fn answer_to_line(alloc: Global, number: u64) -> Result<Answer, AllocError>
 }
 
 /// Returns what is answered to the script of a plant.
-fn answer_to_script(alloc: Global, plant: &Plant, script: &[u8]) -> Result<Answer, AnswerFault>
-    ensures value { IfOk result (λ answer. (status_code answer.status ≡ (answer_to_steps (steps_of plant.now script.now)).status)
-        × (answer.text.items ≡ (answer_to_steps (steps_of plant.now script.now)).text)) }
+fn answer_to_script(alloc: Global, plant: Plant, script: &[u8]) -> Result<Answer, AnswerFault>
+    ensures value { IfOk result (λ answer. (status_code answer.status ≡ (answer_to_steps (steps_of plant script.now)).status)
+        × (answer.text.items ≡ (answer_to_steps (steps_of plant script.now)).text)) }
     ensures memory { IfErr result (λ fault. fault ≡ Memory) }
 {
-    match steps_of(alloc, plant, script) {
+    let mut routes = Routes::new(alloc, plant)?;
+    match steps_of(alloc, &mut routes, script) {
         Ok(_steps) => Ok(Answer {
             status: Status::Success,
             text: Vec::from_slice(alloc, b"ok\n")?,
@@ -109,7 +110,7 @@ pub fn check_of(alloc: Global, input: &[u8]) -> Result<Answer, AnswerFault>
 {
     let place = before_bar(input);
     match plant_of_input(alloc, input, place) {
-        Ok(plant) => answer_to_script(alloc, &plant, script_text(input, place)),
+        Ok(plant) => answer_to_script(alloc, plant, script_text(input, place)),
         Err(PlantFault::NoMemory) => Err(AnswerFault::Memory),
         Err(fault) => Ok(answer_to_fault(alloc, fault)?),
     }

@@ -9,6 +9,7 @@ ghost use Rattle.live_core.specs.After.{IsAfter, IsReachableFromStart};
 ghost use Rattle.live_core.specs.Following.{FollowRows};
 ghost use Rattle.live_core.specs.LiveView.{live_view};
 ghost use Rattle.operator_book.specs.ViewOf.{policy_of};
+ghost use Rattle.script_format.specs.Script.{ArePlaced};
 ghost use Rattle.script_format.specs.Text.{outs_text};
 ghost use Rattle.plant_script.specs.Done.{HasRun, book_text};
 ghost use Rattle.plant_script.specs.Run.{IsScriptRun, IsCapturedRunOf};
@@ -45,7 +46,12 @@ fn run_unheard(
     ensures { IfOk result (λ refused.
         HasRun (core_view core.old).plant lines.items (λ told. []) refused (core_view core.new) []) }
 {
-    for LineStep { number, step } in lines {
+    for LineStep {
+        number,
+        step,
+        place: _,
+    } in lines
+    {
         match core.step(alloc, step) {
             Ok(_outs) => {}
             Err(fault) => return refused_line(number, fault),
@@ -162,6 +168,7 @@ fn write_run<W: Write>(
 ) -> io::Result<Status>
     requires reached { IsReachableFromStart (live_view core.old) }
     requires policies { FollowRows (map policy_of rankings.now) (live_view core.old).plant.rows }
+    requires placed { ArePlaced (live_view core.old).plant lines.items }
     ensures { IfOk result (λ status. (plant : PlantFields) → IsAfter plant [] [] (live_view core.old)
         → EndsRun plant lines.items (status_code status) (λ text. Appends (W.contents writer.old) (W.contents writer.new) text)) }
 {
@@ -181,7 +188,8 @@ fn write_outputs_run<W: Write>(
     ending: Ending,
     writer: &mut W,
 ) -> io::Result<Status>
-    requires { map (λ ranking. ranking.policy) rankings.items ≡ map (λ row. row.policy) plant.rows }
+    requires policies { map (λ ranking. ranking.policy) rankings.items ≡ map (λ row. row.policy) plant.rows }
+    requires placed { ArePlaced plant lines.items }
     ensures { IfOk result (λ status. IsWritten (IsScriptRun plant lines.items (λ done told. outs_text plant told)) (status_code status)
         (λ text. Appends (W.contents writer.old) (W.contents writer.new) text)) }
 {

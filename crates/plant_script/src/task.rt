@@ -5,7 +5,8 @@ ghost use Rattle.std.specs.List.{position_from};
 ghost use Rattle.toml.specs.Parse.{parse_document};
 ghost use Rattle.slice_table.specs.ReadPlant.{text_plant};
 ghost use Rattle.script_format.specs.Input.{script_text};
-ghost use Rattle.script_format.specs.Script.{is_named, steps_of};
+ghost use Rattle.script_format.specs.Script.{ArePlaced, is_named, steps_of};
+ghost use Rattle.std.proofs.Props.{props};
 ghost use Rattle.plant_script.specs.One.{is_readable};
 ghost use Rattle.plant_script.specs.Task.{RunsTo, AnswersReport, Comes, IsNotThreaded};
 ghost use Rattle.plant_script.specs.Words.{AnswersSteps, AnswersOperator, AnswersPlant, AnswersInput, AnswersThreads};
@@ -16,12 +17,13 @@ use crate::check::{answer_to_fault, answer_to_line, plant_of_input};
 use crate::input::AnswerFault;
 use crate::status::Status;
 use command_line::RunReport;
-use plant::{Op, Plant};
+use plant::{Op, Plant, Routes};
 use script_format::{LineFault, LineStep, before_bar, place_of, script_text, steps_of};
 use slice_table::PlantFault;
 use std::alloc::Global;
 
-/// The run of a script on a plant, and what is printed of it.
+/// The run of a script on a plant, and what is printed of it. The type keeps that what arrives is placed at the operator that lists
+/// its modem.
 #[derive(Drop)]
 pub struct Task {
     pub plant: Plant,
@@ -29,6 +31,7 @@ pub struct Task {
     pub lines: Vec<LineStep>,
     /// What is printed. An operator is stated by its place in the plant.
     pub report: RunReport<Op>,
+    ghost placed: { ArePlaced plant lines.items } by { Prim.hlevel props },
 }
 
 /// What is done for an input.
@@ -54,9 +57,10 @@ fn task_of_script(
     ensures threads { IfOk result IsNotThreaded }
     ensures memory { IfErr result (λ fault. fault ≡ Memory) }
 {
-    match steps_of(alloc, &plant, script) {
+    let mut routes = Routes::new(alloc, plant)?;
+    match steps_of(alloc, &mut routes, script) {
         Ok(lines) => Ok(InputOutcome::Task(Task {
-            plant,
+            plant: routes.into_plant(),
             lines,
             report,
         })),
@@ -141,8 +145,12 @@ fn threads_of_script(
     ensures value { IfOk result (λ outcome. Comes outcome script.now (AnswersThreads plant script.now)) }
     ensures memory { IfErr result (λ fault. fault ≡ Memory) }
 {
-    match steps_of(alloc, &plant, script) {
-        Ok(lines) => Ok(InputOutcome::Threads { plant, lines }),
+    let mut routes = Routes::new(alloc, plant)?;
+    match steps_of(alloc, &mut routes, script) {
+        Ok(lines) => Ok(InputOutcome::Threads {
+            plant: routes.into_plant(),
+            lines,
+        }),
         Err(LineFault::Shape { number }) => {
             let answer = answer_to_line(alloc, number)?;
             Ok(InputOutcome::Answer(answer))

@@ -12,3 +12,4 @@ pub mod SharedOut
 pub mod Periods
 pub mod Places
 pub mod Changing
+pub mod Placed

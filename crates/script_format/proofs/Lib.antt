@@ -10,3 +10,4 @@ pub mod Spaces
 pub mod FirstFields
 pub mod SaidSoFar
 pub mod StepsSoFar
+pub mod Placed

@@ -1,5 +1,5 @@
 -- The lines of a script, and the steps that they say (implementation-specific).
-use Rattle.std.specs.Prelude.{◌==◌, ℕ, ◌+◌, Bool, List, [], ◌∷◌, ◌++◌, length, map, Option, Some, None, Result, Ok, Err, if◌then◌else◌, codes}
+use Rattle.std.specs.Prelude.{◌==◌, ℕ, ◌+◌, Bool, List, [], ◌∷◌, ◌++◌, All, length, map, Option, Some, None, Result, Ok, Err, if◌then◌else◌, codes}
 use Rattle.std.specs.List.{position_from}
 use Rattle.std.specs.Str.{bytes_eq}
 use Rattle.hex.specs.Hex.{decode_sized}
@@ -14,6 +14,7 @@ use Rattle.operator_model.specs.declared.heard.Heard.{Heard}
 use Rattle.operator_model.specs.declared.heard.Heard.TheVariants.{Message, Request}
 use Rattle.run_model.specs.declared.step.Step.{Step}
 use Rattle.run_model.specs.declared.step.Step.TheVariants.{Arrive, Work, Tick, Collect, Reslice}
+use Rattle.run_model.specs.Placed.{IsPlaced}
 use Rattle.script_format.specs.declared.fields.NumberName.TheVariants.{Sid, Minislots, Frame, Start, Length, Budget}
 use Rattle.script_format.specs.declared.fields.FieldError.TheVariants.{UnknownCommand, FieldCount, Address, UnknownModem, UnknownOperator, SliceParts}
 use Rattle.script_format.specs.declared.script.LineStep.{LineStep}
@@ -46,7 +47,8 @@ operator_in plant field = required_field UnknownOperator (position_from (is_name
 
 -- something is received of a modem, and its operator handles it
 abbrev pub heard_steps : ℕ → Sender → Heard → List LineStep
-heard_steps number sender heard = record { number = number; step = Arrive sender.modem heard } ∷ record { number = number; step = Work sender.op } ∷ []
+heard_steps number sender heard =
+    record { number = number; step = Arrive sender.modem heard; place = Some sender.op } ∷ record { number = number; step = Work sender.op; place = None } ∷ []
 
 -- `M address message`
 unfoldable pub message_steps : PlantFields → ℕ → List (List ℕ) → FieldResult (List LineStep)
@@ -73,7 +75,8 @@ request_steps plant number fields = do
 
 -- an operator ticks, and its frame is collected
 abbrev pub tick_steps : ℕ → ℕ → List LineStep
-tick_steps number op = record { number = number; step = Tick op } ∷ record { number = number; step = Collect op } ∷ []
+tick_steps number op =
+    record { number = number; step = Tick op; place = None } ∷ record { number = number; step = Collect op; place = None } ∷ []
 
 -- the operators from one on, so many of them, in order
 abbrev pub all_ticks : ℕ → List RowFields → ℕ → List LineStep
@@ -112,7 +115,7 @@ resliced_steps plant number [] = Err FieldCount
 resliced_steps plant number (first ∷ fields) = do
   from ← number_in 1 Frame 10 4294967295 first
   rows ← shares_in plant fields
-  Ok (record { number = number; step = Reslice from rows } ∷ [])
+  Ok (record { number = number; step = Reslice from rows; place = None } ∷ [])
 
 -- by the first field
 unfoldable pub steps_in : PlantFields → ℕ → List (List ℕ) → FieldResult (List LineStep)
@@ -145,3 +148,7 @@ steps_of plant script = steps_after plant 1 [] (lines_of script)
 -- the steps alone, without the numbers of their lines
 abbrev pub steps_without_numbers : List LineStep → List Step
 steps_without_numbers lines = map (λ line. line.step) lines
+
+-- what arrives is placed at the operator that lists its modem
+abbrev pub ArePlaced : PlantFields → List LineStep → Type 0
+ArePlaced plant lines = All (λ line. IsPlaced plant line.step line.place) lines

@@ -1,13 +1,13 @@
 //! The lines of a script, and the steps that they say.
 
-ghost use Rattle.std.specs.Prelude.{◌≡◌, [], ◌∷◌, map, Err, IfErr};
+ghost use Rattle.std.specs.Prelude.{◌≡◌, [], ◌∷◌, map, Err, IfOk, IfErr};
 ghost use Rattle.std.specs.List.{position_from};
 ghost use Rattle.lists.specs.Results.{result_map, Gives};
 ghost use Rattle.script_format.specs.declared.fields.FieldError.{FieldError};
 ghost use Rattle.script_format.specs.declared.fields.FieldFault.TheVariants.{Invalid, NoMemory};
 ghost use Rattle.script_format.specs.Fields.{field_cause, behind};
 ghost use Rattle.script_format.specs.Lines.{line_fields};
-ghost use Rattle.script_format.specs.Script.{sender_in, is_named, operator_in, heard_steps, message_steps, request_in, request_steps, tick_steps, all_ticks, ticked_steps, share_in, shares_after, shares_in, resliced_steps, steps_in, line_steps, steps_after, steps_of};
+ghost use Rattle.script_format.specs.Script.{ArePlaced, sender_in, is_named, operator_in, heard_steps, message_steps, request_in, request_steps, tick_steps, all_ticks, ticked_steps, share_in, shares_after, shares_in, resliced_steps, steps_in, line_steps, steps_after, steps_of};
 ghost use Rattle.script_format.specs.Senders.{address_error, alone_error, one_error, sender_first, three_error, two_error};
 ghost use Rattle.script_format.specs.GivesSteps.{GivesSteps};
 
@@ -19,7 +19,7 @@ use crate::lines::{LineFault, part, parts_of, put_parts};
 use crate::unhex::decode_into;
 use dsx_messages::Modem;
 use operator_model::{Heard, SliceRow};
-use plant::{Op, OperatorRow, Plant};
+use plant::{Op, OperatorRow, Plant, Routes, Routing};
 use run_model::{SliceRows, Step};
 use std::alloc::{AllocError, Global};
 
@@ -28,6 +28,9 @@ use std::alloc::{AllocError, Global};
 pub struct LineStep {
     pub number: u64,
     pub step: Step,
+    /// Where something arrives, the operator that lists its modem, which was looked up when the line was read. `None` for any
+    /// other step.
+    pub place: Option<Op>,
 }
 
 /// A modem, and the operator that lists it.
@@ -40,15 +43,16 @@ pub struct Sender {
 /// Returns a modem of the plant by its address.
 #[tactic(auto, unfolding(crate::specs::Script::sender_in))]
 #[inline(always)]
-fn sender_in(plant: &Plant, field: &[u8]) -> Result<Sender, FieldError>
-    ensures { result ≡ sender_in plant.now field.now }
+fn sender_in<P: Routing>(routes: &mut P, field: &[u8]) -> Result<Sender, FieldError>
+    ensures value { result ≡ sender_in (P.plant_of routes.old) field.now }
+    ensures same { routes.new ≡ routes.old }
 {
     let mut address = [0u8; 6];
     if field.len() != 12 || !decode_into(field, &mut address) {
         return Err(FieldError::Address);
     }
     let modem = Modem(address);
-    match plant.operator_of(modem) {
+    match routes.place_of(modem) {
         Some(op) => Ok(Sender { modem, op }),
         None => Err(FieldError::UnknownModem { modem }),
     }
@@ -99,13 +103,14 @@ fn three_error(line: &[u8], error: FieldError) -> FieldError
 /// space is searched for.
 #[tactic(auto, using(crate::proofs::FirstFields::sender_lacks, crate::proofs::FirstFields::sender_unseparated))]
 #[inline(always)]
-fn sender_first<'a>(plant: &Plant, line: &'a [u8]) -> Result<(Sender, &'a [u8]), FieldError>
-    ensures { result_map (λ p. (p.0, line_fields p.1.now)) result ≡ sender_first plant.now (line_fields line.now) }
+fn sender_first<'a, P: Routing>(routes: &mut P, line: &'a [u8]) -> Result<(Sender, &'a [u8]), FieldError>
+    ensures value { result_map (λ p. (p.0, line_fields p.1.now)) result ≡ sender_first (P.plant_of routes.old) (line_fields line.now) }
+    ensures same { routes.new ≡ routes.old }
 {
     if line.len() < 13 || line[12] != b' ' {
         return Err(address_error(line));
     }
-    match sender_in(plant, part(line, 0, 12)) {
+    match sender_in(routes, part(line, 0, 12)) {
         Ok(sender) => Ok((sender, part(line, 13, line.len()))),
         Err(error) => Err(error),
     }
@@ -148,28 +153,35 @@ fn put_heard(
 {
     steps.reserve(2)?;
     let modem = sender.modem;
-    let step = Step::Arrive { modem, heard };
-    steps.push_reserved(LineStep { number, step });
-    let step = Step::Work { op: sender.op };
-    steps.push_reserved(LineStep { number, step });
+    steps.push_reserved(LineStep {
+        number,
+        step: Step::Arrive { modem, heard },
+        place: Some(sender.op),
+    });
+    steps.push_reserved(LineStep {
+        number,
+        step: Step::Work { op: sender.op },
+        place: None,
+    });
     Ok(())
 }
 
 /// Appends the steps of a message.
 #[tactic(auto, using(crate::proofs::FirstFields::message_stop, crate::proofs::FirstFields::message_read, crate::proofs::FirstFields::message_unread))]
 #[inline(always)]
-fn put_message(
+fn put_message<P: Routing>(
     alloc: Global,
-    plant: &Plant,
+    routes: &mut P,
     number: u64,
     line: &[u8],
     steps: &mut Vec<LineStep>,
 ) -> Result<(), FieldFault>
     ensures said { Gives field_cause (λ _. steps.new.items) result
-        (behind steps.old.items (message_steps plant.now number (line_fields line.now))) }
+        (behind steps.old.items (message_steps (P.plant_of routes.old) number (line_fields line.now))) }
+    ensures same { routes.new ≡ routes.old }
     ensures unsaid { (error : FieldError) → result ≡ Err (Invalid error) → steps.new.items ≡ steps.old.items }
 {
-    match sender_first(plant, line) {
+    match sender_first(routes, line) {
         Err(error) => Err(FieldFault::Invalid(two_error(line, error))),
         Ok((sender, message)) => match message_bytes(alloc, message)? {
             Some(bytes) => put_heard(number, sender, Heard::Message(bytes), steps),
@@ -194,17 +206,18 @@ fn request_in(sid: &[u8], minislots: &[u8]) -> Result<Heard, FieldError>
 /// Appends the steps of a request for minislots.
 #[tactic(auto, using(crate::proofs::FirstFields::request_stop, crate::proofs::FirstFields::request_alone, crate::proofs::FirstFields::request_unread, crate::proofs::FirstFields::request_read))]
 #[inline(always)]
-fn put_request(
-    plant: &Plant,
+fn put_request<P: Routing>(
+    routes: &mut P,
     number: u64,
     line: &[u8],
     steps: &mut Vec<LineStep>,
 ) -> Result<(), FieldFault>
     ensures said { Gives field_cause (λ _. steps.new.items) result
-        (behind steps.old.items (request_steps plant.now number (line_fields line.now))) }
+        (behind steps.old.items (request_steps (P.plant_of routes.old) number (line_fields line.now))) }
+    ensures same { routes.new ≡ routes.old }
     ensures unsaid { (error : FieldError) → result ≡ Err (Invalid error) → steps.new.items ≡ steps.old.items }
 {
-    let (sender, numbers) = match sender_first(plant, line) {
+    let (sender, numbers) = match sender_first(routes, line) {
         Ok(first) => first,
         Err(error) => return Err(FieldFault::Invalid(three_error(line, error))),
     };
@@ -222,10 +235,16 @@ fn put_tick(number: u64, op: Op, steps: &mut Vec<LineStep>) -> Result<(), FieldF
     ensures said { Gives field_cause (λ _. steps.new.items) result (behind steps.old.items (Ok (tick_steps number op))) }
     ensures memory { IfErr result (λ fault. fault ≡ NoMemory) }
 {
-    let step = Step::Tick { op };
-    steps.push(LineStep { number, step })?;
-    let step = Step::Collect { op };
-    steps.push(LineStep { number, step })?;
+    steps.push(LineStep {
+        number,
+        step: Step::Tick { op },
+        place: None,
+    })?;
+    steps.push(LineStep {
+        number,
+        step: Step::Collect { op },
+        place: None,
+    })?;
     Ok(())
 }
 
@@ -324,8 +343,11 @@ fn put_resliced(
     };
     let from = number_in(1, NumberName::Frame, 10, u32::MAX, first)?;
     let rows = shares_in(alloc, plant, fields)?;
-    let step = Step::Reslice { from, rows };
-    steps.push(LineStep { number, step })?;
+    steps.push(LineStep {
+        number,
+        step: Step::Reslice { from, rows },
+        place: None,
+    })?;
     Ok(())
 }
 
@@ -361,9 +383,9 @@ fn put_alone(
 /// Appends the steps of a line of this first field and these other ones.
 #[tactic(auto, unfolding(crate::specs::Script::steps_in))]
 #[inline(always)]
-fn put_word<'a>(
+fn put_word<'a, P: Routing>(
     alloc: Global,
-    plant: &Plant,
+    routes: &mut P,
     number: u64,
     word: &[u8],
     line: &'a [u8],
@@ -371,54 +393,61 @@ fn put_word<'a>(
     steps: &mut Vec<LineStep>,
 ) -> Result<(), FieldFault>
     ensures said { Gives field_cause (λ _. steps.new.items) result
-        (behind steps.old.items (steps_in plant.now number (word.now ∷ line_fields line.now))) }
+        (behind steps.old.items (steps_in (P.plant_of routes.old) number (word.now ∷ line_fields line.now))) }
+    ensures same { routes.new ≡ routes.old }
     ensures unsaid { (error : FieldError) → result ≡ Err (Invalid error) → steps.new.items ≡ steps.old.items }
 {
     match word {
-        [b'M'] => put_message(alloc, plant, number, line, steps),
-        [b'Q'] => put_request(plant, number, line, steps),
-        [b'T'] => put_ticked(plant, number, line, steps),
+        [b'M'] => put_message(alloc, routes, number, line, steps),
+        [b'Q'] => put_request(routes, number, line, steps),
+        [b'T'] => put_ticked(routes.plant(), number, line, steps),
         [b'Z'] => {
             put_parts(b' ', line, fields)?;
-            put_resliced(alloc, plant, number, fields.as_slice(), steps)
+            put_resliced(alloc, routes.plant(), number, fields.as_slice(), steps)
         }
         _ => Err(FieldFault::Invalid(FieldError::UnknownCommand)),
     }
 }
 
-/// Appends the steps of a line. An empty line has none. `fields` is room for the parts of the line,
-/// and is used again for the next one.
+/// Appends the steps of a line. An empty line has none. The operator of a line's modem is asked for once. `fields` is room for the
+/// parts of the line, and is used again for the next one.
 #[tactic(auto, unfolding(crate::specs::Script::line_steps))]
 #[inline(always)]
-pub fn put_line<'a>(
+pub fn put_line<'a, P: Routing>(
     alloc: Global,
-    plant: &Plant,
+    routes: &mut P,
     number: u64,
     line: &'a [u8],
     fields: &mut Vec<&'a [u8]>,
     steps: &mut Vec<LineStep>,
 ) -> Result<(), FieldFault>
-    ensures said { Gives field_cause (λ _. steps.new.items) result (behind steps.old.items (line_steps plant.now number line.now)) }
+    ensures said { Gives field_cause (λ _. steps.new.items) result (behind steps.old.items (line_steps (P.plant_of routes.old) number line.now)) }
+    ensures same { routes.new ≡ routes.old }
     ensures unsaid { (error : FieldError) → result ≡ Err (Invalid error) → steps.new.items ≡ steps.old.items }
 {
     if line.is_empty() {
         return Ok(());
     }
     match word_and_rest(line) {
-        Some((word, rest)) => put_word(alloc, plant, number, word, rest, fields, steps),
-        None => put_alone(plant, number, line, steps),
+        Some((word, rest)) => put_word(alloc, routes, number, word, rest, fields, steps),
+        None => put_alone(routes.plant(), number, line, steps),
     }
 }
 
 /// Returns the steps of lines, each with its line's number; or the first invalid line.
-fn steps_of_lines(alloc: Global, plant: &Plant, lines: &[&[u8]]) -> Result<Vec<LineStep>, LineFault>
-    ensures { GivesSteps result (steps_after plant.now 1 [] (map (λ line. line.now) lines.now)) }
+fn steps_of_lines(
+    alloc: Global,
+    routes: &mut Routes,
+    lines: &[&[u8]],
+) -> Result<Vec<LineStep>, LineFault>
+    ensures value { GivesSteps result (steps_after routes.old 1 [] (map (λ line. line.now) lines.now)) }
+    ensures same { routes.new ≡ routes.old }
 {
     let mut steps = Vec::new(alloc);
     let mut fields = Vec::new(alloc);
     let mut number = 1u64;
     for line in lines {
-        match put_line(alloc, plant, number, line, &mut fields, &mut steps) {
+        match put_line(alloc, routes, number, line, &mut fields, &mut steps) {
             Ok(()) => {}
             Err(FieldFault::Invalid(_error)) => return Err(LineFault::Shape { number }),
             Err(FieldFault::NoMemory) => return Err(LineFault::NoMemory),
@@ -430,9 +459,15 @@ fn steps_of_lines(alloc: Global, plant: &Plant, lines: &[&[u8]]) -> Result<Vec<L
 
 /// Returns the steps of a script, each with its line's number; or the first invalid line.
 #[tactic(auto, unfolding(crate::specs::Script::steps_of))]
-pub fn steps_of(alloc: Global, plant: &Plant, script: &[u8]) -> Result<Vec<LineStep>, LineFault>
-    ensures { GivesSteps result (steps_of plant.now script.now) }
+pub fn steps_of(
+    alloc: Global,
+    routes: &mut Routes,
+    script: &[u8],
+) -> Result<Vec<LineStep>, LineFault>
+    ensures value { GivesSteps result (steps_of routes.old script.now) }
+    ensures placed { IfOk result (λ steps. ArePlaced routes.old steps.items) }
+    ensures same { routes.new ≡ routes.old }
 {
     let lines = parts_of(alloc, b'\n', script)?;
-    steps_of_lines(alloc, plant, lines.as_slice())
+    steps_of_lines(alloc, routes, lines.as_slice())
 }

@@ -79,7 +79,12 @@ pub fn write_trace<W: Write>(
 {
     let mut outs = Vec::new(alloc);
     let (mut rest, mut last) = (script, 0u64);
-    for LineStep { number, step } in steps {
+    for LineStep {
+        number,
+        step,
+        place: _,
+    } in steps
+    {
         rest = write_line(writer, rest, last, number)?;
         last = last.max(number);
         let Ok(seen) = decision_of(alloc, core, &step) else {

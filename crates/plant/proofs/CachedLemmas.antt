@@ -2,17 +2,14 @@
 use Rattle.std.proofs.Common.{◌≡◌, ℕ, Bool, true, List, [], ◌∷◌, Result, Ok, Err, Some, OnOk, OnErr, refl, sym, ap, subst, ◌∙◌, inl, inr, arith}
 use Rattle.std.specs.List.{slice_get, Contains}
 use Rattle.std.specs.Map.{lookup}
-use Rattle.std.proofs.lemmas.Slice.Eq.{bytes_eq-Decides}
 use Rattle.dsx_messages.specs.declared.modem.Modem.{Modem}
 use Rattle.plant.specs.declared.operator_row.RowFields.{RowFields}
 use Rattle.plant.specs.Row.{same_modem}
 use Rattle.plant.specs.Roster.{holder}
 use Rattle.lru.specs.LruCache.{LruCache, lru_cache, promoted, put_entries}
 use Rattle.lru.proofs.CallerLemmas.{Contains-promoted, Contains-lookup, Contains-put_entries}
-use Rattle.live_core.specs.Cached.{AreHolders}
-
-same_is_equal : (a b : Modem) → same_modem a b ≡ true → a ≡ b
-same_is_equal a b h = ap (λ (bytes : List ℕ). record { 0 = bytes }) ((bytes_eq-Decides a.0 b.0).0 h)
+use Rattle.plant.specs.Cached.{AreHolders}
+use Rattle.plant.proofs.Addresses.{same_is_equal}
 
 pub promoted_right : (rows : List RowFields) (test : Modem → Bool) (pairs : List (Modem × ℕ)) → AreHolders rows pairs → AreHolders rows (promoted test pairs)
 promoted_right rows test pairs right modem op held = right modem op (Contains-promoted test pairs (modem, op) held)

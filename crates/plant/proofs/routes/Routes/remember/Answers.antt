@@ -1,8 +1,8 @@
 use Rattle.std.proofs.Common.{◌∙◌, ap}
 use Rattle.plant.specs.declared.plant.PlantFields.{PlantFields}
 use Rattle.plant.specs.Roster.{holder}
-use Rattle.live_core.proofs.CachedLemmas.{after_put_right}
-use Rattle.live_core.proofs.routes.Routes.remember.Goals as goal
+use Rattle.plant.proofs.CachedLemmas.{after_put_right}
+use Rattle.plant.proofs.routes.Routes.remember.Goals as goal
 
 pub invariant_of-self : goal.invariant_of-self
 invariant_of-self c =

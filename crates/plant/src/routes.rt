@@ -3,15 +3,33 @@
 ghost use Rattle.std.specs.Prelude.{◌≡◌, Some, IfOk};
 ghost use Rattle.plant.specs.Roster.{holder};
 
+use crate::plant::{Op, Plant};
 use dsx_messages::Modem;
 use lru::LruCache;
-use plant::{Op, Plant};
 use std::alloc::{AllocError, Global};
 use std::marker::Model;
 use std::num::NonZeroUsize;
 
 /// How many addresses are remembered.
 const REMEMBERED: usize = 16;
+
+/// What knows to which operator of its plant a modem's messages go: a plant with a route cache, or a core. It may remember what it
+/// was asked; no answer depends on that.
+pub trait Routing: Drop {
+    ghost use Rattle.plant.specs.declared.plant.PlantFields.{PlantFields};
+
+    /// The plant.
+    ghost plant_of: { Self → PlantFields };
+
+    /// Returns the plant.
+    fn plant(&self) -> &Plant
+        ensures { result.now ≡ plant_of self.now };
+
+    /// Returns the operator that lists this modem, if one does.
+    fn place_of(&mut self, modem: Modem) -> Option<Op>
+        ensures value { result ≡ holder (plant_of self.old).rows modem }
+        ensures same { self.new ≡ self.old };
+}
 
 /// A plant that remembers the operators of the addresses that were asked for last. Contracts see
 /// the plant: the cache is not a part of any answer. The type keeps that each cached address is next
@@ -26,7 +44,7 @@ pub struct Routes {
 
 impl Model for Routes {
     ghost use Rattle.plant.specs.declared.plant.PlantFields.{PlantFields};
-    ghost use Rattle.live_core.specs.Cached.{AreHolders};
+    ghost use Rattle.plant.specs.Cached.{AreHolders};
 
     ghost Value = { PlantFields };
 
@@ -58,16 +76,16 @@ impl Routes {
         ensures value { result ≡ holder self.old.rows modem }
         ensures plant { self.new ≡ self.old }
     {
-        if let Some((known, place)) = self.cache.peek_mru()
-            && *known == modem
-        {
+        let Some((known, place)) = self.cache.peek_mru() else {
+            return self.ask(modem);
+        };
+        if *known == modem {
             return Some(*place);
         }
         self.search(modem)
     }
 
-    /// Asks the cache, and then the plant. An address is remembered once it is missed twice in a row: if
-    /// many modems send in turn, none displaces another.
+    /// Asks the cache, and then the plant.
     #[inline(never)]
     fn search(&mut self, modem: Modem) -> Option<Op>
         ensures value { result ≡ holder self.old.rows modem }
@@ -76,6 +94,16 @@ impl Routes {
         if let Some(place) = self.cache.get(&modem).copied() {
             return Some(place);
         }
+        self.ask(modem)
+    }
+
+    /// Asks the plant. An address is remembered once it is missed twice in a row: if many modems send in
+    /// turn, none displaces another.
+    #[inline(never)]
+    fn ask(&mut self, modem: Modem) -> Option<Op>
+        ensures value { result ≡ holder self.old.rows modem }
+        ensures plant { self.new ≡ self.old }
+    {
         let place = self.plant.operator_of(modem)?;
         if self.missed == Some(modem) {
             self.remember(modem, place);
@@ -99,5 +127,30 @@ impl Routes {
         ensures { result.now ≡ self.now }
     {
         &self.plant
+    }
+
+    /// Returns the plant alone, and forgets what was remembered.
+    pub fn into_plant(self) -> Plant
+        ensures { result ≡ self }
+    {
+        let Routes {
+            plant,
+            cache: _,
+            missed: _,
+        } = self;
+        plant
+    }
+}
+
+impl Routing for Routes {
+    ghost plant_of = { λ plant. plant };
+
+    fn plant(&self) -> &Plant {
+        Routes::plant(self)
+    }
+
+    #[inline(always)]
+    fn place_of(&mut self, modem: Modem) -> Option<Op> {
+        Routes::place_of(self, modem)
     }
 }
