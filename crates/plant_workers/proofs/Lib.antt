@@ -1,3 +1,4 @@
 mod Common
 pub mod FaultLemmas
 pub mod LeastLemmas
+pub mod CellLemmas

@@ -1,3 +1,4 @@
 pub mod Parts
 pub mod Refusing
 pub mod Faulting
+pub mod Cells

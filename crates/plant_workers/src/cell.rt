@@ -179,14 +179,14 @@ impl OperatorCell {
     }
 }
 
-impl<R: Wait, G: Gate<R>> Turns<R, G> for OperatorCell {
+impl<R: Wait> Turns<R> for OperatorCell {
     ghost place = { λ cell. cell.op };
 
     fn op(&self) -> Op {
         self.op
     }
 
-    fn act_in_turn(
+    fn act_in_turn<G: Gate<R>>(
         &self,
         rt: &R,
         alloc: Global,

@@ -1,12 +1,11 @@
 //! What a run results in, once its last thread has ended.
 
-ghost use Rattle.std.specs.Prelude.{◌≡◌, ◌<◌, ◌^◌, All, map, vec_len, IfOk, IfErr};
+ghost use Rattle.std.specs.Prelude.{◌≡◌, All, map, IfOk, IfErr};
 ghost use Rattle.operator_book.specs.ViewOf.{view_of};
 ghost use Rattle.run_audit.specs.Outcome.{AreTicked, IsOutcome};
 ghost use Rattle.run_receipts.specs.Callers.{AreByCallers};
 ghost use Rattle.plant_workers.specs.Faulting.{IsRunFault};
 
-use crate::cell::OperatorCell;
 use crate::receipt_lists::callers_of;
 use crate::run_state::RunState;
 use map_assembly::MapBytes;
@@ -16,18 +15,6 @@ use run_audit::{Assembly, compare};
 use run_model::Step;
 use run_receipts::{Callers, RunFault, Settled, settle};
 use std::alloc::{AllocError, Global};
-
-/// Returns the books, with no lock round them.
-fn books_of(alloc: Global, cells: Vec<OperatorCell>) -> Result<Vec<Book>, AllocError>
-    requires { vec_len cells < 2 ^ 64 }
-{
-    let mut books = Vec::with_capacity(alloc, cells.len())?;
-    for cell in cells {
-        let (book, _) = cell.into_parts();
-        books.push(book)?;
-    }
-    Ok(books)
-}
 
 /// Returns equal MAPs with memory of their own.
 fn copies_of(alloc: Global, maps: &[MapBytes]) -> Result<Vec<MapBytes>, AllocError>
@@ -83,7 +70,7 @@ pub(crate) fn finish(
         assembly,
         lists,
     } = run_state;
-    let books = books_of(alloc, cells)?;
+    let books = cells.into_books(alloc)?;
     let callers = callers_of(alloc, lists)?;
     settle_all(alloc, plant, books, callers, assembly, steps)
 }

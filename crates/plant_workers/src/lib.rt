@@ -2,11 +2,11 @@
 #![tactic(auto)]
 
 mod cell;
+mod cells;
 mod finishing;
 mod following;
 mod gate;
 mod job;
-mod opening;
 mod part;
 mod ranking;
 mod receipt_lists;

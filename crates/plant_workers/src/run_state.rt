@@ -10,6 +10,7 @@ ghost use Rattle.cell_state.specs.HeldView.{cell_book};
 ghost use Rattle.plant_workers.specs.Faulting.{IsOfReslice, IsRunFault};
 
 use crate::cell::OperatorCell;
+use crate::cells::Cells;
 use crate::following::fault_of_reslice;
 use crate::gate::Gate;
 use crate::job::Job;
@@ -30,29 +31,9 @@ use std::thread::Threads;
 /// A run between its pieces: the operators' cells, the assembly, and the receipts so far.
 #[derive(Drop)]
 pub(crate) struct RunState {
-    pub cells: Vec<OperatorCell>,
+    pub cells: Cells,
     pub assembly: Assembly,
     pub lists: Vec<Lists>,
-}
-
-/// Takes cells apart, each into the state that its lock guards.
-fn into_helds(alloc: Global, cells: Vec<OperatorCell>) -> Result<Vec<Held>, AllocError> {
-    let mut helds = Vec::with_capacity(alloc, cells.len())?;
-    for cell in cells {
-        let (book, taken) = cell.into_parts();
-        helds.push(Held::again(book, taken))?;
-    }
-    Ok(helds)
-}
-
-/// Puts a cell round each state again, in the order of the operators.
-fn into_cells(alloc: Global, helds: Vec<Held>) -> Result<Vec<OperatorCell>, AllocError> {
-    let mut cells = Vec::with_capacity(alloc, helds.len())?;
-    for held in helds {
-        let (book, taken) = held.into_parts();
-        cells.push(OperatorCell::again(cells.len(), book, taken))?;
-    }
-    Ok(cells)
 }
 
 /// Does these jobs in threads, and joins them all: what each reports, or the first fault that one
@@ -111,9 +92,9 @@ impl RunState {
     pub(crate) fn new(
         alloc: Global,
         plant: &Plant,
-        cells: Vec<OperatorCell>,
+        cells: Cells,
     ) -> Result<RunState, AllocError> {
-        let lists = no_lists(alloc, cells.len())?;
+        let lists = no_lists(alloc, cells.as_slice().len())?;
         let assembly = Assembly::new(alloc, plant)?;
         Ok(RunState {
             cells,
@@ -196,10 +177,10 @@ impl RunState {
             assembly,
             lists,
         } = self;
-        let mut helds = into_helds(alloc, cells)?;
+        let mut helds = cells.into_helds(alloc)?;
         let told = reslice_helds(alloc, plant, &mut helds, steps, at, from, rows)?;
         let mut resliced = RunState {
-            cells: into_cells(alloc, helds)?,
+            cells: Cells::again(alloc, helds)?,
             assembly,
             lists,
         };

@@ -11,10 +11,10 @@ ghost use Rattle.run_plan.specs.Serving.{IsServable, IsFirstUnserved};
 ghost use Rattle.run_plan.specs.Spending.{IsFirstSpent, before_reslice};
 ghost use Rattle.plant_workers.specs.Faulting.{IsRunFault, IsFault};
 
+use crate::cells::Cells;
 use crate::finishing::finish;
 use crate::gate::Gate;
 use crate::job::{Job, jobs_of};
-use crate::opening::open_cells;
 use crate::run_state::RunState;
 use grant_policy::Ranking;
 use live_core::CoreFault;
@@ -84,7 +84,7 @@ fn run_served<R: Threads + Wait + Sync, G: Gate<R> + Sync>(
         IsOutcome plant.now steps.now (map view_of s.books.items) s.receipts.items s.maps.items) }
     ensures err { IfErr result (IsRunFault plant.now steps.now) }
 {
-    let cells = open_cells(alloc, plant, rankings)?;
+    let cells = Cells::open(alloc, plant, rankings)?;
     let run_state = RunState::new(alloc, plant, cells)?;
     let jobs = jobs_of(alloc, plant, steps)?;
     let run_state = run_steps(

@@ -1,6 +1,6 @@
 //! What the threads of a run share, and what each does with it.
 
-ghost use Rattle.std.specs.Prelude.{◌≡◌, IfErr};
+ghost use Rattle.std.specs.Prelude.{◌≡◌, IfOk, IfErr};
 ghost use Rattle.operator_book.specs.declared.book.BookFault.TheVariants.{NoMemory};
 ghost use Rattle.cell_state.specs.declared.cell_fault.CellFault.TheVariants.{Book};
 ghost use Rattle.run_receipts.specs.Callers.{caller_of};
@@ -39,8 +39,8 @@ fn no_memory(op: Op) -> EarlyEnd
     }
 }
 
-/// Does an action of this part in its turn, and keeps its receipt.
-fn act<R: Wait, G: Gate<R>, C: Turns<R, G>>(
+/// Does an action of this part in its turn, and returns its receipt with the operator and the caller.
+fn act<R: Wait, G: Gate<R>, C: Turns<R>>(
     rt: &R,
     alloc: Global,
     cell: &C,
@@ -48,38 +48,32 @@ fn act<R: Wait, G: Gate<R>, C: Turns<R, G>>(
     part: Part,
     action: Action,
     gate: &G,
-    told: &mut Vec<Told>,
-) -> Result<(), EarlyEnd>
+) -> Result<Told, EarlyEnd>
     requires { caller_of action ≡ caller_in part }
-    ensures { IfErr result (IsOfAct (C.place cell.now) index action) }
+    ensures op { IfOk result (λ told. told.op ≡ C.place cell.now) }
+    ensures caller { IfOk result (λ told. told.caller ≡ caller_in part) }
+    ensures action { IfOk result (λ told. told.receipt.action ≡ action) }
+    ensures fault { IfErr result (IsOfAct (C.place cell.now) index action) }
 {
     let op = cell.op();
-    if told.reserve(1).is_err() {
-        return Err(no_memory(op));
-    }
     match cell.act_in_turn(rt, alloc, part.looks(), index, action, gate) {
-        Ok(receipt) => {
-            let caller = part.caller();
-            told.push_reserved(Told {
-                op,
-                caller,
-                receipt,
-            });
-            Ok(())
-        }
+        Ok(receipt) => Ok(Told {
+            op,
+            caller: part.caller(),
+            receipt,
+        }),
         Err(fault) => Err(EarlyEnd::Turn { op, fault }),
     }
 }
 
 /// Puts the operator's oldest frame that waits into the assembly.
-fn put_oldest_frame<R: Wait, G: Gate<R>, C: Turns<R, G>>(
+fn put_oldest_frame<R: Wait, C: Turns<R>>(
     rt: &R,
     alloc: Global,
     assembly: &Mutex<Assembly>,
     cell: &C,
     index: usize,
     part: Part,
-    _gate: &G,
 ) -> Result<(), EarlyEnd>
     ensures { IfErr result (IsOfPut (C.place cell.now)) }
 {
@@ -99,7 +93,7 @@ fn put_oldest_frame<R: Wait, G: Gate<R>, C: Turns<R, G>>(
 }
 
 /// Does a job of this part.
-fn do_job<R: Wait, G: Gate<R>, C: Turns<R, G>>(
+fn do_job<R: Wait, G: Gate<R>, C: Turns<R>>(
     shared: &Shared<'_, C>,
     rt: &R,
     alloc: Global,
@@ -113,15 +107,23 @@ fn do_job<R: Wait, G: Gate<R>, C: Turns<R, G>>(
     let Some(cell) = shared.cells.get(job.op) else {
         return Ok(());
     };
+    // Room for a receipt, before anything is done.
+    if told.reserve(1).is_err() {
+        return Err(no_memory(job.op));
+    }
     match job.action(alloc) {
-        Ok(Some(action)) => act(rt, alloc, cell, job.turn, part, action, gate, told),
-        Ok(None) => put_oldest_frame(rt, alloc, shared.assembly, cell, job.turn, part, gate),
+        Ok(Some(action)) => {
+            let receipt = act(rt, alloc, cell, job.turn, part, action, gate)?;
+            told.push_reserved(receipt);
+            Ok(())
+        }
+        Ok(None) => put_oldest_frame(rt, alloc, shared.assembly, cell, job.turn, part),
         Err(_) => Err(no_memory(job.op)),
     }
 }
 
 /// Does the jobs of a part, in order, up to the first that is refused.
-fn do_jobs<R: Wait, G: Gate<R>, C: Turns<R, G>>(
+fn do_jobs<R: Wait, G: Gate<R>, C: Turns<R>>(
     shared: &Shared<'_, C>,
     rt: &R,
     alloc: Global,
@@ -149,7 +151,7 @@ pub(crate) trait Chores<R: Wait, G: Gate<R>> {
     fn stop_all(&self, rt: &R);
 }
 
-impl<R: Wait, G: Gate<R>, C: Turns<R, G>> Chores<R, G> for Shared<'_, C> {
+impl<R: Wait, G: Gate<R>, C: Turns<R>> Chores<R, G> for Shared<'_, C> {
     fn run_part(&self, rt: &R, alloc: Global, gate: &G, share: &PartJobs<'_>) -> ThreadReport {
         let mut told = Vec::new(alloc);
         let refused = match do_jobs(self, rt, alloc, gate, share, &mut told) {
@@ -171,7 +173,7 @@ impl<R: Wait, G: Gate<R>, C: Turns<R, G>> Chores<R, G> for Shared<'_, C> {
 
 /// Runs each part of the jobs in a thread of its own, and joins them all. Where a thread cannot be made there are fewer
 /// thread_reports than parts.
-pub(crate) fn run_shared<R: Threads + Wait + Sync, G: Gate<R> + Sync, C: Turns<R, G> + Sync>(
+pub(crate) fn run_shared<R: Threads + Wait + Sync, G: Gate<R> + Sync, C: Turns<R> + Sync>(
     rt: &R,
     alloc: Global,
     cells: &[C],

@@ -27,7 +27,7 @@ pub(crate) struct Turn<'a> {
 
 /// An operator whose turns the threads of a run take: its cell. A trait of its own, so that what threads share asks for no more of a
 /// cell than that it may be shared.
-pub(crate) trait Turns<R: Wait, G: Gate<R>> {
+pub(crate) trait Turns<R: Wait> {
     ghost use Rattle.std.specs.Prelude.{ℕ};
 
     /// The operator's place.
@@ -38,7 +38,7 @@ pub(crate) trait Turns<R: Wait, G: Gate<R>> {
         ensures { result ≡ place self.now };
 
     /// Waits until the history has `index` entries, looks so many times before it sleeps, and does an action.
-    fn act_in_turn(
+    fn act_in_turn<G: Gate<R>>(
         &self,
         rt: &R,
         alloc: Global,
