@@ -1,9 +1,12 @@
 -- The steps of a line, one after the other.
 use Rattle.line_service.proofs.Common.{Start, first_start, Appends, Appends-nil, Appends-trans, map-append, flat_map-append, PlantFields, Step, Out, CoreView, step_fault, IsReported, IsAfter, IsAfterFrom, IsReachableFromStart, LineStep, steps_without_numbers, out_line, outs_text, StepsEnd, IsHalfDone, steps_end, IsStepsEndAt, HasDone}
-use Rattle.std.proofs.Common.{◌≡◌, ◌≢◌, Result, Ok, OnOk, OnErr, ℕ, zero, suc, List, [], ◌∷◌, ◌++◌, take, Option, Some, IsSome, Err, refl, sym, ap, subst, ◌∙◌, append_assoc, append-nil}
+use Rattle.std.proofs.Common.{◌≡◌, ◌≢◌, Result, Ok, OnOk, OnErr, ℕ, zero, suc, List, [], ◌∷◌, ◌++◌, All, drop, take, Option, Some, IsSome, Err, refl, sym, ap, subst, ◌∙◌, append_assoc, append-nil}
 use Rattle.live_core.specs.declared.core_fault.CoreFault.{CoreFault}
 use Rattle.live_core.specs.declared.core_fault.CoreFault.TheVariants.{UnknownModem, UnknownOperator, Book, Gather, NothingToCollect, NoMemory, Reslice}
 use Rattle.line_service.specs.declared.steps_end.StepsEnd.TheVariants as ends
+use Rattle.run_model.specs.Placed.{IsPlaced}
+use Rattle.script_format.specs.Script.{ArePlaced}
+use Rattle.std.proofs.lemmas.List.Elements.{All-head, All-drop}
 use Rattle.line_service.proofs.LeftLemmas.{first_left, none_left, take_next, drop_next}
 
 -- ---- one step more
@@ -22,6 +25,13 @@ none_done plant start before shown steps live known after = record {
   written = Appends-nil known;
   left_are = refl;
 }
+
+-- the next step is placed, as all are
+pub next_is_placed : (plant : PlantFields) (steps : List LineStep) (at : ℕ) (line : LineStep) (rest : List LineStep) → ArePlaced plant steps → drop at steps ≡ line ∷ rest
+    → IsPlaced plant line.step line.place
+next_is_placed plant steps at line rest placed is =
+    let Placed : LineStep → Type 0 = λ l. IsPlaced plant l.step l.place in
+    All-head Placed line rest (subst (λ (left : List LineStep). All Placed left) is (All-drop Placed at steps placed))
 
 -- a step that puts out nothing writes nothing
 pub none_written : (plant : PlantFields) (known : Option (List ℕ)) (now : List Out) → now ≡ [] → Appends known known (outs_text plant now)

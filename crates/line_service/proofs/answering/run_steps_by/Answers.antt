@@ -1,11 +1,13 @@
 use Rattle.std.proofs.Common.{sym, subst, map}
 use Rattle.live_core.specs.Following.{FollowRows}
+use Rattle.script_format.specs.Script.{ArePlaced}
 use Rattle.line_service.proofs.Common.{CoreView, IsAfterFrom, IsReachableFromStart, HasDone}
 use Rattle.line_service.proofs.answering.run_steps_by.Goals as goal
 
 pub run_steps_in-requires : goal.run_steps_in-requires
 run_steps_in-requires g c = record {
   reached = subst (λ (v : CoreView). IsReachableFromStart v) (sym c.take_list-outs.ensures.core) c.requires.reached;
+  placed = subst (λ (v : CoreView). ArePlaced v.plant c.args.steps.items) (sym c.take_list-outs.ensures.core) c.requires.placed;
   policies = subst (λ (v : CoreView). FollowRows (map g.R.Ranks.policy c.args.rankings.now) v.plant.rows) (sym c.take_list-outs.ensures.core) c.requires.policies;
 }
 

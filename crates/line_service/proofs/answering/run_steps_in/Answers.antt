@@ -1,10 +1,11 @@
 use Rattle.std.proofs.Common.{◌≡◌, None, [], ◌∷◌, length, map, ap, refl, sym, subst, ◌∙◌, arith}
 use Rattle.live_core.specs.Following.{FollowRows}
+use Rattle.run_model.specs.Placed.{IsPlaced}
 use Rattle.line_service.proofs.Common.{PlantFields, nat_tests, into_iter_items, nil_from_length, step_fault, live_view}
 use Rattle.live_core.specs.declared.core_fault.CoreFault.TheVariants as faults
 use Rattle.line_service.specs.declared.steps_end.StepsEnd.TheVariants as ends
 use Rattle.line_service.proofs.LeftLemmas.{count_next}
-use Rattle.line_service.proofs.StepLemmas.{none_done, none_written, half_more, all_are_done, step_not_done, on_err_of}
+use Rattle.line_service.proofs.StepLemmas.{next_is_placed, none_done, none_written, half_more, all_are_done, step_not_done, on_err_of}
 use Rattle.line_service.proofs.answering.run_steps_in.Goals as goal
 
 pub loop-number-init : goal.loop-number-init
@@ -22,8 +23,14 @@ pub step_over_by-requires : goal.step_over_by-requires
 step_over_by-requires g c =
     let first = live_view c.args.core.now in
     let run = c.requires.reached in
+    let line = c.in-Some.field-0 in
     let half = c.loop-number.invariant.half first.plant run.0 run.1 run.2 run.3 in
-    subst (λ (p : PlantFields). FollowRows (map g.R.Ranks.policy c.args.rankings.now) p.rows) (sym half.after.plant_is) c.requires.policies
+    let left : into_iter_items c.loop-number.number-iterator ≡ line ∷ into_iter_items c.next.new.self = c.in-Some.ensures.steps.0 in
+    record {
+      policies = subst (λ (p : PlantFields). FollowRows (map g.R.Ranks.policy c.args.rankings.now) p.rows) (sym half.after.plant_is) c.requires.policies;
+      placed = subst (λ (p : PlantFields). IsPlaced p line.step line.place) (sym half.after.plant_is)
+          (next_is_placed first.plant c.args.steps.items half.at line (into_iter_items c.next.new.self) c.requires.placed (half.left_are ∙ left));
+    }
 
 -- an allocation failed for the note of a step
 pub returns-in_default : goal.returns-in_default

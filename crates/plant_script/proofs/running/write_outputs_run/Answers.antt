@@ -6,13 +6,18 @@ use Rattle.plant.specs.declared.plant.PlantFields.{PlantFields}
 use Rattle.plant_script.proofs.Common.{if_ok, outs_text, IsScriptRun, status_code}
 use Rattle.plant_script.proofs.LiveRuns.{run_written}
 use Rattle.plant_script.proofs.Reached.{memory_written}
+use Rattle.script_format.specs.Script.{ArePlaced}
 use Rattle.plant_script.proofs.running.write_outputs_run.Goals as goal
 
 pub write_run-requires-clause-policies : goal.write_run-requires-clause-policies
 write_run-requires-clause-policies g c =
-    let follow = follow_rows (map policy_of c.args.rankings.items) c.args.plant.rows c.requires in
+    let follow = follow_rows (map policy_of c.args.rankings.items) c.args.plant.rows c.requires.policies in
     subst (λ (p : PlantFields). FollowRows (map policy_of c.as_slice.result.now) p.rows) (sym c.in-Ok.ensures.opened.plant_is)
     (subst (λ (rankings : List _). FollowRows (map policy_of rankings) c.args.plant.rows) (sym c.as_slice.ensures.value) follow)
+
+pub write_run-requires-clause-placed : goal.write_run-requires-clause-placed
+write_run-requires-clause-placed g c =
+    subst (λ (p : PlantFields). ArePlaced p c.args.lines.items) (sym c.in-Ok.ensures.opened.plant_is) c.requires.placed
 
 pub returns : goal.returns
 returns g c =
