@@ -215,8 +215,7 @@ fn first_refused(reason: &mut Reason, core: &mut LiveCore, steps: Vec<LineStep>)
         number,
         step,
         place: _,
-    } in steps
-    {
+    } in steps {
         let asked = asked_of(reason, &step);
         if let Err(fault) = core.step_over(reason.alloc, step, &mut outs) {
             say_core(reason, core, &asked, fault);

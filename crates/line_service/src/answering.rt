@@ -70,8 +70,7 @@ fn run_steps_in<R: Ranks, W: Write, N: StepNotes<W>>(
         number,
         step,
         place,
-    } in steps
-    {
+    } in steps {
         let Ok(()) = notes.note_step(alloc, core, &step, writer) else {
             return Ok(StepsEnd::NoMemory);
         };

@@ -50,8 +50,7 @@ fn run_unheard(
         number,
         step,
         place: _,
-    } in lines
-    {
+    } in lines {
         match core.step(alloc, step) {
             Ok(_outs) => {}
             Err(fault) => return refused_line(number, fault),

@@ -89,11 +89,7 @@ fn reslice_helds(
 
 impl RunState {
     /// Returns a run with nothing done.
-    pub(crate) fn new(
-        alloc: Global,
-        plant: &Plant,
-        cells: Cells,
-    ) -> Result<RunState, AllocError> {
+    pub(crate) fn new(alloc: Global, plant: &Plant, cells: Cells) -> Result<RunState, AllocError> {
         let lists = no_lists(alloc, cells.as_slice().len())?;
         let assembly = Assembly::new(alloc, plant)?;
         Ok(RunState {

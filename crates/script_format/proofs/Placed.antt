@@ -1,5 +1,5 @@
 -- What arrives is placed at the operator that lists its modem.
-use Rattle.std.proofs.Common.{◌≡◌, ℕ, ◌+◌, ◌==◌, Bool, true, false, if◌then◌else◌, List, [], ◌∷◌, ◌++◌, length, Option, Some, None, Result, Ok, Err, IfOk, All, refl, sym, ap, subst, codes}
+use Rattle.std.proofs.Common.{◌≡◌, ℕ, ◌+◌, ◌==◌, Bool, true, false, if◌then◌else◌, List, [], ◌∷◌, ◌++◌, length, Option, Some, None, Result, Ok, Err, IfOk, refl, ap, subst, codes}
 use Rattle.std.specs.Global.{Vec}
 use Rattle.std.proofs.lemmas.List.Elements.{All-nil, All-cons, All-append}
 use Rattle.lists.specs.Results.{◌>>=◌}
@@ -13,7 +13,7 @@ use Rattle.operator_model.specs.declared.heard.Heard.TheVariants.{Message}
 use Rattle.run_model.specs.declared.step.Step.{Step}
 use Rattle.run_model.specs.declared.step.Step.TheVariants.{Arrive, Work, Tick, Collect, Reslice}
 use Rattle.run_model.specs.Placed.{IsPlaced}
-use Rattle.script_format.proofs.Common.{bytes_eq, PlantFields, FieldError, FieldResult, UnknownCommand, LineStep, tick_steps, all_ticks, bytes_in, line_fields, line_steps, steps_after}
+use Rattle.script_format.proofs.Common.{bytes_eq, PlantFields, FieldResult, UnknownCommand, LineStep, tick_steps, all_ticks, bytes_in, line_fields, steps_after}
 use Rattle.script_format.proofs.Scripts.{same_steps}
 use Rattle.script_format.specs.Fields.{two_of, three_of, number_in}
 use Rattle.script_format.specs.GivesSteps.{GivesSteps}
@@ -21,7 +21,7 @@ use Rattle.script_format.specs.declared.fields.FieldError.TheVariants.{FieldCoun
 use Rattle.script_format.specs.declared.fields.NumberName.TheVariants.{Frame}
 use Rattle.script_format.specs.declared.lines.LineFault.{LineFault}
 use Rattle.script_format.specs.declared.script.Sender.{Sender}
-use Rattle.script_format.specs.Script.{ArePlaced, sender_at, sender_of, sender_in, operator_in, heard_steps, message_steps, request_in, request_steps, ticked_steps, shares_in, resliced_steps, steps_in}
+use Rattle.script_format.specs.Script.{ArePlaced, sender_at, sender_of, sender_in, operator_in, heard_steps, message_steps, request_in, request_steps, ticked_steps, shares_in, resliced_steps, steps_in, line_steps}
 
 -- ---- one step
 
@@ -44,10 +44,12 @@ one_placed plant number step = All-cons (Placed plant) _ [] (none_placed plant s
 heard_placed : (plant : PlantFields) (number : ℕ) (sender : Sender) (heard : Heard) → holder plant.rows sender.modem ≡ Some sender.op
     → ArePlaced plant (heard_steps number sender heard)
 heard_placed plant number sender heard holds =
-    All-cons (Placed plant) _ _ (placed_at plant sender heard holds) (one_placed plant number (Work sender.op))
+    All-cons (Placed plant) _ (record { number = number; step = Work sender.op; place = None } ∷ []) (placed_at plant sender heard holds)
+    (one_placed plant number (Work sender.op))
 
 ticks_placed : (plant : PlantFields) (number op : ℕ) → ArePlaced plant (tick_steps number op)
-ticks_placed plant number op = All-cons (Placed plant) _ _ (none_placed plant (Tick op)) (one_placed plant number (Collect op))
+ticks_placed plant number op =
+    All-cons (Placed plant) _ (record { number = number; step = Collect op; place = None } ∷ []) (none_placed plant (Tick op)) (one_placed plant number (Collect op))
 
 all_ticks_placed : (plant : PlantFields) (number : ℕ) (rows : List RowFields) (op : ℕ) → ArePlaced plant (all_ticks number rows op)
 all_ticks_placed plant number [] op = All-nil (Placed plant)
@@ -135,12 +137,14 @@ after_placed : (plant : PlantFields) (lines : List (List ℕ)) (number : ℕ) (b
     → steps_after plant number before lines ≡ Ok steps → ArePlaced plant steps
 after_placed plant [] number before steps placed h =
     subst (ArePlaced plant) (ap (λ (r : Result (List LineStep) ℕ). elim r [ Ok s ↦ s | Err n ↦ before ]) h) placed
-after_placed plant (line ∷ lines) number before steps placed h = cases (line_steps plant number line) refl h where
-  cases : (said : FieldResult (List LineStep)) → line_steps plant number line ≡ said
-      → elim said [ Ok more ↦ steps_after plant (number + 1) (before ++ more) lines | Err error ↦ Err number ] ≡ Ok steps → ArePlaced plant steps
-  cases (Ok more) e is =
-      after_placed plant lines (number + 1) (before ++ more) steps (All-append (Placed plant) before more placed (line_placed plant number line more e)) is
-  cases (Err error) e is = absurd cc
+after_placed plant (line ∷ lines) number before steps placed h =
+    cases (λ next next_placed is. after_placed plant lines (number + 1) next steps next_placed is) (line_steps plant number line) refl h where
+      cases : ((next : List LineStep) → ArePlaced plant next → steps_after plant (number + 1) next lines ≡ Ok steps → ArePlaced plant steps)
+          → (said : FieldResult (List LineStep)) → line_steps plant number line ≡ said
+          → ◌≡◌ {A = Result (List LineStep) ℕ} (elim said [ Ok more ↦ steps_after plant (number + 1) (before ++ more) lines | Err error ↦ Err number ]) (Ok steps)
+          → ArePlaced plant steps
+      cases then_placed (Ok more) e is = then_placed (before ++ more) (All-append (Placed plant) before more placed (line_placed plant number line more e)) is
+      cases then_placed (Err error) e is = absurd cc
 
 pub placed_if : (plant : PlantFields) (lines : List (List ℕ)) (result : Result (Vec LineStep) LineFault) → GivesSteps result (steps_after plant 1 [] lines)
     → IfOk result (λ steps. ArePlaced plant steps.items)

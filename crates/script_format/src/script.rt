@@ -103,7 +103,10 @@ fn three_error(line: &[u8], error: FieldError) -> FieldError
 /// space is searched for.
 #[tactic(auto, using(crate::proofs::FirstFields::sender_lacks, crate::proofs::FirstFields::sender_unseparated))]
 #[inline(always)]
-fn sender_first<'a, P: Routing>(routes: &mut P, line: &'a [u8]) -> Result<(Sender, &'a [u8]), FieldError>
+fn sender_first<'a, P: Routing>(
+    routes: &mut P,
+    line: &'a [u8],
+) -> Result<(Sender, &'a [u8]), FieldError>
     ensures value { result_map (λ p. (p.0, line_fields p.1.now)) result ≡ sender_first (P.plant_of routes.old) (line_fields line.now) }
     ensures same { routes.new ≡ routes.old }
 {

@@ -83,8 +83,7 @@ pub fn write_trace<W: Write>(
         number,
         step,
         place: _,
-    } in steps
-    {
+    } in steps {
         rest = write_line(writer, rest, last, number)?;
         last = last.max(number);
         let Ok(seen) = decision_of(alloc, core, &step) else {

@@ -1,4 +1,4 @@
-use Rattle.std.proofs.Common.{◌≡◌, Ok, subst, sym, ◌∙◌}
+use Rattle.std.proofs.Common.{◌≡◌, Ok, subst, sym}
 use Rattle.live_core.specs.declared.held.LiveCore.{LiveCore}
 use Rattle.live_core.specs.After.{IsAfterFrom}
 use Rattle.line_service.proofs.Common.{PlantFields, live_view, LineOutcome, steps_said, HasAnswered}

@@ -2,7 +2,7 @@ use Rattle.plant_workers.proofs.CellLemmas.{none_stand, stand_more}
 use Rattle.plant_workers.proofs.cells.hold_each.Goals as goal
 
 pub loop-held-init : goal.loop-held-init
-loop-held-init c = record { next = tt; finite = tt; stand = rw c.in_ok-cells.ensures.items none_stand; }
+loop-held-init c = record { next = tt; finite = tt; stand = rw c.in_ok-cells.ensures.items none_stand }
 
 pub loop-held-preserved : goal.loop-held-preserved
 loop-held-preserved c = record {

@@ -2,7 +2,7 @@ use Rattle.plant_workers.proofs.CellLemmas.{none_stand, stand_more}
 use Rattle.plant_workers.proofs.cells.open_each.Goals as goal
 
 pub loop-ranking-init : goal.loop-ranking-init
-loop-ranking-init c = record { next = tt; finite = tt; stand = rw c.in_ok-cells.ensures.items none_stand; }
+loop-ranking-init c = record { next = tt; finite = tt; stand = rw c.in_ok-cells.ensures.items none_stand }
 
 pub loop-ranking-preserved : goal.loop-ranking-preserved
 loop-ranking-preserved c = record {

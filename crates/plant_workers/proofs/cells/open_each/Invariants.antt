@@ -1,4 +1,3 @@
-use Rattle.std.proofs.Common.{◌≡◌}
 use Rattle.plant_workers.specs.Cells.{StandInOrder}
 use Rattle.plant_workers.proofs.cells.open_each.Given as goal
 

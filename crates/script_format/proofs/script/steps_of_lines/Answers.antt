@@ -16,7 +16,7 @@ returns-in-Err-Invalid-clause-value c =
     let here = line_at c.args.lines.now place none c.loop-line-test.true in
     let said = line_steps plant number line in
     let fails : Fails (field_cause (Invalid _)) (behind steps said) = subst (λ (f : FieldFault). Fails (field_cause f) (behind steps said)) c.in-Err-Invalid.field-0-is
-        (rw (← c.loop-line.invariant.same) c.in-Err-Invalid.ensures.said) in
+    (rw (← c.loop-line.invariant.same) c.in-Err-Invalid.ensures.said) in
     sym c.loop-line.invariant.so_far.goes_on
     ∙ ap (steps_after plant number steps) here
     ∙ steps_fail plant number steps line (drop (place + 1) lines) _ said refl fails
