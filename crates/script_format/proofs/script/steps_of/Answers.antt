@@ -1,4 +1,3 @@
-use Rattle.std.proofs.Common.{map}
 use Rattle.script_format.proofs.Placed.{placed_if}
 use Rattle.script_format.proofs.script.steps_of.Goals as goal
 

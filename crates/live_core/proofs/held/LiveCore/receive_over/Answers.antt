@@ -14,7 +14,9 @@ invariant_of-self c =
     }
 
 pub receive-requires : goal.receive-requires
-receive-requires c = arrives _ _ c.args.modem c.args.heard c.args.op refl (sym c.requires)
+receive-requires c =
+    let plant = c.args.self.now.routes in
+    arrives plant plant c.args.modem c.args.heard c.args.op refl (sym c.requires)
 
 pub returns-clause-ok : goal.returns-clause-ok
 returns-clause-ok c =

@@ -10,4 +10,4 @@ tick_over_by-requires g c =
     at_place g.R.Ranks.policy c.args.rankings.now (live_view c.args.self.now).plant.rows c.in-Tick.op c.in-Some.ranking.now there c.requires.policies
 
 pub receive_over-requires : goal.receive_over-requires
-receive_over-requires g c = c.requires.placed c.in-Some.op c.in-Arrive.modem c.in-Arrive.heard c.in-Some.is c.in-Arrive.is
+receive_over-requires g c = c.requires.placed c.in-Some-place.op c.in-Arrive.modem c.in-Arrive.heard c.in-Some-place.is c.in-Arrive.is
