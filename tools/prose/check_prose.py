@@ -1,5 +1,5 @@
-"""Checks the prose of the documents: README.md, CHANGELOG.md, CONTRIBUTING.md, docs/*.md, packaging/README.md, tools/README.md and the README.md
-of each example.
+"""Checks the prose of the documents: README.md, CHANGELOG.md, CONTRIBUTING.md, docs/*.md, docs/reference/*.md, packaging/README.md,
+tools/README.md and the README.md of each example.
 
     tools/ci/check_prose [FILE..]          checks the documents, or these files
     tools/ci/check_prose --words < TEXT    checks the words of standard input alone, such as help or messages
@@ -17,7 +17,9 @@ It finds
     file      the name of a file of the repository that does not exist
     name      in docs/ARCHITECTURE.md, docs/MODEL.md and docs/PROVED.md, a name in code font that no source of a crate has
 
-Code spans, code blocks and quoted text may have any words. Tables and code may have any width. Names of files are looked for everywhere.
+Code spans, code blocks and quoted text may have any words. Tables and code may have any width, also a line that is one code span. Names of
+files are looked for everywhere. In the pages of docs/reference, words and sentences are not checked: they are those of comments in the
+sources, from which tools/reference_pages writes the pages.
 """
 
 import pathlib
@@ -27,7 +29,7 @@ from tools import ROOT
 from tools.prose.checks import findings_of, word_findings
 from tools.prose.markdown import split_document
 
-DOCUMENTS = ("README.md", "CHANGELOG.md", "CONTRIBUTING.md", "docs/*.md", "packaging/README.md", "tools/README.md", "examples/**/README.md")
+DOCUMENTS = ("README.md", "CHANGELOG.md", "CONTRIBUTING.md", "docs/*.md", "docs/reference/*.md", "packaging/README.md", "tools/README.md", "examples/**/README.md")
 
 
 def documents():

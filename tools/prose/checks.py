@@ -1,5 +1,6 @@
 """Checks a document: words, sentences, lines, cells, links and names of files."""
 
+import functools
 import re
 from dataclasses import dataclass
 
@@ -11,6 +12,10 @@ MOST_WORDS = 35
 # The documents that have another limit of words in a sentence.
 MOST_WORDS_OF = {"README.md": 30, "docs/ARCHITECTURE.md": 25, "docs/MODEL.md": 25, "docs/PROVED.md": 25}
 END_OF_SENTENCE = re.compile(r"(?<=[.!?])[\"')*]*\s+(?=[\"'(*]*[A-Z\d" + CODE + COMMAND + "])")
+# The folder of the pages that tools/reference_pages writes. Their words and sentences are those of comments in the sources.
+GENERATED = "docs/reference/"
+# A line that is one code span, perhaps as an item of a list: nothing of it can go to the next line.
+CODE_LINE = re.compile(r"\s*(?:[-*] )?`[^`]*`")
 # The documents that name definitions, functions and clauses, and the code spans that do so.
 NAMING = ("docs/ARCHITECTURE.md", "docs/MODEL.md", "docs/PROVED.md")
 NAMES = re.compile(r"[A-Za-z_]\w*(?:(?:::| )\w+)*")
@@ -33,9 +38,11 @@ def findings_of(root, path):
     name = str(path.relative_to(root)) if path.is_relative_to(root) else ""
     most_words = MOST_WORDS_OF.get(name, MOST_WORDS)
     found = [
-        *word_findings(document), *sentence_findings(document, most_words), *line_findings(document), *cell_findings(document),
-        *link_findings(document, path), *file_findings(document, root, path), *(name_findings(document, root) if name in NAMING else ()),
+        *line_findings(document), *cell_findings(document), *link_findings(document, path), *file_findings(document, root, path),
+        *(name_findings(document, root) if name in NAMING else ()),
     ]  # fmt: skip
+    if not name.startswith(GENERATED):
+        found += [*word_findings(document), *sentence_findings(document, most_words)]
     return sorted(found, key=lambda finding: finding.line)
 
 
@@ -69,7 +76,7 @@ def sentence_findings(document, most_words):
 
 def line_findings(document):
     for number, line in document.prose_lines:
-        if len(line) > MOST_COLUMNS:
+        if len(line) > MOST_COLUMNS and not CODE_LINE.fullmatch(line):
             yield Finding(number, "line", f"{len(line)} columns, at most {MOST_COLUMNS}")
 
 
@@ -93,7 +100,13 @@ def is_link(path, target):
     file = path.parent / name if name else path
     if not file.exists():
         return False
-    return not anchor or anchor in {anchor_of(heading) for _, heading in split_document(file.read_text()).headings}
+    return not anchor or anchor in anchors_in(file.read_text())
+
+
+@functools.cache
+def anchors_in(text):
+    """Returns the anchors of a document's headings."""
+    return {anchor_of(heading) for _, heading in split_document(text).headings}
 
 
 def file_findings(document, root, path):

@@ -1,0 +1,1 @@
+"""Reads what a crate offers from its sources, and writes the page of each crate in docs/reference."""
