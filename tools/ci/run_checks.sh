@@ -1,7 +1,7 @@
 #!/bin/bash
 # Runs all checks of the repository but the proofs. Each prints what is wrong and ends this script.
 #
-#   - clauses, documents, lists of crates, doc comments, examples, and the texts and the number of must-fail edits
+#   - clauses, documents, lists of crates, pages of crates, doc comments, examples, and the texts and the number of must-fail edits
 #   - the cases of tests/, by the second implementation, and by the program if it is built
 #   - the generator: a seed gives the same case twice, and tools/compare/handwritten_inputs reaches each check of the rules
 #   - the program, if it is built: compared with the second implementation by each command, and the exit statuses and messages;
@@ -27,6 +27,7 @@ quietly() {
 "$tools/ci/clause_widths" --most 0 || { "$tools/ci/clause_widths" --list >&2; exit 1; }
 quietly "$tools/ci/check_prose"
 quietly "$tools/ci/crate_lists" --check
+quietly "$tools/reference_pages" --check
 quietly "$tools/ci/doc_comments"
 quietly "$tools/ci/edits" --check
 # --version prints the version of CHANGELOG.md, and from the script plant_script also the kit that built the program.

@@ -6,6 +6,7 @@ import tempfile
 import unittest
 
 from tools import ROOT
+from tools.prose.check_prose import documents
 from tools.prose.checks import findings_of
 from tools.prose.words import CROSSED_OUT
 
@@ -61,6 +62,13 @@ class Findings(unittest.TestCase):
         self.assertEqual(self.found("a" * 100 + "\n"), [])
         self.assertEqual(self.found("Text.\n\n" + "a" * 101 + "\n"), [("line", 3)])
         self.assertEqual(self.found("| " + "a" * 101 + " |\n|---|\n\n    " + "a" * 101 + "\n"), [])
+        self.assertEqual(self.found("- Word:\n  `" + "a " * 50 + "a`\n- `" + "a " * 50 + "a`\n"), [])
+        self.assertEqual(self.found("- Word:\n  `" + "a " * 50 + "a`.\n"), [("line", 2)])
+
+    def test_generated_pages(self):
+        (self.root / "docs/reference").mkdir()
+        self.assertEqual(self.found("Told.\n" + "word\n" * 40 + "[a](NONE.md)\n" + "a" * 101 + "\n", "docs/reference/PAGE.md"), [("link", 1), ("line", 43)])
+        self.assertIn(ROOT / "docs/reference/README.md", documents())
 
     def test_cells(self):
         row = "| 1 | " + "word " * 12
