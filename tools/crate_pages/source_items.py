@@ -11,6 +11,8 @@ HEAD = re.compile(
 )  # fmt: skip
 CLAUSE = re.compile(r"\s*(?P<kind>requires|ensures|ghost)\b\s*(?P<name>\w+)?\s*[:=]?\s*(?=\{)")
 FIELD = re.compile(r"(?P<public>pub(?P<limit>\s*\([^)]*\))?\s+)?(?P<ghost>ghost\s+)?(?P<name>\w+)\s*:")
+# A parameter that only the body sees as mutable.
+MUTABLE = re.compile(r"(\(|, )mut (?=\w+:|self\b)")
 PARTS = re.compile(r"[-=]>|[()\[\]{<>,]")
 SPACE = re.compile(r"\s*")
 # Kinds of items that end with a block, or with `;` if they have none.
@@ -137,7 +139,7 @@ def read_block(source, item, start, end):
 def read_function(source, item, start):
     """Gives a function its signature and its clauses, and returns where it ends."""
     code, at = source.code, first_clause(source.code, start)
-    item.signature = one_line(source.text[start:at])
+    item.signature = MUTABLE.sub(r"\1", one_line(source.text[start:at]))
     while clause := CLAUSE.match(code, at):
         stop = end_of_block(code, clause.end())
         comment = comment_in(source.text[at:SPACE.match(code, at).end()])

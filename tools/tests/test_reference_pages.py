@@ -166,7 +166,7 @@ pub trait Sees<T> {
 }
 
 /// Looks twice.
-pub fn look<'a, T: Sees<u8>>(one: &'a T, other: Option<&T>) -> (u8, u8) {
+pub fn look<'a, T: Sees<u8>>(mut one: &'a T, other: Option<&mut T>) -> (u8, u8) {
     let brace = '{';
     (one.see(), 0)
 }
@@ -282,7 +282,7 @@ class Items(Pages):
 
     def test_function_with_braces_in_its_body(self):
         self.assertEqual(self.of_item(3, "look", "src/kinds.rt"),
-                         "    pub fn look<'a, T: Sees<u8>>(one: &'a T, other: Option<&T>) -> (u8, u8)\n\nLooks twice.")
+                         "    pub fn look<'a, T: Sees<u8>>(one: &'a T, other: Option<&mut T>) -> (u8, u8)\n\nLooks twice.")
 
     def test_struct(self):
         self.assertEqual(self.of_item(3, "Name", "src/kinds.rt"), "\n".join((
