@@ -181,7 +181,8 @@ def read_fields(source, item, start, end):
         if not found:
             raise WrongSource(f"a field of {item.name} cannot be read")
         if found["ghost"]:
-            inner = one_line(source.text[found.end():stop]).removeprefix("{").removesuffix("}").strip()
+            brace = source.code.index("{", found.end())
+            inner = one_line(source.text[brace + 1:end_of_block(source.code, brace) - 1])
             item.clauses.append(Clause("ghost", found["name"], unwrapped(doc_in(above)) or comment_in(above), inner))
         elif found["public"] and not found["limit"]:
             item.members.append(Item("field", found["name"], source.file, True, doc_in(above), one_line(source.text[found.start("name"):stop])))

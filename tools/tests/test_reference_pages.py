@@ -108,7 +108,7 @@ pub struct Name {
     pub(crate) mark: u8,
     // The name has a byte.
     ghost some: { 0 < length bytes },
-    ghost marked: { mark ≡ 1 },
+    ghost marked: { mark ≡ 1 } by { is_marked mark },
 }
 
 impl Model for Name {
