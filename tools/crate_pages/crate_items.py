@@ -1,6 +1,7 @@
 """Finds what a crate makes public: what its root declares or re-exports, and the methods of its types."""
 
 import re
+from collections import Counter
 from dataclasses import dataclass, field
 
 from tools.proving.functions import TESTS, in_angles, last_name, module_of, without_angles
@@ -47,7 +48,7 @@ def read_crate(folder):
             raise WrongSource(f"crates/{folder.name}/{file}: {error}") from error
         doc = doc_of_file(text) if module_of(file) == () else doc
     items, from_others = exported(folder.name, modules, ())
-    add_methods(modules, items)
+    add_methods(folder.name, modules, items)
     return CrateItems(doc, items, sorted(set(from_others)))
 
 
@@ -107,10 +108,13 @@ def leaves(text):
     return [(*front, *path) for part in parts for path in leaves(part)]
 
 
-def add_methods(modules, items):
+def add_methods(crate, modules, items):
     """Gives each public type its public methods and constants, the traits that it has, and what contracts see of it."""
     types = {it.item.name: it for it in items if it.item.kind in TYPES}
-    for it in types.values():
+    counts = Counter(item.name for members in modules.values() for item in members if item.kind in TYPES)
+    for name, it in types.items():
+        if counts[name] > 1:
+            raise WrongSource(f"crates/{crate}: several types have the name {name}, so it is not clear which one an `impl` is of")
         it.traits = list(it.item.derives)
     for impl in (item for members in modules.values() for item in members if item.kind == "impl"):
         trait, name = trait_and_type(impl.signature)

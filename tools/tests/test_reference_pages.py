@@ -341,6 +341,14 @@ class Items(Pages):
         self.write("low/src/laws.rt", "//! Nothing.\n")
         self.assertEqual(self.run_tool(), (1, "reference_pages: crates/low: `pub use laws::is_small` names nothing that is public\n"))
 
+    def test_a_name_of_two_types(self):
+        self.write("low/src/laws.rt", SOURCES["low/src/laws.rt"] + "struct Name;\n")
+        self.assertEqual(self.run_tool(), (1, "reference_pages: crates/low: several types have the name Name, so it is not clear which one an `impl` is of\n"))
+
+    def test_a_source_that_cannot_be_read(self):
+        self.write("low/src/laws.rt", "pub fn is_small()\n    ensures { 1 ≤ 2 }\n{\n")
+        self.assertEqual(self.run_tool(), (1, "reference_pages: crates/low/src/laws.rt: a block has no end\n"))
+
 
 class Definitions(Pages):
     def test_definitions(self):
