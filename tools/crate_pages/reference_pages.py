@@ -149,11 +149,11 @@ def write(root, pages):
             path.unlink()
 
 
-def main():
+def main(arguments=None):
     parser = argparse.ArgumentParser("reference_pages", description=__doc__, formatter_class=argparse.RawDescriptionHelpFormatter)
     parser.add_argument("--check", action="store_true", help="compare, and write nothing")
     parser.add_argument("--root", type=pathlib.Path, default=ROOT, metavar="FOLDER", help="the repository")
-    options = parser.parse_args()
+    options = parser.parse_args(arguments)
     try:
         pages = pages_of(options.root)
         if options.check:

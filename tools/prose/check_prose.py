@@ -29,7 +29,8 @@ from tools import ROOT
 from tools.prose.checks import findings_of, word_findings
 from tools.prose.markdown import split_document
 
-DOCUMENTS = ("README.md", "CHANGELOG.md", "CONTRIBUTING.md", "docs/*.md", "docs/reference/*.md", "packaging/README.md", "tools/README.md", "examples/**/README.md")
+DOCUMENTS = ("README.md", "CHANGELOG.md", "CONTRIBUTING.md", "docs/*.md", "docs/reference/*.md", "packaging/README.md", "tools/README.md",
+             "examples/**/README.md")
 
 
 def documents():

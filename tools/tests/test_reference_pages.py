@@ -1,11 +1,14 @@
 """Tests tools/reference_pages: what it writes of small crates, and that it notices each kind of difference."""
 
+import contextlib
+import io
 import pathlib
 import subprocess
 import tempfile
 import unittest
 
 from tools import ROOT
+from tools.crate_pages import reference_pages as TOOL
 from tools.prose.checks import findings_of
 
 LONG = "result ≡ " + " + ".join(["number"] * 12)
@@ -238,8 +241,15 @@ class Pages(unittest.TestCase):
         path.write_text(text)
 
     def run_tool(self, *options):
-        done = subprocess.run([ROOT / "tools/reference_pages", "--root", self.root, *options], capture_output=True, text=True, check=False)
-        return done.returncode, done.stdout + done.stderr
+        """Runs the tool in this process, and returns its status and its output."""
+        output = io.StringIO()
+        with contextlib.redirect_stdout(output):
+            try:
+                TOOL.main(["--root", str(self.root), *options])
+            except SystemExit as end:
+                # A text is what the tool writes to standard error.
+                return (end.code, output.getvalue()) if isinstance(end.code, int) else (1, f"{end.code}\n")
+        return 0, output.getvalue()
 
     def page(self, name):
         return self.root / "docs/reference" / name
@@ -300,7 +310,8 @@ class Items(Pages):
 
     def test_enum(self):
         self.assertEqual(self.of_item(3, "Choice", "src/kinds.rt"), "\n".join((
-            "    pub enum Choice", "", "One of several.", "", "- `None`: Chooses none.", "- `Some(Name, u8)`", "- `Many { count: u8 }`: Chooses many.",
+            "    pub enum Choice", "", "One of several.", "", "- `None`: Chooses none.", "- `Some(Name, u8)`",
+            "- `Many { count: u8 }`: Chooses many.",
         )))  # fmt: skip
 
     def test_trait(self):
@@ -343,7 +354,8 @@ class Items(Pages):
 
     def test_a_name_of_two_types(self):
         self.write("low/src/laws.rt", SOURCES["low/src/laws.rt"] + "struct Name;\n")
-        self.assertEqual(self.run_tool(), (1, "reference_pages: crates/low: several types have the name Name, so it is not clear which one an `impl` is of\n"))
+        self.assertEqual(self.run_tool(),
+                         (1, "reference_pages: crates/low: several types have the name Name, so it is not clear which one an `impl` is of\n"))
 
     def test_a_source_that_cannot_be_read(self):
         self.write("low/src/laws.rt", "pub fn is_small()\n    ensures { 1 ≤ 2 }\n{\n")
@@ -388,6 +400,12 @@ class Check(Pages):
         self.assertEqual(self.run_tool(), (0, ""))
         self.assertEqual(self.run_tool("--check"), (0, ""))
 
+    def test_the_command(self):
+        self.page("high.md").unlink()
+        for option, status in (("--check", 1), (None, 0), ("--check", 0)):
+            words = [ROOT / "tools/reference_pages", "--root", self.root, *([option] if option else [])]
+            self.assertEqual(subprocess.run(words, capture_output=True, check=False).returncode, status)
+
     def test_a_stale_page(self):
         before = self.page("low.md").read_text()
         self.write("low/src/laws.rt", SOURCES["low/src/laws.rt"].replace("small.", "less than 3."))
@@ -422,6 +440,6 @@ class Check(Pages):
     def test_a_file_of_somebody_else(self):
         self.page("NOTES.md").write_text("# Notes\n")
         self.assertEqual(self.run_tool("--check"), (1, "docs/reference/NOTES.md is a page of no crate; tools/reference_pages removes it\n"))
-        status, output = self.run_tool()
-        self.assertEqual((status, output), (1, "reference_pages: docs/reference/NOTES.md is not written by tools/reference_pages; move it to another folder\n"))
+        self.assertEqual(self.run_tool(),
+                         (1, "reference_pages: docs/reference/NOTES.md is not written by tools/reference_pages; move it to another folder\n"))
         self.assertTrue(self.page("NOTES.md").exists())
