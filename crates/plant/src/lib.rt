@@ -1,5 +1,5 @@
-//! The description of a plant: what all operators share, what each operator is provisioned with, when a plant is valid, and to which
-//! operator a modem's messages go.
+//! The description of a plant: what all operators share, what each is provisioned with, and when a plant is valid. Which operator
+//! lists a modem.
 #![tactic(auto)]
 
 mod class_table;

@@ -21,7 +21,7 @@ pub trait Routing: Drop {
     /// The plant.
     ghost plant_of: { Self → PlantFields };
 
-    /// Returns the plant.
+    /// Returns the plant whose operators are found.
     fn plant(&self) -> &Plant
         ensures { result.now ≡ plant_of self.now };
 

@@ -11,7 +11,7 @@ use operator_book::Book;
 use plant::Plant;
 use std::alloc::{AllocError, Global};
 
-/// The operators' cells. The type keeps that each stands at its operator's place.
+/// The operators' cells. The type keeps that each is at its operator's place.
 #[derive(Drop)]
 pub(crate) struct Cells {
     cells: Vec<OperatorCell>,
