@@ -3,7 +3,9 @@ use Rattle.line_service.proofs.Common.{Start, nat_tests, Appends, Appends-nil, A
 use Rattle.std.proofs.Common.{◌≡◌, inl, inr, ℕ, List, [], ◌++◌, take, length, arith, ◌<◌, ◌≤◌, Bool, true, false, nat_le, Option, Some, None, Ok, Err, refl, sym, subst, ◌∙◌, append-nil}
 use Rattle.std.specs.Prelude.{slice_get}
 use Rattle.script_format.specs.declared.fields.FieldError.{FieldError}
-use Rattle.script_format.specs.Fields.{FieldResult}
+use Rattle.script_format.specs.Fields.{FieldResult, behind}
+use Rattle.script_format.specs.Script.{ArePlaced, line_steps}
+use Rattle.script_format.proofs.Placed.{line_placed}
 use Rattle.line_service.specs.declared.line_outcome.LineOutcome.TheVariants.{AtFault, NoMemory}
 use Rattle.line_service.specs.declared.steps_end.StepsEnd.TheVariants as ends
 
@@ -22,6 +24,15 @@ short_enough plant number line steps said long =
     let over : nat_le (length line) 4096 ≡ false = grind (arith, nat_tests, long) in
     let none : steps_said plant number line ≡ Err TooLong = rw over refl in
     let wrong : ◌≡◌ {A = FieldResult (List LineStep)} (Err TooLong) (Ok steps) = sym none ∙ said in cc
+
+-- the steps that a line says are placed
+pub said_placed : (plant : PlantFields) (number : ℕ) (line : List ℕ) (before steps : List LineStep) → before ≡ [] → behind before (line_steps plant number line) ≡ Ok steps
+    → ArePlaced plant steps
+said_placed plant number line before steps none said =
+    cases (line_steps plant number line) refl (subst (λ (b : List LineStep). behind b (line_steps plant number line) ≡ Ok steps) none said) where
+      cases : (r : FieldResult (List LineStep)) → line_steps plant number line ≡ r → behind [] r ≡ Ok steps → ArePlaced plant steps
+      cases (Ok more) e is = line_placed plant number line steps (e ∙ is)
+      cases (Err error) e is = absurd cc
 
 -- a line that says steps
 pub steps_answered : (plant : PlantFields) (start : Start) (before : List Step) (shown : List Out) (number : ℕ) (line : List ℕ) (steps : List LineStep) (live : CoreView) (end : StepsEnd) (w0 w1 : Option (List ℕ))
