@@ -1,8 +1,8 @@
 //! The operators' cells, in the order of the operators.
 
-ghost use Rattle.std.specs.Prelude.{IfOk};
+ghost use Rattle.std.specs.Prelude.{map, IfOk};
 ghost use Rattle.std.proofs.Props.{props};
-ghost use Rattle.plant_workers.specs.Cells.{StandInOrder};
+ghost use Rattle.plant_workers.specs.Cells.{AreInOrder};
 
 use crate::cell::OperatorCell;
 use cell_state::Held;
@@ -15,7 +15,7 @@ use std::alloc::{AllocError, Global};
 #[derive(Drop)]
 pub(crate) struct Cells {
     cells: Vec<OperatorCell>,
-    ghost in_order: { StandInOrder cells.items } by { Prim.hlevel props },
+    ghost in_order: { AreInOrder (map (λ cell. cell.op) cells.items) } by { Prim.hlevel props },
 }
 
 /// Opens each operator's book, and puts a cell round it.
@@ -24,7 +24,7 @@ fn open_each(
     plant: &Plant,
     rankings: Vec<Ranking>,
 ) -> Result<Vec<OperatorCell>, AllocError>
-    ensures { IfOk result (λ cells. StandInOrder cells.items) }
+    ensures { IfOk result (λ cells. AreInOrder (map (λ cell. cell.op) cells.items)) }
 {
     let rows = plant.rows();
     let mut cells = Vec::with_capacity(alloc, rankings.len())?;
@@ -42,7 +42,7 @@ fn open_each(
 
 /// Puts a cell round each state, in the order of the operators.
 fn hold_each(alloc: Global, helds: Vec<Held>) -> Result<Vec<OperatorCell>, AllocError>
-    ensures { IfOk result (λ cells. StandInOrder cells.items) }
+    ensures { IfOk result (λ cells. AreInOrder (map (λ cell. cell.op) cells.items)) }
 {
     let mut cells = Vec::with_capacity(alloc, helds.len())?;
     for held in helds {
@@ -71,7 +71,7 @@ impl Cells {
 
     /// Lends the cells, each at its operator's place.
     pub(crate) fn as_slice(&self) -> &[OperatorCell]
-        ensures { StandInOrder result.now }
+        ensures { AreInOrder (map (λ cell. cell.op) result.now) }
     {
         self.cells.as_slice()
     }

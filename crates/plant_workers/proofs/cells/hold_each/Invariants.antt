@@ -1,9 +1,10 @@
-use Rattle.plant_workers.specs.Cells.{StandInOrder}
+use Rattle.std.proofs.Common.{map}
+use Rattle.plant_workers.specs.Cells.{AreInOrder}
 use Rattle.plant_workers.proofs.cells.hold_each.Given as goal
 
 abbrev pub invariant-loop-held : goal.invariant-loop-held
-invariant-loop-held l = record {
-  next : goal.iterator-loop-held.can_next l.held-iterator;
-  finite : goal.iterator-loop-held.is_finite l.held-iterator;
-  stand : StandInOrder l.cells.items;
+invariant-loop-held g l = record {
+  next : (goal.iterator-loop-held g).can_next l.held-iterator;
+  finite : (goal.iterator-loop-held g).is_finite l.held-iterator;
+  in_order : AreInOrder (map (λ cell. cell.op) l.cells.items);
 }

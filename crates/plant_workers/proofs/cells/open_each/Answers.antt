@@ -1,12 +1,11 @@
-use Rattle.plant_workers.proofs.CellLemmas.{none_stand, stand_more}
+use Rattle.std.proofs.Common.{◌∙◌}
+use Rattle.plant_workers.proofs.CellLemmas.{cell_more}
 use Rattle.plant_workers.proofs.cells.open_each.Goals as goal
 
-pub loop-ranking-init : goal.loop-ranking-init
-loop-ranking-init c = record { next = tt; finite = tt; stand = rw c.in_ok-cells.ensures.items none_stand }
-
 pub loop-ranking-preserved : goal.loop-ranking-preserved
-loop-ranking-preserved c = record {
+loop-ranking-preserved g c = record {
   next = tt;
   finite = tt;
-  stand = rw c.in_ok-push.ensures.items (stand_more c.loop-ranking.cells.items c.new.result c.loop-ranking.invariant.stand (rw c.new.ensures c.len.ensures));
+  in_order = rw c.in_ok-push-in-Ok.ensures.items (cell_more (λ cell. cell.op) c.loop-ranking.cells.items c.new.result c.loop-ranking.invariant.in_order
+      (c.new.ensures ∙ c.len-in-Ok.ensures ∙ c.loop-ranking.cells.ok.0));
 }
