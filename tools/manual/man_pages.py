@@ -4,8 +4,8 @@
     tools/man_pages --check      tests whether the pages are those of the sources, and exits with 1 if one is not
     tools/man_pages --markdown NAME      prints a page as pandoc reads it
 
-The sources are the table of commands and the help texts in crates/command_line/src, docs/FORMATS.md, docs/OPERATING.md, README.md, CHANGELOG.md and
-examples/plant_p2.toml. tools/manual/pages/ says what a page takes from them.
+The sources are the table of commands and the help texts in crates/command_line/src, docs/FORMATS.md, docs/OPERATING.md, docs/MONITORING.md,
+README.md, CHANGELOG.md and examples/plant_p2.toml. tools/manual/pages/ says what a page takes from them.
 
 A page has two sums in its head: of what pandoc read, and of what it wrote. So --check needs no pandoc. It reports a page whose sources have
 changed since it was built, and one that was changed by hand. If pandoc is installed in the version that built the pages, --check also

@@ -253,11 +253,11 @@ def groups(box):
 
 
 def metrics_folder(box):
-    """Does what docs/OPERATING.md says of the folder of the metrics. A client cannot make links there, and the file is written."""
+    """Does what docs/MONITORING.md says of the folder of the metrics. A client cannot make links there, and the file is written."""
     folder = "/var/lib/prometheus/node-exporter"
     box.run(f"mkdir -p {folder}")
     set_plant(box, "east")
-    box.run("set -e\n" + "\n".join(line for line in without_subsections(section(ROOT, "docs/OPERATING.md#metrics")) if line.startswith("    ")))
+    box.run("set -e\n" + "\n".join(line for line in without_subsections(section(ROOT, "docs/MONITORING.md#metrics")) if line.startswith("    ")))
     box.wait_until(f"cat {folder}/melfjits_east.prom", lambda output: "melfjits_build_info" in output, "no metrics")
     box.run("useradd --groups _plant_script client")
     want(not may(box, "client", f"ln -s /etc/hostname {folder}/link"), "a client may make a link in the folder of the metrics")

@@ -32,7 +32,7 @@ SECTIONS_OF = {"describe_state.1": [name for name in SECTIONS if name not in ("C
                "plant.toml.5": ["NAME", "SYNOPSIS", "DESCRIPTION", "EXAMPLES", "FILES", "SEE ALSO"]}
 # Characters that pandoc spells.
 SPELLED = {"aq": "'", "dq": '"', "ga": "`", "ha": "^", "rs": "\\", "ti": "~", "at": "@"}
-SOURCES = (SOURCE, TEXTS, PROGRAM_SOURCE, "README.md", "CHANGELOG.md", "docs/FORMATS.md", "docs/OPERATING.md", "examples/plant_p2.toml", "docs/man")
+SOURCES = (SOURCE, TEXTS, PROGRAM_SOURCE, "README.md", "CHANGELOG.md", "docs/FORMATS.md", "docs/MONITORING.md", "docs/OPERATING.md", "examples/plant_p2.toml", "docs/man")
 # What a page is not if a command is not installed.
 USES = {"mandoc": "checked", "man": "formatted"}
 
@@ -140,7 +140,7 @@ class Check(unittest.TestCase):
         self.assertEqual(self.changed("docs/FORMATS.md", "| `resends` | 0 to 255 | 3 |", "| `resends` | 0 to 255 | 4 |"), [None, None, older, None, None, None])
         self.assertEqual(self.changed("docs/FORMATS.md", "| `T` | for each operator", "| `T` | for every operator"), [older, older, None, None, None, None])
         self.assertEqual(self.changed("CHANGELOG.md", "\n## ", "\n## 9.9 (2026-11-22 to 2026-11-22)\n\n## "), [older] * 6)
-        self.assertEqual(self.changed("docs/OPERATING.md", "## State in words\n", "## State in words\n\nText.\n"), [None, None, None, older, None, None])
+        self.assertEqual(self.changed("docs/MONITORING.md", "## State in words\n", "## State in words\n\nText.\n"), [None, None, None, older, None, None])
         summary = read_help(ROOT)[1]["trace"].summary
         self.assertEqual(self.changed(SOURCE, f'"{summary}"', '"Trace"'), [older, None, None, None, None, None])
 

@@ -1,4 +1,4 @@
-"""Tests docs/RUNBOOK.md: it has each alert of docs/OPERATING.md, is as short as it should be, and its commands on files print what it says.
+"""Tests docs/RUNBOOK.md: it has each alert of docs/MONITORING.md, is as short as it should be, and its commands on files print what it says.
 
 The commands run on the folder and the answers of a channel that the second implementation has served. Those of systemd are left out.
 """
@@ -35,7 +35,7 @@ def commands(text):
 
 class Page(unittest.TestCase):
     def test_each_alert_has_a_section(self):
-        lines = section(ROOT, "docs/OPERATING.md#alerts")
+        lines = section(ROOT, "docs/MONITORING.md#alerts")
         rules = [line.split("alert: ")[1] for line in lines if "- alert: " in line]
         rows = [line.split("|")[1].strip() for line in lines if line.startswith("| ") and "`" in line]
         self.assertGreater(min(len(rules), len(rows)), 2)

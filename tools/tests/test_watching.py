@@ -279,7 +279,7 @@ class Metrics(unittest.TestCase):
         figures.take_journal((1_000, True), 100)
         text = metrics.text_of_metrics("east", figures, BUILD).decode()
         written = dict(line.split()[2:] for line in text.splitlines() if line.startswith("# TYPE"))
-        rows = [re.match(r"\| `(melfjits_\w+)`[^|]*\| (\w+) \|", line) for line in section(ROOT, "docs/OPERATING.md#metrics")]
+        rows = [re.match(r"\| `(melfjits_\w+)`[^|]*\| (\w+) \|", line) for line in section(ROOT, "docs/MONITORING.md#metrics")]
         self.assertEqual({row[1]: row[2] for row in rows if row}, written)
 
 
@@ -814,7 +814,7 @@ class Rules(unittest.TestCase):
         folder = tempfile.TemporaryDirectory()
         self.addCleanup(folder.cleanup)
         self.folder = pathlib.Path(folder.name)
-        lines = section(ROOT, "docs/OPERATING.md#alerts")
+        lines = section(ROOT, "docs/MONITORING.md#alerts")
         start = lines.index("    groups:")
         end = next(place for place, line in enumerate(lines) if place > start and line and not line.startswith("    "))
         (self.folder / "rules.yml").write_text("\n".join(line[4:] for line in lines[start:end]))

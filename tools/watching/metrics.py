@@ -1,4 +1,4 @@
-"""Gives the figures of a channel as metrics of Prometheus. docs/OPERATING.md lists them. Needs Debian's package python3-prometheus-client."""
+"""Gives the figures of a channel as metrics of Prometheus. docs/MONITORING.md lists them. Needs Debian's package python3-prometheus-client."""
 
 from itertools import accumulate
 
