@@ -22,7 +22,7 @@ usr/lib/systemd/system/plant-ticker@.service usr/libexec/plant_script/tick_chann
 usr/lib/sysusers.d/plant-script.conf usr/lib/tmpfiles.d/plant-script.conf usr/libexec/plant_script/serve_channel
 usr/share/bash-completion/completions/plant_script usr/share/doc/plant-script/FORMATS.md.gz usr/share/doc/plant-script/GLOSSARY.md.gz
 usr/share/doc/plant-script/OPERATING.md.gz usr/share/doc/plant-script/README.md.gz usr/share/doc/plant-script/REPLICATION.md.gz
-usr/share/doc/plant-script/RULES.md.gz usr/share/doc/plant-script/MONITORING.md.gz
+usr/share/doc/plant-script/RULES.md.gz usr/share/doc/plant-script/MONITORING.md.gz usr/share/doc/plant-script/SNAPSHOTS.md.gz
 usr/share/doc/plant-script/CONNECT.md.gz usr/share/doc/plant-script/RUNBOOK.md.gz usr/share/doc/plant-script/SCOPE.md.gz usr/share/doc/plant-script/build.txt usr/share/doc/plant-script/changelog.Debian.gz
 usr/share/doc/plant-script/changelog.gz usr/share/doc/plant-script/copyright usr/share/doc/plant-script/GUIDE.md.gz
 usr/share/doc/plant-script/examples/realtime.conf usr/share/fish/vendor_completions.d/plant_script.fish
