@@ -30,7 +30,7 @@ pub use Rattle.plant_script.specs.Task.{IsWritten, EndsRun, RunsTo, WritesOutcom
 pub use Rattle.plant_script.specs.Traced.{EndsTraceBy, IsTracedRunOf, EndsTraced}
 pub use Rattle.plant_script.specs.Words.{AnswersWith, AnswersFront, AnswersServe, AnswersSteps, AnswersOperator}
 pub use Rattle.plant_script.specs.declared.answer.Answer.{Answer}
-pub use Rattle.plant_script.specs.declared.task.InputOutcome.{InputOutcome}
+pub use Rattle.plant_script.specs.declared.input_outcome.InputOutcome.{InputOutcome}
 pub use Rattle.run_audit.specs.Outcome.{ticks_of, IsOutcome}
 pub use Rattle.run_audit.specs.Outs.{outs_from, outs_of}
 pub use Rattle.run_model.specs.IsStateAfter.{CoreView, IsStateAfter}

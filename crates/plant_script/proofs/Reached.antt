@@ -3,8 +3,8 @@ use Rattle.std.proofs.Common.{◌≡◌, ◌≢◌, ◌⊎◌, inl, inr, ℕ, Bo
 use Rattle.plant_script.proofs.Common.{MatchResult, Appends, Order, order_of, Word, WordsFault, NamesOrder, AsksHelp, AreWrong, GivesOrder, GivesHelp, GivesWrong, Answer, memory_line, status_code, IsThreadedRunOf, RunsTo, IsWritten, WritesOutcome, Comes, AnswersWith, RunsOut, AnswersRead, AnswersOrder, EndsOrder, ReachesOrder, Completes, AnswersWords, ReachesWords}
 use Rattle.plant_script.specs.declared.progress.Progress.{Progress}
 use Rattle.plant_script.specs.declared.progress.Progress.TheVariants.{Ended, Threads}
-use Rattle.plant_script.specs.declared.task.InputOutcome.TheVariants as outcomes
-use Rattle.plant_script.specs.declared.task.Task.{Task}
+use Rattle.plant_script.specs.declared.input_outcome.InputOutcome.TheVariants as outcomes
+use Rattle.plant_script.specs.declared.input_outcome.Task.{Task}
 use Rattle.plant_script.proofs.Tasks.{same_order}
 
 -- one status is not another

@@ -1,7 +1,7 @@
 -- What a task's run answers.
 use Rattle.std.proofs.Common.{◌≡◌, ℕ, suc, ◌+◌, inl, inr, Bool, List, [], ◌∷◌, Option, Some, Result, Ok, subst, arith, refl}
 use Rattle.plant_script.proofs.Common.{slice_get, position_from, cases_Bool, RowFields, PlantFields, LineStep, history_text, History, InputOutcome, IsScriptRun, history_at, RunsTo, Comes, Order, order_of, Word, WordsFault, GivesOrder, AnswersSteps, status_code}
-use Rattle.plant_script.specs.declared.task.InputOutcome.TheVariants as outcomes
+use Rattle.plant_script.specs.declared.input_outcome.InputOutcome.TheVariants as outcomes
 
 same_some : {A : Type 0} (x y : A) → ◌≡◌ {A = Option A} (Some x) (Some y) → x ≡ y
 same_some x y h = cc

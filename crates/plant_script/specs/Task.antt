@@ -12,8 +12,8 @@ use Rattle.script_format.specs.Text.{outs_text, history_text}
 use Rattle.plant_script.specs.declared.answer.Answer.{Answer}
 use Rattle.command_line.specs.declared.asked.RunReport.{RunReport}
 use Rattle.command_line.specs.declared.asked.RunReport.TheVariants.{Outputs, Capture, Trace, History}
-use Rattle.plant_script.specs.declared.task.InputOutcome.{InputOutcome}
-use Rattle.plant_script.specs.declared.task.InputOutcome.TheVariants as outcomes
+use Rattle.plant_script.specs.declared.input_outcome.InputOutcome.{InputOutcome}
+use Rattle.plant_script.specs.declared.input_outcome.InputOutcome.TheVariants as outcomes
 use Rattle.plant_script.specs.Run.{memory_line, IsScriptRun, IsCapturedRunOf}
 use Rattle.plant_script.specs.OnThreads.{IsThreadedRunOf}
 use Rattle.plant_script.specs.Statuses.{status_code}

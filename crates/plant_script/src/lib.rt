@@ -11,6 +11,7 @@ mod check;
 mod command;
 mod ending;
 mod input;
+mod input_outcome;
 mod on_threads;
 mod one;
 mod operator_a;

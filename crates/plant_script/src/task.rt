@@ -5,8 +5,7 @@ ghost use Rattle.std.specs.List.{position_from};
 ghost use Rattle.toml.specs.Parse.{parse_document};
 ghost use Rattle.slice_table.specs.ReadPlant.{text_plant};
 ghost use Rattle.script_format.specs.Input.{script_text};
-ghost use Rattle.script_format.specs.Script.{ArePlaced, is_named, steps_of};
-ghost use Rattle.std.proofs.Props.{props};
+ghost use Rattle.script_format.specs.Script.{is_named, steps_of};
 ghost use Rattle.plant_script.specs.One.{is_readable};
 ghost use Rattle.plant_script.specs.Task.{RunsTo, AnswersReport, Comes, IsNotThreaded};
 ghost use Rattle.plant_script.specs.Words.{AnswersSteps, AnswersOperator, AnswersPlant, AnswersInput, AnswersThreads};
@@ -15,35 +14,13 @@ ghost use Rattle.plant_script.specs.declared.input.AnswerFault.TheVariants.{Memo
 use crate::answer::Answer;
 use crate::check::{answer_to_fault, answer_to_line, plant_of_input};
 use crate::input::AnswerFault;
+use crate::input_outcome::{InputOutcome, Task};
 use crate::status::Status;
 use command_line::RunReport;
 use plant::{Op, Plant, Routes};
-use script_format::{LineFault, LineStep, before_bar, place_of, script_text, steps_of};
+use script_format::{LineFault, before_bar, place_of, script_text, steps_of};
 use slice_table::PlantFault;
 use std::alloc::Global;
-
-/// The run of a script on a plant, and what is printed of it. The type keeps that what arrives is placed at the operator that lists
-/// its modem.
-#[derive(Drop)]
-pub struct Task {
-    pub plant: Plant,
-    /// The steps of the script.
-    pub lines: Vec<LineStep>,
-    /// What is printed. An operator is stated by its place in the plant.
-    pub report: RunReport<Op>,
-    ghost placed: { ArePlaced plant lines.items } by { Prim.hlevel props },
-}
-
-/// What is done for an input.
-#[derive(Drop)]
-pub enum InputOutcome {
-    /// It is answered.
-    Answer(Answer),
-    /// A run answers it.
-    Task(Task),
-    /// A run on threads answers it: of a plant, and the steps of a script.
-    Threads { plant: Plant, lines: Vec<LineStep> },
-}
 
 /// Returns the run of a script on a plant, or the answer to its first invalid line.
 fn task_of_script(
