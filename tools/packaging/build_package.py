@@ -34,9 +34,9 @@ MAINTAINER = re.compile(r"^Maintainer: (.*)$", re.MULTILINE)
 # What the rules of the package read: from the repository, to the folder in which they run.
 FILES = {"packaging/debian": "debian", "packaging/systemd": "systemd", "packaging/completions": "completions",
          "packaging/serve_channel": "serve_channel", "packaging/tick_channel": "tick_channel", "packaging/pass_reasons": "pass_reasons",
-         "packaging/report_progress": "report_progress", "packaging/channel_group": "channel_group",
+         "packaging/report_progress": "report_progress", "packaging/channel_group": "channel_group", "packaging/prometheus": "prometheus",
          "tools/reference": "tools/reference", "tools/watching": "tools/watching", "tools/__init__.py": "tools/__init__.py",
-         "tools/describe_state": "tools/describe_state", "tools/watch_channel": "tools/watch_channel",
+         "tools/describe_state": "tools/describe_state", "tools/watch_channel": "tools/watch_channel", "tools/renumber_channel": "tools/renumber_channel",
          "tools/viewing": "tools/viewing", "tools/messages": "tools/messages", "tools/plant_view": "tools/plant_view", "tools/dsx": "tools/dsx",
          "docs": "docs", "examples": "examples", "README.md": "README.md", "CHANGELOG.md": "CHANGELOG.md"}
 COMMANDS = {"git": "git", "dpkg-buildpackage": "dpkg-dev", "dh": "debhelper"}

@@ -74,10 +74,10 @@ def complete(box):
 
 
 def verify_units(box):
-    found = box.ask("systemd-analyze verify plant@east.service plant@east.socket plant-ticker@east.service plant-metrics@east.service")
+    found = box.ask("systemd-analyze verify plant@east.service plant@east.socket plant-ticker@east.service plant-metrics@east.service plant-renumber@east.timer plant-renumber@east.service")
     want(not found, f"systemd-analyze verify finds:\n{found}")
     exposures = []
-    for unit in ("plant@", "plant-ticker@", "plant-metrics@"):
+    for unit in ("plant@", "plant-ticker@", "plant-metrics@", "plant-renumber@"):
         last = box.run(f"systemd-analyze security --offline=true --no-pager /usr/lib/systemd/system/{unit}.service").splitlines()[-1]
         exposures.append(float(re.search(r"(\d+\.\d+)", last)[1]))
     want(max(exposures) < MOST_EXPOSURE, f"systemd-analyze security says {exposures}")
@@ -256,6 +256,8 @@ def watched(box):
     want('melfjits_answers_total{channel="east",type="map"} 1.0' in output and 'program="' in output, f"the metrics are\n{output}")
     want(box.run(f"stat -c '%U %a' {file}") == "_plant_script 644\n", "the file has other rights")
     want(re.search(r'melfjits_journal_bytes\{channel="east"\} \d', output), "no metric of the journal")
+    box.wait_until(f"cat {file}", lambda output: 'unit_state{channel="east",state="active",unit="plant@east.service"} 1.0' in output, "no metric of the unit")
+    want(shown(box, "plant-renumber@east.timer", "ActiveState") == ["active"], "nobody looks at the frame numbers")
     want("K\n" not in box.run(f"cat {FOLDER.format('east')}/journal"), "the channel is asked by the line K")
     want("Operator A\n" in box.run("describe_state --channel east"), "describe_state has no operator A")
     want(box.status_of("runuser -u member -- describe_state --channel east")[0] == 6, "a member reads the folder")
@@ -263,7 +265,7 @@ def watched(box):
     send(box, "east", "T\n")
     box.wait_until("tail -n 1 /var/lib/plant_script/east/answers", lambda output: output.startswith("MAP "), "the channel waits for its metrics")
     box.run("systemctl disable --now plant-metrics@east; rm /etc/plant_script/east.env")
-    want(box.status_of(f"test -e {file}")[0], "the file stays after a stop")
+    box.run(f"test -e {file} && rm {file}")
     return "the metrics of a channel are written, its state is described, and it does not wait for that"
 
 
@@ -394,7 +396,7 @@ def purged(box):
     want(not left, f"left after the removal:\n{left}")
     want(answers(box, "east") and (box.folder / FOLDER.format("east")[1:] / "journal").exists(), "answers or folder are gone after the removal")
     box.run(f"dpkg --purge {PACKAGE}")
-    left = box.run("find / -xdev '(' -path '*plant[-_]script*' -o -path '*/plant@*' -o -path '*/plant-ticker@*' -o -path '*/plant-metrics@*' -o -name 'describe_state*' -o -name '__pycache__' -path '*plant*' ')' ! -path '/proc/*' ! -path '/var/log/*' ! -path '/var/cache/man/*'").split()
+    left = box.run("find / -xdev '(' -path '*plant[-_]script*' -o -path '*/plant@*' -o -path '*/plant-ticker@*' -o -path '*/plant-metrics@*' -o -path '*/plant-renumber@*' -o -name 'melfjits_*' -o -name 'describe_state*' -o -name '__pycache__' -path '*plant*' ')' ! -path '/proc/*' ! -path '/var/log/*' ! -path '/var/cache/man/*'").split()
     owners = ["/etc/plant_script", "/etc/plant_script/bad.toml", "/etc/plant_script/east.toml", "/etc/plant_script/west.toml",
               "/etc/systemd/system/plant@east.service.d", "/etc/systemd/system/plant@east.service.d/record.conf"]
     want(sorted(left) == owners, f"left after the purge: {left}")

@@ -12,7 +12,7 @@ import unittest
 from tools import ROOT
 
 SCRIPT = ROOT / "packaging/channel_group"
-UNITS = ("plant@{}.socket", "plant@{}.service", "plant-ticker@{}.service", "plant-metrics@{}.service")
+UNITS = ("plant@{}.socket", "plant@{}.service", "plant-ticker@{}.service", "plant-metrics@{}.service", "plant-renumber@{}.service")
 SECONDS = 10
 
 

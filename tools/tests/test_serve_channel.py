@@ -780,7 +780,7 @@ for name in [name for name in vars(Channel) if name.startswith("test_")]:
 class Units(unittest.TestCase):
     @unittest.skipUnless(shutil.which("systemd-analyze"), "systemd-analyze is not installed: the exposure of the unit was not tested")
     def test_exposure(self):
-        for name in ("plant@", "plant-ticker@", "plant-metrics@"):
+        for name in ("plant@", "plant-ticker@", "plant-metrics@", "plant-renumber@"):
             done = subprocess.run(["systemd-analyze", "security", "--offline=true", "--no-pager", UNITS / f"{name}.service"], capture_output=True, text=True, check=True)
             self.assertLess(float(re.search(r"Overall exposure level .*?: (\d+\.\d+)", done.stdout)[1]), MOST_EXPOSURE)
 
@@ -792,7 +792,7 @@ class Units(unittest.TestCase):
         """Reads the units as this version of systemd does. Users and commands of the package are not there."""
         with tempfile.TemporaryDirectory() as folder:
             units = [pathlib.Path(shutil.copy(path, pathlib.Path(folder, path.name.replace("@.", "@east.")))) for path in UNITS.glob("*@.*")]
-            self.assertEqual(len(units), 4)
+            self.assertEqual(len(units), 6)
             done = subprocess.run(["systemd-analyze", "verify", "--man=no", *units], capture_output=True, text=True, check=False)
             self.assertEqual([line for line in done.stderr.splitlines() if folder in line], [])
 

@@ -17,10 +17,10 @@ import threading
 import time
 import unittest
 import zlib
+from collections import Counter
 from unittest import mock
 
 from tools import ROOT
-from tools.manual.documents import section
 from tools.watching import describe_state, folder_states, metrics, watch_channel
 from tools.watching.figures import Figures
 from tools.watching.operator_state import Unreadable, operators_of_modems, read_state
@@ -128,10 +128,35 @@ def wait_until(holds):
 
 
 def figures_of(data, times=None):
-    """Returns the figures of answers, of which each line is read at another time, or at 100."""
-    figures = Figures(operators_of_modems(PLANT.encode()))
-    for output in Outputs().take(data):
-        figures.take(output, 100.0 if times is None else next(times))
+    """Returns the figures of answers: all of them are read at 100, or each line at another time."""
+    figures, outputs = Figures(operators_of_modems(PLANT.encode()), 0.002), Outputs()
+    for part in [data] if times is None else data.splitlines(keepends=True):
+        for piece in outputs.pieces(part):
+            figures.take(piece, 100.0 if times is None else next(times))
+    figures.settle()
+    return figures
+
+
+class StoredJournal:
+    """A journal in which a saved state has taken the place of another, or one that has got lines."""
+
+    def __init__(self, saved, size, lines=(), before=None):
+        self.saved, self.bytes, self.lines, self.since, self.before = before, size, Counter(lines), len(lines), saved
+
+    def take(self):
+        self.saved = self.before
+        return self.lines
+
+    def size(self):
+        return self.bytes
+
+
+def all_figures():
+    """Returns figures of which each is known."""
+    figures = figures_of(ANSWERS + SNAPSHOT)
+    figures.take_journal(StoredJournal(5, 1_000, [b"T", b"M 020000000001"]), 100)
+    figures.waiting_bytes, figures.answers_bytes, figures.disks = 12, 34, {"answers": (5, 9), "folder": (6, 9)}
+    figures.units = {"plant@east.service": ("active", 3), "plant@east.socket": ("failed", None)}
     return figures
 
 
@@ -181,9 +206,10 @@ class Metrics(unittest.TestCase):
         self.assertTrue(all('channel="east"' in key for key in self.found(figures, name)))
 
     def test_answers_by_type(self):
-        self.assert_values(figures_of(ANSWERS + SNAPSHOT), "answers_total", reply=5, drop=3, frame=4, map=2, fault=3, change=1, start=0, snapshot=1)
-        self.assert_values(figures_of(b""), "answers_total", reply=0, drop=0, frame=0, map=0, fault=0, change=0, start=0, snapshot=0)
-        self.assert_values(figures_of(b"S line 18 frame 9\nS line 19\nS line x\n"), "answers_total", reply=0, drop=0, frame=0, map=0, fault=0, change=0, start=2, snapshot=0)
+        self.assert_values(figures_of(ANSWERS + SNAPSHOT), "answers_total", reply=5, drop=3, frame=4, map=2, fault=3, change=1, number=0, start=0, snapshot=1)
+        self.assert_values(figures_of(b""), "answers_total", reply=0, drop=0, frame=0, map=0, fault=0, change=0, number=0, start=0, snapshot=0)
+        self.assert_values(figures_of(b"S line 18 frame 9\nS line 19\nS line x\nN frame 8\nMAP 18 01\n"), "answers_total",
+                           reply=0, drop=0, frame=0, map=1, fault=0, change=0, number=1, start=2, snapshot=0)
 
     def test_replies_by_code(self):
         """The labels are in the order of their names: the code and the operator. A modem that is not listed has none."""
@@ -198,13 +224,14 @@ class Metrics(unittest.TestCase):
 
     def test_minislots_by_use(self):
         """Alfa has 4 + 9 and 4 minislots granted, 1 to poll, and 18 and 28 idle. Each frame of a slice of 32 has 32."""
-        self.assert_values(figures_of(ANSWERS), "minislots_total", Alfa__granted=17, Alfa__polled=1, Alfa__idle=46, B__granted=2, B__idle=62)
+        self.assert_values(figures_of(ANSWERS), "minislots_total", Alfa__granted=17, Alfa__polled=1, Alfa__idle=46, B__granted=2, B__polled=0, B__idle=62)
 
     def test_pending_grants(self):
         self.assert_values(figures_of(ANSWERS), "pending_grants_total", Alfa=2, B=1)
 
     def test_the_last_map(self):
         figures = figures_of(ANSWERS, iter(range(1_000, 1_018)))
+        self.assertEqual(self.found(figures_of(b""), "last_map_timestamp_seconds"), {'melfjits_last_map_timestamp_seconds{channel="east"}': 0})
         self.assertEqual(self.found(figures, "frame_number"), {'melfjits_frame_number{channel="east"}': 8})
         self.assertEqual(self.found(figures, "last_map_timestamp_seconds"), {'melfjits_last_map_timestamp_seconds{channel="east"}': 1_013})
         self.assertEqual(self.found(figures_of(b"T\n"), "frame_number"), {})
@@ -238,10 +265,9 @@ class Metrics(unittest.TestCase):
         """The time is that at which a saved state was first seen."""
         figures = figures_of(ANSWERS)
         self.assertEqual(self.found(figures, "journal_bytes"), {})
-        for measured, now, last in (((500, True), 100, 100), ((600, False), 110, 100), (None, 120, 100), ((90, True), 130, 130)):
-            figures.take_journal(measured, now)
-            if measured:
-                self.assertEqual(self.found(figures, "journal_bytes"), {'melfjits_journal_bytes{channel="east"}': measured[0]})
+        for before, saved, size, now, last in ((None, 5, 500, 100, 100), (5, 5, 600, 110, 100), (5, 9, 90, 130, 130)):
+            self.assertEqual(figures.take_journal(StoredJournal(saved, size, before=before), now), (before, saved) == (5, 9))
+            self.assertEqual(self.found(figures, "journal_bytes"), {'melfjits_journal_bytes{channel="east"}': size})
             self.assertEqual(self.found(figures, "saved_state_timestamp_seconds"), {'melfjits_saved_state_timestamp_seconds{channel="east"}': last})
 
     def test_build(self):
@@ -267,20 +293,22 @@ class Metrics(unittest.TestCase):
 
     @unittest.skipUnless(shutil.which("promtool"), "promtool is not installed: the metrics were not checked")
     def test_promtool_has_no_remark(self):
-        for data in (b"", ANSWERS + SNAPSHOT):
-            figures = figures_of(data)
-            figures.take_journal((1_000, True) if data else None, 100)
+        for figures in (figures_of(b""), all_figures()):
             text = metrics.text_of_metrics("east", figures, BUILD)
             done = subprocess.run(["promtool", "check", "metrics"], input=text, capture_output=True, check=False)
             self.assertEqual((done.returncode, done.stdout, done.stderr), (0, b"", b""))
 
-    def test_the_page_lists_these_metrics(self):
-        figures = figures_of(ANSWERS + SNAPSHOT)
-        figures.take_journal((1_000, True), 100)
-        text = metrics.text_of_metrics("east", figures, BUILD).decode()
+    def test_the_pages_list_these_metrics(self):
+        """METRICS.md has each of them, and MONITORING.md no others."""
+        text = metrics.text_of_metrics("east", all_figures(), BUILD).decode()
         written = dict(line.split()[2:] for line in text.splitlines() if line.startswith("# TYPE"))
-        rows = [re.match(r"\| `(melfjits_\w+)`[^|]*\| (\w+) \|", line) for line in section(ROOT, "docs/MONITORING.md#metrics")]
-        self.assertEqual({row[1]: row[2] for row in rows if row}, written)
+
+        def rows_of(lines):
+            rows = [re.match(r"\| `(melfjits_\w+)`[^|]*\| (\w+) \|", line) for line in lines]
+            return {row[1]: row[2] for row in rows if row}
+
+        self.assertEqual(rows_of((ROOT / "docs/METRICS.md").read_text().splitlines()), written)
+        self.assertLessEqual(rows_of((ROOT / "docs/MONITORING.md").read_text().splitlines()).items(), written.items())
 
 
 class Requests(unittest.TestCase):
@@ -407,12 +435,13 @@ class Files(unittest.TestCase):
             watch_channel.replace_file(self.folder / "none/east.prom", b"")
         self.assertEqual(found.exception.status, 6)
 
-    def test_the_modems_of_a_plant_file(self):
-        (self.folder / "plant.toml").write_text(PLANT + "---\nT\n")
-        self.assertEqual(watch_channel.modems_of_file(self.folder / "plant.toml"), {"020000000001": "Alfa", "02000000000A": "Alfa", "020000000003": "B"})
-        (self.folder / "plant.toml").write_text("---\n" + PLANT)
-        self.assertEqual(watch_channel.modems_of_file(self.folder / "plant.toml"), {})
-        self.assertEqual(watch_channel.modems_of_file(self.folder / "none"), {})
+    def test_the_modems_and_the_frame_of_a_plant_file(self):
+        known = {"020000000001": "Alfa", "02000000000A": "Alfa", "020000000003": "B"}, 0.002
+        for name, text, wanted in (("plant.toml", PLANT + "---\nT\n", known), ("plant.toml", "---\n" + PLANT, ({}, None)), ("none", None, ({}, None))):
+            if text:
+                (self.folder / name).write_text(text)
+            figures = watch_channel.figures_of_file(self.folder / name)
+            self.assertEqual((figures.operator_of, figures.frame_seconds), wanted)
 
     def test_what_is_known_of_the_program(self):
         program = self.folder / "program"
@@ -439,7 +468,7 @@ class Process(unittest.TestCase):
         self.addCleanup(os.close, self.pipe)
 
     def start(self, **environment):
-        environment = {**os.environ, "ANSWERS": str(self.answers), "METRICS": str(self.folder), "PLANT_SCRIPT": "/nowhere", **environment}
+        environment = {**os.environ, "ANSWERS": str(self.answers), "METRICS": str(self.folder), "PLANT_SCRIPT": "/nowhere", "METRICS_SECONDS": "0.5", **environment}
         process = subprocess.Popen([ROOT / "tools/watch_channel", "east", "plant.toml", "in"], cwd=self.folder, env=environment, stderr=subprocess.PIPE, text=True)
         for done in (process.stderr.close, process.wait, process.terminate):
             self.addCleanup(done)
@@ -472,18 +501,6 @@ class Process(unittest.TestCase):
         self.wait_for_maps(4)
         self.assertTrue(self.has('melfjits_frame_number{channel="east"} 5.0\n'))
 
-    def test_what_is_answered_before_the_file_is_open_is_read(self):
-        """A `tail` that starts late opens the file once the first line K has its answer."""
-        (self.folder / "bin").mkdir()
-        (self.folder / "bin/tail").write_text(f'#!/bin/sh\nsleep 1\nexec {shutil.which("tail")} "$@"\n')
-        (self.folder / "bin/tail").chmod(0o755)
-        self.answers.write_bytes(b"MAP 1 01\n" * 100)
-        self.start(PATH=f"{self.folder}/bin:{os.environ['PATH']}", SNAPSHOT_SECONDS="60")
-        wait_until(lambda: self.waiting() == b"K\n")
-        self.append(SNAPSHOT + b"MAP 2 01\n")
-        self.wait_for_maps(1)
-        self.assertTrue(self.has('melfjits_committed_minislots{channel="east",operator="Alfa"} 6.0\n'))
-
     def test_answers_that_are_not_there_yet(self):
         self.start()
         self.append(b"MAP 1 01\n")
@@ -493,9 +510,43 @@ class Process(unittest.TestCase):
         self.start()
         self.append(b"MAP 1 01\n")
         self.wait_for_maps(1)
-        before, text = self.file.stat().st_ino, self.file.read_text()
+        def text_without_times():
+            return re.sub("(?m)^melfjits_(written|disk).*\n", "", self.file.read_text())
+
+        before, text = self.file.stat().st_ino, text_without_times()
         wait_until(lambda: self.file.stat().st_ino != before)
-        self.assertEqual(self.file.read_text(), text)
+        self.assertEqual(text_without_times(), text)
+
+    def test_the_last_map_before_its_start_is_known(self):
+        self.answers.write_bytes(b"MAP 41 01\nR 02\nMAP 42 01\nfault: line 9\nMAP 4")
+        os.utime(self.answers, (1_000, 1_000))
+        self.start()
+        wait_until(lambda: self.has('melfjits_last_map_timestamp_seconds{channel="east"} 1000.0\n'))
+        self.assertTrue(self.has('melfjits_frame_number{channel="east"} 42.0\n') and self.has('type="map"} 0.0\n'))
+
+    def test_a_channel_without_any_map(self):
+        self.start()
+        self.assertTrue(self.has('melfjits_last_map_timestamp_seconds{channel="east"} 0.0\n'))
+        self.assertTrue(self.has('melfjits_last_snapshot_timestamp_seconds{channel="east"} 0.0\n'))
+
+    def test_the_file_stays_and_says_when_it_was_written(self):
+        process = self.start()
+        process.terminate()
+        process.wait()
+        self.assertLess(abs(time.time() - float(re.search("melfjits_written_timestamp_seconds{.*} (.*)", self.file.read_text())[1])), SECONDS)
+
+    def test_surroundings(self):
+        (self.folder / "bin").mkdir()
+        (self.folder / "bin/systemctl").write_text("#!/bin/sh\nprintf 'Id=plant@east.service\\nActiveState=failed\\nNRestarts=7\\nLoadState=loaded\\n'\n")
+        (self.folder / "bin/systemctl").chmod(0o755)
+        self.answers.write_bytes(b"MAP 1 01\n")
+        os.write(self.pipe, b"T\nT\n")
+        self.start(PATH=f"{self.folder}/bin:{os.environ['PATH']}", SNAPSHOT_SECONDS="0")
+        for name, labels, value in (("unit_state", ',state="failed",unit="plant@east.service"', 1), ("unit_restarts_total", ',unit="plant@east.service"', 7),
+                                    ("waiting_bytes", "", 4), ("answers_bytes", "", 9)):
+            wait_until(lambda: self.has(f'melfjits_{name}{{channel="east"{labels}}} {value:.1f}\n'))
+        self.assertTrue(self.has('melfjits_disk_free_bytes{channel="east",disk="answers"} '))
+        self.assertFalse(self.has("last_snapshot"))
 
     def test_the_channel_is_asked_for_its_state_once_it_rests(self):
         self.start(SNAPSHOT_SECONDS="1.5")
@@ -533,6 +584,7 @@ class Process(unittest.TestCase):
         self.append(b"S line 7 frame 17\n")
         first = self.last_snapshot()
         wait_until(lambda: self.has('type="start"} 1.0\n') and self.last_snapshot() != first)
+        wait_until(lambda: self.has('melfjits_budget_minislots{channel="east",operator="B"} 32.0\n') and self.has('type="slices"} 1.0\n'))
         self.assertEqual(self.waiting(), b"")
 
     def test_a_channel_without_a_state_is_not_asked(self):
@@ -540,16 +592,9 @@ class Process(unittest.TestCase):
         time.sleep(0.5)
         self.assertEqual(self.waiting(), b"")
 
-    def test_its_end_ends_both_processes(self):
-        process = self.start()
-        child = pathlib.Path("/proc", pathlib.Path(f"/proc/{process.pid}/task/{process.pid}/children").read_text().split()[0])
-        self.assertIn("tail", (child / "cmdline").read_text())
-        process.kill()
-        process.wait()
-        wait_until(lambda: not child.exists())
-
     def test_refusals(self):
-        for environment, status in (({"ANSWERS": ""}, 2), ({"METRICS": ""}, 2), ({"SNAPSHOT_SECONDS": "often"}, 2), ({"METRICS": "/nowhere"}, 6)):
+        for environment, status in (({"ANSWERS": ""}, 2), ({"METRICS": ""}, 2), ({"SNAPSHOT_SECONDS": "often"}, 2), ({"METRICS": "/nowhere"}, 6),
+                                    ({"METRICS_SECONDS": "x"}, 2)):
             process = self.start(**environment)
             self.assertEqual(process.wait(SECONDS), status)
             self.assertRegex(process.stderr.read(), "(?m)^watch_channel: .")
@@ -723,17 +768,20 @@ class Folder(unittest.TestCase):
         states.hasten(1)
         self.assertIsNone(states.take(2))
         self.assertIsNone(states.replay)
-        none = folder_states.FolderStates("/nowhere", self.program, 1, 0)
-        self.assertIsNone(none.take(2))
-        self.assertIsNone(none.measure())
+        self.assertIsNone(folder_states.FolderStates("/nowhere", self.program, 1, 0).take(2))
 
-    def test_a_saved_state_is_known_by_its_line(self):
-        states = folder_states.FolderStates(self.folder, self.program, 0, 0)
-        for data, is_new in ((journal_text(), True), (journal_text(b"T"), False), (journal_text(since=6), True), (journal_text(since=6), False)):
-            self.write(data)
-            self.assertEqual(states.measure(), (len(data), is_new))
-        self.write(b"=line\n")
-        self.assertIsNone(states.measure())
+    def test_a_state_that_the_channel_has_saved_in_the_period_is_taken(self):
+        """The lines since are not done again. After a start they are."""
+        states = folder_states.FolderStates(self.folder, "/nowhere", 60, 1_000)
+        self.write(journal_text(b"T"))
+        states.note_saved(999)
+        self.assertEqual(read_state(states.take(1_000)).frame, 17)
+        self.assertIsNone(states.take(1_059))
+        states.program = self.program
+        states.note_saved(1_119)
+        states.hasten(1_119)
+        self.assertIsNone(states.take(1_119))
+        self.assertEqual(read_state(self.taken(states, 1_120)).frame, 18)
 
 
 class Asking(unittest.TestCase):
@@ -776,60 +824,6 @@ class Asking(unittest.TestCase):
                 self.assertRaises(SystemExit) as found:
             describe_state.main()
         self.assertEqual(found.exception.code, 6)
-
-
-# A MAP each 10 seconds up to 20 seconds. Memory runs out once. Operator A commits 29 of 32 minislots for 11 minutes, and B 28.
-RULE_TESTS = """
-rule_files: [rules.yml]
-evaluation_interval: 10s
-tests:
-  - interval: 10s
-    input_series:
-      - {series: 'melfjits_last_map_timestamp_seconds{channel="east"}', values: '0 10 20 20x100'}
-      - {series: 'melfjits_faults_total{channel="east",fault="memory"}', values: '0 0 0 1x100'}
-      - {series: 'melfjits_faults_total{channel="east",fault="line"}', values: '0+1x100'}
-      - {series: 'melfjits_committed_minislots{channel="east",operator="A"}', values: '29x100'}
-      - {series: 'melfjits_committed_minislots{channel="east",operator="B"}', values: '28x100'}
-      - {series: 'melfjits_budget_minislots{channel="east",operator="A"}', values: '32x100'}
-      - {series: 'melfjits_budget_minislots{channel="east",operator="B"}', values: '32x100'}
-    alert_rule_test:
-      - {eval_time: 20s, alertname: MelfjitsNoMap}
-      - {eval_time: 20s, alertname: MelfjitsOutOfMemory}
-      - {eval_time: 9m, alertname: MelfjitsBudgetCommitted}
-      - eval_time: 30s
-        alertname: MelfjitsNoMap
-        exp_alerts: [{exp_labels: {channel: east, severity: page}, exp_annotations: {summary: 'east: no MAP for 10s'}}]
-      - eval_time: 1m
-        alertname: MelfjitsOutOfMemory
-        exp_alerts: [{exp_labels: {channel: east, fault: memory, severity: page}, exp_annotations: {summary: 'east: a step was not done, memory ran out'}}]
-      - eval_time: 11m
-        alertname: MelfjitsBudgetCommitted
-        exp_alerts: [{exp_labels: {channel: east, operator: A}, exp_annotations: {summary: 'east: flows of A have committed more than 90 % of its budget'}}]
-"""
-
-
-@unittest.skipUnless(shutil.which("promtool"), "promtool is not installed: the example rules were not checked")
-class Rules(unittest.TestCase):
-    def setUp(self):
-        folder = tempfile.TemporaryDirectory()
-        self.addCleanup(folder.cleanup)
-        self.folder = pathlib.Path(folder.name)
-        lines = section(ROOT, "docs/MONITORING.md#alerts")
-        start = lines.index("    groups:")
-        end = next(place for place, line in enumerate(lines) if place > start and line and not line.startswith("    "))
-        (self.folder / "rules.yml").write_text("\n".join(line[4:] for line in lines[start:end]))
-
-    def run_promtool(self, *words):
-        done = subprocess.run(["promtool", *words], cwd=self.folder, capture_output=True, text=True, check=False)
-        self.assertEqual(done.returncode, 0, done.stdout + done.stderr)
-        return done.stdout
-
-    def test_promtool_accepts_the_example_rules(self):
-        self.assertIn("SUCCESS: 3 rules found", self.run_promtool("check", "rules", "rules.yml"))
-
-    def test_each_rule_fires_when_it_should(self):
-        (self.folder / "tests.yml").write_text(RULE_TESTS)
-        self.run_promtool("test", "rules", "tests.yml")
 
 
 if __name__ == "__main__":

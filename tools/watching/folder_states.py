@@ -20,8 +20,6 @@ from .outputs import Outputs
 # Such a line of a journal was refused by the service with a folder. `resume` might perform it.
 OF_RESUME = re.compile(rb"[KPN]")
 INVALID = b"X"
-FIRST = re.compile(rb"=line (\d{1,20})\n")
-MOST_FIRST = 32
 # Less than the channel.
 NICE = "10"
 INSTALLED, BUILT = "/usr/bin/plant_script", "crates/plant_program/out/plant_program"
@@ -111,35 +109,43 @@ def snapshot_of_folder(folder, program):
     return Replay(folder, program).snapshot()
 
 
+def saved_snapshot(folder):
+    """Returns the snapshot that a journal begins with."""
+    found = read_journal(pathlib.Path(folder, "journal").read_bytes())
+    if found is None or not found[0][1:]:
+        raise NoState("it has no saved state")
+    return b"".join(line + b"\n" for line in found[0][1:])
+
+
 class FolderStates:
-    """Gives the state of a channel once a period, from its folder. With a period of 0, never."""
+    """Gives the state of a channel once a period, from its folder. With a period of 0, never.
+
+    If the channel has saved its state in this period, that is the state. Otherwise the lines since are done again.
+    """
 
     def __init__(self, folder, program, period, now):
         self.folder, self.program, self.period, self.due = folder, program, period, now
-        self.replay, self.saved_lines = None, None
+        self.replay, self.saved_at = None, None
 
     def take(self, now):
         """Returns a snapshot if one has been computed since the last call, and begins another one if it is time."""
         snapshot = None
         if self.replay is not None and not self.replay.is_running():
+            ended, self.replay = self.replay, None
             with contextlib.suppress(NoState):
-                snapshot = self.replay.snapshot()
-            self.replay = None
+                snapshot = ended.snapshot()
         if self.period and now >= self.due and self.replay is None:
             self.due = now + self.period
             with contextlib.suppress(NoState, OSError):
+                if self.saved_at is not None and now - self.saved_at < self.period:
+                    return saved_snapshot(self.folder)
                 self.replay = Replay(self.folder, self.program)
         return snapshot
 
-    def hasten(self, now):
-        """Makes the next state due at once."""
-        self.due = now if self.period else self.due
+    def note_saved(self, now):
+        """Notes that the channel has saved its state."""
+        self.saved_at = now
 
-    def measure(self):
-        """Returns how many bytes the journal has, and whether its saved state is another one than at the last call; or None without one."""
-        with contextlib.suppress(OSError), open(os.path.join(self.folder, "journal"), "rb") as file:
-            first, before = FIRST.match(file.read(MOST_FIRST)), self.saved_lines
-            if first is not None:
-                self.saved_lines = int(first[1])
-                return os.fstat(file.fileno()).st_size, self.saved_lines != before
-        return None
+    def hasten(self, now):
+        """Makes the next state due at once. The lines since are done again, since the plant or the program may be others."""
+        self.due, self.saved_at = now if self.period else self.due, None

@@ -1,10 +1,11 @@
 """Reads the state of each operator from a snapshot: numbers, next to the limits of the operator's row."""
 
+import functools
 from dataclasses import dataclass
 
 from tools.reference.book import Book, Share, all_committed
 from tools.reference.coverage import MetFault
-from tools.reference.plant import read_plant
+from tools.reference.plant import Plant, read_plant
 from tools.reference.snapshots import SnapshotFault, read_snapshot
 from tools.reference.states import books_of
 
@@ -39,11 +40,12 @@ class OperatorState:
 
 @dataclass(frozen=True)
 class ChannelState:
-    """The state of a channel before a frame, the modems that have flows, and the operator of each modem."""
+    """The state of a channel before a frame, the modems that have flows, the operator of each modem, and the time of a frame."""
     frame: int
     operators: tuple
     modems: tuple[ModemState, ...]
     operator_of: dict
+    frame_seconds: float
 
 
 def flow_state(flow):
@@ -66,20 +68,34 @@ def operator_state(book):
         inbox=len(book.inbox), inbox_limit=row.inbox, backlog_minislots=sum(flow.backlog for flow in book.flows.values()))
 
 
-def operators_of_modems(plant_text):
-    """Returns the operator of each modem of a plant file."""
+@functools.lru_cache(maxsize=1)
+def plant_of(text: bytes) -> Plant:
+    """Returns the plant of a plant file. The last one is kept, since states of the same channel have the same plant file."""
+    return read_plant(text.decode())
+
+
+def readable_plant(text: bytes) -> Plant:
+    """Returns the plant of a plant file, or raises Unreadable."""
     try:
-        plant = read_plant(plant_text.decode())
+        return plant_of(text)
     except (MetFault, ValueError) as fault:
         raise Unreadable(f"the plant file cannot be read: {fault}") from fault
-    return {modem: row.name for row in plant.rows for modem in row.modems}
+
+
+def frame_seconds_of(plant: Plant) -> float:
+    return plant.frame_us / 1_000_000
+
+
+def operators_of_modems(plant_text):
+    """Returns the operator of each modem of a plant file."""
+    return {modem: row.name for row in readable_plant(plant_text).rows for modem in row.modems}
 
 
 def read_books(data: bytes) -> list[Book]:
     """Returns the books of the operators in the states of a snapshot, which is given as its bytes."""
     try:
         saved = read_snapshot(data)
-        return books_of(read_plant(saved.plant_text.decode()), saved)
+        return books_of(plant_of(saved.plant_text), saved)
     except SnapshotFault as fault:
         raise Unreadable(f"the snapshot cannot be read: its line {fault.line} is invalid ({fault.reason}). A snapshot begins with the line "
                          "melfjits-snapshot and has a line end at its end") from fault
@@ -91,4 +107,4 @@ def read_state(data):
     """Returns the state of a channel from the bytes of a snapshot."""
     books = read_books(data)
     operator_of = {modem: book.row.name for book in books for modem in book.row.modems}
-    return ChannelState(books[0].frame, tuple(map(operator_state, books)), modems_of(books), operator_of)
+    return ChannelState(books[0].frame, tuple(map(operator_state, books)), modems_of(books), operator_of, frame_seconds_of(books[0].plant))
