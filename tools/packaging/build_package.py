@@ -35,6 +35,7 @@ MAINTAINER = re.compile(r"^Maintainer: (.*)$", re.MULTILINE)
 FILES = {"packaging/debian": "debian", "packaging/systemd": "systemd", "packaging/completions": "completions",
          "packaging/serve_channel": "serve_channel", "packaging/tick_channel": "tick_channel", "packaging/pass_reasons": "pass_reasons",
          "packaging/report_progress": "report_progress", "packaging/channel_group": "channel_group", "packaging/prometheus": "prometheus",
+         "packaging/operator_group": "operator_group", "tools/bridging": "tools/bridging", "tools/plant_bridge": "tools/plant_bridge",
          "tools/reference": "tools/reference", "tools/watching": "tools/watching", "tools/__init__.py": "tools/__init__.py",
          "tools/describe_state": "tools/describe_state", "tools/watch_channel": "tools/watch_channel", "tools/renumber_channel": "tools/renumber_channel",
          "tools/viewing": "tools/viewing", "tools/messages": "tools/messages", "tools/plant_view": "tools/plant_view", "tools/dsx": "tools/dsx",

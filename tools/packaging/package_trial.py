@@ -74,10 +74,10 @@ def complete(box):
 
 
 def verify_units(box):
-    found = box.ask("systemd-analyze verify plant@east.service plant@east.socket plant-ticker@east.service plant-metrics@east.service plant-renumber@east.timer plant-renumber@east.service")
+    found = box.ask("systemd-analyze verify plant@east.service plant@east.socket plant-ticker@east.service plant-metrics@east.service plant-renumber@east.timer plant-renumber@east.service plant-bridge@east.service plant-bridge@east.socket")
     want(not found, f"systemd-analyze verify finds:\n{found}")
     exposures = []
-    for unit in ("plant@", "plant-ticker@", "plant-metrics@", "plant-renumber@"):
+    for unit in ("plant@", "plant-ticker@", "plant-metrics@", "plant-renumber@", "plant-bridge@"):
         last = box.run(f"systemd-analyze security --offline=true --no-pager /usr/lib/systemd/system/{unit}.service").splitlines()[-1]
         exposures.append(float(re.search(r"(\d+\.\d+)", last)[1]))
     want(max(exposures) < MOST_EXPOSURE, f"systemd-analyze security says {exposures}")

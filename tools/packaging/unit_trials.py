@@ -42,7 +42,7 @@ def drop_in(box, unit, text):
 
 def remove_channel(box, channel):
     """Stops a channel, and removes all that is of it."""
-    box.run(f"systemctl stop plant-metrics@{channel} plant-ticker@{channel} plant@{channel}.socket plant@{channel}; "
+    box.run(f"systemctl stop plant-bridge@{channel}.socket plant-bridge@{channel} plant-metrics@{channel} plant-ticker@{channel} plant@{channel}.socket plant@{channel}; "
             f"systemctl reset-failed 'plant*@{channel}*' 2>/dev/null; rm -rf /var/lib/plant_script/{channel}/* /etc/plant_script/{channel}.* "
             f"/etc/systemd/system/plant*@{channel}.*.d; systemctl daemon-reload")
 
@@ -252,6 +252,29 @@ def groups(box):
     return "with a group for each channel, a client of one neither ticks another nor reads its answers"
 
 
+def sockets(box):
+    """Gives operator A a socket with a group of its own. A client of A gets grants there, and may open no other socket, also after a restart."""
+    folder, client = "/run/plant_script/north", "/usr/share/doc/plant-script/examples/clients/plant_client.py"
+    set_plant(box, "north")
+    box.run("systemctl start plant@north; /usr/libexec/plant_script/operator_group north A; systemctl enable --now plant-bridge@north; systemctl start plant-ticker@north")
+    box.run("useradd --groups _plant_north_a of_a")
+    found = box.run(f"stat -c '%U:%G %a' {folder}/control.sock {folder}/operators/A.sock {folder}/operators/B.sock").splitlines()
+    want(found == ["root:_plant_script 660", "_plant_script:_plant_north_a 660", "_plant_script:_plant_script 660"], f"the sockets have the rights {found}")
+    connect = "python3 -c \"import socket; socket.socket(socket.AF_UNIX).connect(\\\"{}\\\")\""
+    for path, is_allowed in (("control.sock", False), ("operators/B.sock", False), ("operators/A.sock", True)):
+        want(may(box, "of_a", connect.format(f"{folder}/{path}")) == is_allowed, f"a client of A may {'not ' * is_allowed}open {path}")
+    for modem, sid in (("020000000001", 257), ("020000000002", 258)):
+        found = box.run(f"runuser -u of_a -- {client} {folder}/operators/A.sock {modem} 5")
+        want(re.fullmatch(rf"flow {sid} has SID {sid}\nframe \d+: 5 minislots from minislot \d+ on\n", found), f"the client of A prints\n{found}")
+        # (the sockets stay while the channel restarts, and the bridge restarts as well)
+        box.run("systemctl restart plant@north plant-bridge@north")
+    want("refused: modem" in box.status_of(f"runuser -u of_a -- {client} {folder}/operators/A.sock 020000000003 5")[1], "a client of A acts for a modem of B")
+    remove_channel(box, "north")
+    want(not box.ask(f"find {folder} -type s"), "sockets are left")
+    box.run("userdel of_a; groupdel _plant_north_a; rm -r /var/lib/plant_script/north")
+    return "a client of operator A gets grants by its socket, and opens no other one"
+
+
 def metrics_folder(box):
     """Does what docs/MONITORING.md says of the folder of the metrics. A client cannot make links there, and the file is written."""
     folder = "/var/lib/prometheus/node-exporter"
@@ -272,4 +295,4 @@ def metrics_folder(box):
     return "a client makes no link in the folder of the metrics, and they are written through none"
 
 
-TRIALS = (full_disk, many_failures, no_pipe, hanging, full_pipe, answers_in_journal, memory, groups, metrics_folder)
+TRIALS = (full_disk, many_failures, no_pipe, hanging, full_pipe, answers_in_journal, memory, groups, sockets, metrics_folder)

@@ -29,23 +29,25 @@ usr/share/doc/plant-script/examples/realtime.conf usr/share/fish/vendor_completi
 usr/share/lintian/overrides/plant-script usr/share/man/man1/plant_script-serve.1.gz usr/share/man/man1/plant_script.1.gz
 usr/share/man/man5/plant.toml.5.gz usr/share/zsh/vendor-completions/_plant_script
 usr/lib/systemd/system/plant-metrics@.service usr/libexec/plant_script/pass_reasons usr/libexec/plant_script/watch_channel
-usr/libexec/plant_script/report_progress usr/libexec/plant_script/channel_group usr/libexec/plant_script/renumber_channel
-usr/lib/systemd/system/plant-renumber@.service usr/lib/systemd/system/plant-renumber@.timer usr/share/plant-script/alerts.yml
-usr/share/plant-script/dashboard.json usr/share/doc/plant-script/METRICS.md.gz
+usr/libexec/plant_script/report_progress usr/libexec/plant_script/channel_group usr/libexec/plant_script/operator_group
+usr/libexec/plant_script/renumber_channel usr/lib/systemd/system/plant-renumber@.service usr/lib/systemd/system/plant-renumber@.timer
+usr/share/plant-script/alerts.yml usr/share/plant-script/dashboard.json usr/share/doc/plant-script/METRICS.md.gz
+usr/lib/systemd/system/plant-bridge@.service usr/lib/systemd/system/plant-bridge@.socket usr/libexec/plant_script/plant_bridge
+usr/share/doc/plant-script/BRIDGE.md.gz
 usr/bin/describe_state usr/share/man/man1/describe_state.1.gz usr/bin/plant_view usr/share/man/man1/plant_view.1.gz usr/bin/dsx
 usr/share/man/man1/dsx.1.gz usr/lib/plant_script/tools/viewing/page.html""".split()
 # The tools and the examples that are packed are those of the repository.
-COMMANDS = ("describe_state", "watch_channel", "renumber_channel", "plant_view", "dsx")
+COMMANDS = ("describe_state", "watch_channel", "renumber_channel", "plant_bridge", "plant_view", "dsx")
 TOOLS = ["tools/__init__.py", *(f"tools/{name}" for name in COMMANDS)] + [
-    str(path.relative_to(ROOT)) for folder in ("reference", "watching", "viewing", "messages") for path in (ROOT / "tools" / folder).glob("*.py")]
+    str(path.relative_to(ROOT)) for folder in ("reference", "watching", "viewing", "messages", "bridging") for path in (ROOT / "tools" / folder).glob("*.py")]
 PACKED += [f"usr/lib/plant_script/{name}" for name in TOOLS]
 PACKED += [f"usr/share/doc/plant-script/examples/{path.relative_to(EXAMPLES)}" for path in EXAMPLES.rglob("*")
            if path.is_file() and path.name != ".gitignore" and "__pycache__" not in path.parts]
 EXECUTABLE = {"usr/bin/plant_script", *(f"usr/lib/plant_script/tools/{name}" for name in COMMANDS)} | {
-    f"usr/libexec/plant_script/{name}" for name in ("serve_channel", "tick_channel", "pass_reasons", "report_progress", "channel_group")} | {
+    f"usr/libexec/plant_script/{name}" for name in ("serve_channel", "tick_channel", "pass_reasons", "report_progress", "channel_group", "operator_group")} | {
     f"usr/share/doc/plant-script/examples/{path.relative_to(EXAMPLES)}" for path in EXAMPLES.rglob("*") if path.is_file() and os.access(path, os.X_OK)}
 LINKS = {f"usr/bin/{name}": f"../lib/plant_script/tools/{name}" for name in ("describe_state", "plant_view", "dsx")}
-LINKS |= {f"usr/libexec/plant_script/{name}": f"../../lib/plant_script/tools/{name}" for name in ("watch_channel", "renumber_channel")}
+LINKS |= {f"usr/libexec/plant_script/{name}": f"../../lib/plant_script/tools/{name}" for name in ("watch_channel", "renumber_channel", "plant_bridge")}
 MISSING = sorted({package for command, package in TOOL.COMMANDS.items() if not shutil.which(command)})
 VERSION = "0.1~20261124.0930.g"
 
@@ -178,6 +180,7 @@ class Package(unittest.TestCase):
     def test_its_tools_run_from_where_they_are_installed(self):
         subprocess.run(["dpkg-deb", "--extract", self.package, self.top / "installed"], check=True)
         for name, text in (("usr/bin/describe_state", "--json"), ("usr/libexec/plant_script/watch_channel", "CHANNEL PLANT PIPE"),
+                           ("usr/libexec/plant_script/plant_bridge", "PLANT PIPE CONTROL SOCKETS"),
                            ("usr/bin/plant_view", "--highlight NAME"), ("usr/bin/dsx", "KIND tid=N WORD..")):
             done = subprocess.run([self.top / "installed" / name, "--help"], cwd="/", capture_output=True, text=True, check=False)
             self.assertEqual((done.returncode, done.stderr), (0, ""))

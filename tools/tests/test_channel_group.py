@@ -12,7 +12,8 @@ import unittest
 from tools import ROOT
 
 SCRIPT = ROOT / "packaging/channel_group"
-UNITS = ("plant@{}.socket", "plant@{}.service", "plant-ticker@{}.service", "plant-metrics@{}.service", "plant-renumber@{}.service")
+UNITS = ("plant@{}.socket", "plant-bridge@{}.socket", "plant@{}.service", "plant-bridge@{}.service", "plant-ticker@{}.service", "plant-metrics@{}.service",
+         "plant-renumber@{}.service")
 SECONDS = 10
 
 

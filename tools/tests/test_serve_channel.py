@@ -780,7 +780,7 @@ for name in [name for name in vars(Channel) if name.startswith("test_")]:
 class Units(unittest.TestCase):
     @unittest.skipUnless(shutil.which("systemd-analyze"), "systemd-analyze is not installed: the exposure of the unit was not tested")
     def test_exposure(self):
-        for name in ("plant@", "plant-ticker@", "plant-metrics@", "plant-renumber@"):
+        for name in ("plant@", "plant-ticker@", "plant-metrics@", "plant-renumber@", "plant-bridge@"):
             done = subprocess.run(["systemd-analyze", "security", "--offline=true", "--no-pager", UNITS / f"{name}.service"], capture_output=True, text=True, check=True)
             self.assertLess(float(re.search(r"Overall exposure level .*?: (\d+\.\d+)", done.stdout)[1]), MOST_EXPOSURE)
 

@@ -1,0 +1,1 @@
+"""Code of plant_bridge: Unix sockets for the operators of a channel and for its owner (docs/BRIDGE.md)."""
