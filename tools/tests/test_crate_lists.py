@@ -16,10 +16,6 @@ low:
 middle: low toml
 high: low middle
 """
-SOURCES = {
-    "low": ("lib", "//! The lowest crate. It has more to say.\nmod a;\n"), "trials": ("lib", "//! Tests of the lowest crate.\n"),
-    "middle": ("lib", "//! A crate with a sentence that\n//! goes on.\n"), "high": ("main", "//! The program.\n"),
-}  # fmt: skip
 PAGE = """# Page
 
 <!-- generated: {} -->
@@ -41,10 +37,7 @@ class Lists(unittest.TestCase):
         self.root = pathlib.Path(folder.name)
         (self.root / "docs").mkdir()
         (self.root / "crates.txt").write_text(CRATES)
-        for name, (file, text) in SOURCES.items():
-            (self.root / "crates" / name / "src").mkdir(parents=True)
-            (self.root / "crates" / name / "src" / (file + ".rt")).write_text(text)
-        (self.root / "crates/middle/specs").mkdir()
+        (self.root / "crates/middle/specs").mkdir(parents=True)
 
     def run_tool(self, *options):
         done = subprocess.run([ROOT / "tools/ci/crate_lists", "--root", self.root, *options], capture_output=True, text=True, check=False)
@@ -63,9 +56,8 @@ class Lists(unittest.TestCase):
 
     def test_crates(self):
         self.assertEqual(self.written("crates"), "\n".join((
-            "**Low ones**", "", "- `low`: The lowest crate.", "",
-            "**High ones**", "", "- `middle`: A crate with a sentence that goes on. Uses `toml`.", "- `high`: The program.", "",
-            "**Tests**", "", "- `trials`: Tests of the lowest crate.",
+            "- Low ones: [low](reference/low.md)", "- High ones: [middle](reference/middle.md), [high](reference/high.md)",
+            "- Tests: [trials](reference/trials.md)",
         )))  # fmt: skip
 
     def test_graph_leaves_out_what_is_reached_through_another(self):
@@ -89,10 +81,10 @@ class Lists(unittest.TestCase):
         page.write_text(PAGE.format("crates"))
         self.run_tool()
         text = page.read_text()
-        (self.root / "crates/high/src/main.rt").write_text("//! Another program.\n")
+        (self.root / "crates.txt").write_text(CRATES.replace("high: low", "highest: low"))
         status, output = self.run_tool("--check")
         self.assertEqual(status, 1)
-        self.assertIn("-- `high`: The program.\n+- `high`: Another program.\n", output)
+        self.assertIn(", [high](reference/high.md)\n+- High ones: [middle](reference/middle.md), [highest](reference/highest.md)\n", output)
         self.assertEqual(page.read_text(), text)
 
     def test_a_moved_dependency(self):
@@ -103,7 +95,6 @@ class Lists(unittest.TestCase):
     def test_faults(self):
         for file, text, message in (
             ("crates.txt", "low:\n", "crates.txt: low has no part\n"),
-            ("crates/low/src/lib.rt", "mod a;\n", "crates/low: the source has no doc comment `//!` with a sentence\n"),
             ("docs/PAGE.md", PAGE.format("other"), "there is no block other: it is one of crates, graph, chapters, specs, libraries\n"),
         ):
             self.setUp()
