@@ -792,7 +792,7 @@ class Units(unittest.TestCase):
         """Reads the units as this version of systemd does. Users and commands of the package are not there."""
         with tempfile.TemporaryDirectory() as folder:
             units = [pathlib.Path(shutil.copy(path, pathlib.Path(folder, path.name.replace("@.", "@east.")))) for path in UNITS.glob("*@.*")]
-            self.assertEqual(len(units), 6)
+            self.assertEqual(len(units), 8)
             done = subprocess.run(["systemd-analyze", "verify", "--man=no", *units], capture_output=True, text=True, check=False)
             self.assertEqual([line for line in done.stderr.splitlines() if folder in line], [])
 
