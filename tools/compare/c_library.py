@@ -1,0 +1,167 @@
+"""Drives the library for C through ctypes, and writes its outputs as the lines of a run."""
+
+import ctypes
+import pathlib
+import shutil
+import subprocess
+
+from tools import ROOT
+from tools.proving.prover import kit_folder
+
+ARCHIVE = ROOT / "crates/channel_c/out/libchannel_c.a"
+HEADER = ROOT / "bindings/c"
+DONE, SHORT, NONE_WAITS = 0, 3, 4
+CAUSES = ("InboxFull", "Idle", "Empty", "NotOurs", "Short", "TidInUse", "UnknownAck", "NoSuchSid", "NotRequesting")
+REFUSED = range(20, 40)
+
+
+class Handle(ctypes.Structure):
+    """A handle: closed while all its bytes are 0."""
+
+    _fields_ = (("ptr", ctypes.c_void_p), ("is_open", ctypes.c_bool))
+
+
+class Modem(ctypes.Structure):
+    """The hardware address of a cable modem."""
+
+    _fields_ = (("bytes", ctypes.c_uint8 * 6),)
+
+
+class Slice(ctypes.Structure):
+    """A slice and a budget of an operator."""
+
+    _fields_ = (("start", ctypes.c_uint16), ("length", ctypes.c_uint16), ("budget", ctypes.c_uint16))
+
+
+class Output(ctypes.Structure):
+    """The head of an output."""
+
+    _fields_ = (
+        ("kind", ctypes.c_uint32),
+        ("cause", ctypes.c_uint32),
+        ("operator_at", ctypes.c_size_t),
+        ("frame", ctypes.c_uint32),
+        ("modem", ctypes.c_uint8 * 6),
+        ("length", ctypes.c_size_t),
+        ("granted", ctypes.c_size_t),
+        ("pending", ctypes.c_size_t),
+    )
+
+
+class Grant(ctypes.Structure):
+    """Minislots granted to a SID, or a grant pending."""
+
+    _fields_ = (("sid", ctypes.c_uint16), ("iuc", ctypes.c_uint16), ("start", ctypes.c_uint16), ("length", ctypes.c_uint16))
+
+
+def libraries():
+    """Returns the archives that a C program is linked with, in their order."""
+    return [str(ARCHIVE), str(kit_folder() / "c/liblibc_c.a")]
+
+
+def is_built():
+    """Returns whether the library is built, and there is a compiler to link it."""
+    return ARCHIVE.is_file() and shutil.which("gcc") is not None and shutil.which("rt") is not None
+
+
+def build_shared(folder):
+    """Links the library as a shared one in a folder, and returns it."""
+    path = pathlib.Path(folder, "libmelfjits.so")
+    archive, heap = libraries()
+    subprocess.run(["gcc", "-shared", "-o", path, "-Wl,--whole-archive", archive, "-Wl,--no-whole-archive", heap], check=True)
+    return ctypes.CDLL(str(path))
+
+
+def build_program(source, folder, *words):
+    """Compiles and links a C program in a folder, and returns its path."""
+    path = pathlib.Path(folder, pathlib.Path(source).stem)
+    subprocess.run(["gcc", "-std=c11", "-Wall", "-Wextra", "-Werror", "-O1", "-g", f"-I{HEADER}", "-o", path, source, *libraries(), *words], check=True)
+    return path
+
+
+class Channel:
+    """A channel of the library, driven by the lines of a script."""
+
+    def __init__(self, library, size=4096, grants=512):
+        self.library, self.handle, self.names = library, Handle(), []
+        self.bytes, self.grants = (ctypes.c_uint8 * size)(), (Grant * grants)()
+
+    def call(self, name, *arguments):
+        """Makes a call, and returns its number."""
+        return getattr(self.library, f"melfjits_{name}")(ctypes.byref(self.handle), *arguments)
+
+    def open(self, text):
+        """Opens the channel of a plant file's bytes."""
+        return self.call("open", text, ctypes.c_size_t(len(text)))
+
+    def close(self):
+        """Closes the channel."""
+        return self.call("close")
+
+    def arrive(self, modem, message):
+        """Receives a message of a modem."""
+        return self.call("arrive", ctypes.byref(modem_of(modem)), message, ctypes.c_size_t(len(message)))
+
+    def request(self, modem, sid, minislots):
+        """Receives a bandwidth request of a modem."""
+        return self.call("request", ctypes.byref(modem_of(modem)), ctypes.c_uint16(sid), ctypes.c_uint16(minislots))
+
+    def at(self, name, place):
+        """Makes the call tick, collect or work for the operator at a place."""
+        return self.call(name, ctypes.c_size_t(place))
+
+    def reslice(self, start, rows):
+        """Gives each operator another slice and budget from a frame on."""
+        return self.call("reslice", ctypes.c_uint32(start), (Slice * len(rows))(*(Slice(*row) for row in rows)), ctypes.c_size_t(len(rows)))
+
+    def fetch(self, size=None, grants=None):
+        """Fetches the output that waits first into buffers of these sizes. Returns the number of the call, and the output's head."""
+        head = Output()
+        sizes = [len(self.bytes) if size is None else size, len(self.grants) if grants is None else grants]
+        code = self.call("next_output", ctypes.byref(head), self.bytes, ctypes.c_size_t(sizes[0]), self.grants, ctypes.c_size_t(sizes[1]))
+        return code, head
+
+    def lines(self):
+        """Returns the lines of all outputs that wait."""
+        found = []
+        while True:
+            code, head = self.fetch()
+            if code == NONE_WAITS:
+                return found
+            if code != DONE:
+                raise AssertionError(f"melfjits_next_output: {code}")
+            found.append(self.line_of(head))
+
+    def line_of(self, head):
+        """Returns the line of the output that was fetched last."""
+        text = bytes(self.bytes[: head.length]).hex().upper()
+        modem = bytes(head.modem).hex().upper()
+        if head.kind == 1:
+            return f"R {modem} {text}"
+        if head.kind == 2:
+            return f"S {modem if any(head.modem) else '-'} {CAUSES[head.cause - 1]}"
+        if head.kind == 4:
+            return f"MAP {head.frame} {text}"
+        granted = [f"{grant.sid}/{grant.iuc}/{grant.start}/{grant.length}" for grant in self.grants[: head.granted]]
+        pending = [f"{grant.sid}/P" for grant in self.grants[head.granted : head.granted + head.pending]]
+        return " ".join(["F", self.names[head.operator_at], str(head.frame), *granted, *pending])
+
+    def perform(self, line):
+        """Makes the calls that a line of a script says. Returns the first number that is not 0, or 0."""
+        word, *fields = line.split(" ")
+        if word == "M":
+            return self.arrive(fields[0], bytes.fromhex(fields[1].replace("-", "")))
+        if word == "Q":
+            return self.request(fields[0], int(fields[1]), int(fields[2]))
+        if word == "Z":
+            return self.reslice(int(fields[0]), [tuple(int(part) for part in field.split("/")) for field in fields[1:]])
+        for place in [self.names.index(fields[0])] if fields else range(len(self.names)):
+            for name in ("tick", "collect"):
+                code = self.at(name, place)
+                if code != DONE:
+                    return code
+        return DONE
+
+
+def modem_of(address):
+    return Modem((ctypes.c_uint8 * 6)(*bytes.fromhex(address)))

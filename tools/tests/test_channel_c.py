@@ -1,0 +1,120 @@
+"""Tests the library for C: its answers, its numbers, short buffers, and its memory."""
+
+import ctypes
+import shutil
+import subprocess
+import tempfile
+import unittest
+
+from tools import EXAMPLES, ROOT
+from tools.compare.c_library import DONE, HEADER, NONE_WAITS, SHORT, Channel, Grant, Handle, Modem, Output, Slice, build_program, build_shared, is_built
+from tools.reference.answers import reference_answer
+from tools.reference.plant import read_plant
+
+P2 = (EXAMPLES / "plant_p2.toml").read_bytes()
+A1 = "020000000001"
+FIRST = bytes.fromhex("0F0001180A010200010601060F0102")
+FIRST_REPLY = "10000100180E0102000102040000010103020101"
+SCRIPTS = ("two_operators", "one_operator_alone", "other_slices", "unsolicited_grants/run", "deletions/run", "silent_causes/run", "polling/run",
+           "best_effort/run", "resend_and_give_up/run", "refusals/run", "provisioned_flows/run", "class_names/run")
+NOT_BUILT = "the library for C is not built, by `rt lib` in crates/channel_c: nothing was tested"
+
+
+@unittest.skipUnless(is_built(), NOT_BUILT)
+class LibraryForC(unittest.TestCase):
+    @classmethod
+    def setUpClass(cls):
+        folder = tempfile.TemporaryDirectory()
+        cls.addClassCleanup(folder.cleanup)
+        cls.folder, cls.library = folder.name, build_shared(folder.name)
+
+    def opened(self, text=P2):
+        channel = Channel(self.library)
+        self.assertEqual(channel.open(text), DONE)
+        self.addCleanup(channel.close)
+        channel.names = [row.name for row in read_plant(text.decode()).rows]
+        return channel
+
+    def test_a_c_program_prints_the_first_reply(self):
+        program = build_program(HEADER / "first_reply.c", self.folder)
+        done = subprocess.run([program, EXAMPLES / "plant_p2.toml"], capture_output=True, text=True, check=True)
+        self.assertEqual(done.stdout, f"{FIRST_REPLY}\n")
+        if shutil.which("valgrind") is None:
+            self.skipTest("valgrind is not installed: memory was not checked")
+        checked = subprocess.run(["valgrind", "-q", "--leak-check=full", "--show-leak-kinds=all", "--error-exitcode=9", program, EXAMPLES / "plant_p2.toml"],
+                                 capture_output=True, text=True)
+        self.assertEqual((checked.returncode, checked.stderr), (0, ""))
+
+    def test_scripts_are_answered_as_by_the_second_implementation(self):
+        for name in SCRIPTS:
+            data = (EXAMPLES / f"{name}.txt").read_bytes()
+            plant, _, script = data.partition(b"---\n")
+            channel, lines = self.opened(plant), []
+            for line in script.decode().splitlines():
+                if line:
+                    self.assertEqual(channel.perform(line), DONE, (name, line))
+                    lines += channel.lines()
+            status, text = reference_answer(["run"], data)
+            self.assertEqual((status, text.decode().splitlines()), (0, lines), name)
+
+    def test_outputs_wait_until_they_are_fetched(self):
+        lines = [f"M {A1} {FIRST.hex()}", f"M {A1} 11000100", f"Q {A1} 257 5", "T", "T"]
+        late, soon, fetched = self.opened(), self.opened(), []
+        for line in lines:
+            self.assertEqual((late.perform(line), soon.perform(line)), (DONE, DONE))
+            fetched += soon.lines()
+        code, head = late.fetch()
+        found = [late.line_of(head)]
+        self.assertEqual((code, late.perform("T"), soon.perform("T")), (DONE, DONE, DONE))
+        self.assertEqual(found + late.lines(), fetched + soon.lines())
+
+    def test_a_short_buffer_loses_nothing(self):
+        channel = self.opened()
+        self.assertEqual(channel.arrive(A1, FIRST), DONE)
+        length = len(FIRST_REPLY) // 2
+        code, head = channel.fetch(size=length - 1)
+        self.assertEqual((code, head.kind, head.length), (SHORT, 1, length))
+        self.assertEqual(channel.call("next_output", ctypes.byref(head), None, ctypes.c_size_t(0), None, ctypes.c_size_t(0)), SHORT)
+        code, head = channel.fetch(size=length, grants=0)
+        self.assertEqual((code, channel.line_of(head)), (DONE, f"R {A1} {FIRST_REPLY}"))
+        self.assertEqual(channel.fetch()[0], NONE_WAITS)
+        self.assertEqual(channel.at("tick", 0), DONE)
+        code, head = channel.fetch(grants=0)
+        self.assertEqual((code, head.kind, head.granted), (SHORT, 3, 1))
+        self.assertEqual(channel.lines(), ["F A 0 0/6/8/32"])
+
+    def test_numbers_of_faults(self):
+        channel = self.opened()
+        self.assertEqual([channel.arrive("020000000009", b""), channel.request("020000000009", 1, 1), channel.at("tick", 2), channel.at("collect", 0)],
+                         [20, 20, 21, 23])
+        self.assertEqual([channel.reslice(1, []), channel.reslice(0, [(8, 32, 32), (40, 32, 32)]), channel.reslice(1, [(8, 0, 0), (40, 32, 32)]),
+                          channel.reslice(1, [(8, 33, 32), (40, 32, 32)]), channel.reslice(1, [(8, 32, 33), (40, 32, 32)])], [30, 31, 33, 34, 35])
+        self.assertEqual((channel.reslice(1, [(8, 32, 32), (40, 32, 32)]), channel.reslice(2, [(8, 32, 32), (40, 32, 32)])), (DONE, 32))
+        self.assertEqual(channel.lines(), [])
+        for number, text in ((10, b"\xff"), (10, b"= "), (11, b""), (12, P2.replace(b"= 72", b"= 0")), (13, P2.replace(b"[40, 32]", b"[39, 32]")),
+                             (16, P2.replace(b"0003", b"0001")), (18, P2.replace(b"budget = 32", b"budget = 33"))):
+            self.assertEqual(channel.open(text), number, text)
+        self.assertEqual(channel.at("tick", 0), DONE)
+
+    def test_closed_handles(self):
+        channel = Channel(self.library)
+        calls = (channel.close, lambda: channel.arrive(A1, FIRST), lambda: channel.request(A1, 257, 1), lambda: channel.at("work", 0),
+                 lambda: channel.at("tick", 0), lambda: channel.at("collect", 0), lambda: channel.reslice(1, []), lambda: channel.fetch()[0])
+        self.assertEqual([call() for call in calls], [2] * len(calls))
+        self.assertEqual(channel.call("open", None, ctypes.c_size_t(0)), 11)
+        self.assertEqual([channel.open(P2), channel.open(P2), channel.close(), channel.close()], [DONE, DONE, DONE, 2])
+        self.assertEqual([call() for call in calls], [2] * len(calls))
+
+    def test_the_header_has_these_types(self):
+        types = {"channel": Handle, "modem": Modem, "slice": Slice, "output": Output, "grant": Grant}
+        sizes = [f'printf("%zu\\n", sizeof(melfjits_{name}));' for name in types]
+        offsets = [f'printf("%zu\\n", offsetof(melfjits_{name}, {field[0]}));' for name, made in types.items() for field in made._fields_]
+        source = ROOT / self.folder / "sizes.c"
+        source.write_text('#include "melfjits.h"\n#include <stdio.h>\nint main(void) {\n' + "\n".join(sizes + offsets) + "\n}\n")
+        done = subprocess.run([build_program(source, self.folder)], capture_output=True, text=True, check=True)
+        expected = [ctypes.sizeof(made) for made in types.values()] + [getattr(made, field[0]).offset for made in types.values() for field in made._fields_]
+        self.assertEqual([int(line) for line in done.stdout.split()], expected)
+
+
+if __name__ == "__main__":
+    unittest.main()
