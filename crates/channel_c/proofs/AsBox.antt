@@ -1,0 +1,28 @@
+-- The parts own what a box at the same types owns.
+use mir.Syntax.{impl, tnil, dnil}
+use mathlib.Core.List.{[]}
+use denote.Signature.{Slot, plain}
+use denote.RattleType.{RattleType}
+use Rattle.std_alloc.proofs.BoxSteps.Form.{Bx}
+use Rattle.std_heap.specs.contracts.Global as Heap
+use Rattle.std_heap.specs.contracts.GlobalAllocator.TheImpl.{ghosts, dict}
+use Rattle.std_heap.proofs.Global.TheLaws as heap
+use Rattle.channel_c.specs.contracts.channel.OpenChannel as Open
+use Rattle.channel_c.proofs.channel.OpenChannel.TheLaws as held
+use Rattle.channel_c.specs.contracts.parts.Parts as Parts
+use Rattle.channel_c.specs.contracts.handle.Handle as Handle
+
+abbrev pub E : Bx
+E = record { row = Open.the_row; laws = held.the_row_laws; al = record { row = Heap.the_row; laws = heap.the_row_laws; g = ghosts; d = dict; drops = impl [] tnil dnil } }
+
+abbrev pub FromParts : Slot 0
+FromParts = plain (λ _. Parts.the_row Open.the_row Heap.the_row ghosts)
+
+abbrev pub FromHandle : Slot 0
+FromHandle = plain (λ _. Handle.the_row)
+
+abbrev pub Alone : Slot 0
+Alone = plain (λ _. Heap.the_row)
+
+abbrev pub Parts_row : RattleType
+Parts_row = Parts.the_row Open.the_row Heap.the_row ghosts

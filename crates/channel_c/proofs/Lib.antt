@@ -1,0 +1,7 @@
+pub mod AsBox
+pub mod CodeLemmas
+pub mod EndLemmas
+pub mod FetchLemmas
+pub mod HandleSteps
+pub mod PutLemmas
+pub mod StepLemmas
