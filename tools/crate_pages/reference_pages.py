@@ -59,7 +59,7 @@ def parts_of(root):
         if line.startswith(PART):
             part = line.removeprefix(PART).strip()
         elif line.strip() and not line.startswith("#"):
-            parts.setdefault(part, []).append(line.partition(":")[0].strip())
+            parts.setdefault(part, []).append(line.partition(":")[0].split()[0])
     return dict(sorted(parts.items(), key=lambda it: it[0] == TESTS))
 
 

@@ -6,7 +6,7 @@ from dataclasses import dataclass, field
 from tools.proving.functions import HIDDEN, end_of_block, plain
 
 HEAD = re.compile(
-    r"(?P<public>pub(?P<limit>\s*\([^)]*\))?\s+)?(?:(?:const|unsafe)\s+(?=(?:unsafe\s+)?fn\b))*"
+    r"(?P<public>pub(?P<limit>\s*\([^)]*\))?\s+)?(?:(?:const|unsafe|extern)\s+(?=(?:unsafe\s+|extern\s+)*fn\b))*"
     r"(?P<kind>fn|struct|enum|union|trait|impl|mod|use|type|const|static|ghost|macro_rules)\b!?\s*(?P<name>\w+)?"
 )  # fmt: skip
 CLAUSE = re.compile(r"\s*(?P<kind>requires|ensures|ghost)\b\s*(?P<name>\w+)?\s*[:=]?\s*(?=\{)")

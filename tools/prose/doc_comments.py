@@ -34,8 +34,8 @@ Addresses Always As Budgets Bytes Causes Checks' Classes Codes Columns Constants
 Its Items Less Limits Lines Messages Minislots Modems Names Numbers Operators Others Outputs Parts Plus Ranks Receipts Replies Responses Rows Sets
 Slices Spans Steps Subtypes This Thus Ticks Timers Us Values Words Yes
 """.split())
-DESCRIBED = re.compile(r"^\s*(?:pub(?:\([a-z]+\))? )?(?:const )?(?:unsafe )?(?:fn|struct|enum|trait|type) ")
-FUNCTION = re.compile(r"^\s*(?P<public>pub(?:\([a-z]+\))? )?(?:const )?(?:unsafe )?fn (?P<name>\w+)")
+DESCRIBED = re.compile(r"^\s*(?:pub(?:\([a-z]+\))? )?(?:const )?(?:unsafe )?(?:extern \S+ )?(?:fn|struct|enum|trait|type) ")
+FUNCTION = re.compile(r"^\s*(?P<public>pub(?:\([a-z]+\))? )?(?:const )?(?:unsafe )?(?:extern \S+ )?fn (?P<name>\w+)")
 ATTRIBUTE = re.compile(r"^\s*#!?\[")
 
 

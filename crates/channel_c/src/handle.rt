@@ -26,7 +26,7 @@ impl Model for Handle {
 }
 
 impl Handle {
-    /// Returns a closed handle.
+    /// Returns a handle that is closed.
     fn closed(alloc: Global) -> Handle
         ensures { result.home ≡ None }
     {
