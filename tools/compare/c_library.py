@@ -2,6 +2,7 @@
 
 import ctypes
 import pathlib
+import re
 import shutil
 import subprocess
 
@@ -52,6 +53,12 @@ class Grant(ctypes.Structure):
     """Minislots granted to a SID, or a grant pending."""
 
     _fields_ = (("sid", ctypes.c_uint16), ("iuc", ctypes.c_uint16), ("start", ctypes.c_uint16), ("length", ctypes.c_uint16))
+
+
+def names_of_codes():
+    """Returns the names that the header gives to the numbers that a call returns."""
+    numbers = re.search(r"enum melfjits_code \{(.*?)\};", (HEADER / "melfjits.h").read_text(), re.DOTALL)[1]
+    return {int(number): name for name, number in re.findall(r"MELFJITS_(\w+) = (\d+)", numbers)}
 
 
 def libraries():

@@ -7,7 +7,8 @@ import tempfile
 import unittest
 
 from tools import EXAMPLES, ROOT
-from tools.compare.c_library import DONE, HEADER, NONE_WAITS, SHORT, Channel, Grant, Handle, Modem, Output, Slice, build_program, build_shared, is_built
+from tools.compare import c_library
+from tools.compare.c_library import DONE, HEADER, NONE_WAITS, SHORT, Channel, Grant, Handle, Modem, Output, Slice, names_of_codes
 from tools.reference.answers import reference_answer
 from tools.reference.plant import read_plant
 
@@ -17,16 +18,16 @@ FIRST = bytes.fromhex("0F0001180A010200010601060F0102")
 FIRST_REPLY = "10000100180E0102000102040000010103020101"
 SCRIPTS = ("two_operators", "one_operator_alone", "other_slices", "unsolicited_grants/run", "deletions/run", "silent_causes/run", "polling/run",
            "best_effort/run", "resend_and_give_up/run", "refusals/run", "provisioned_flows/run", "class_names/run")
-NOT_BUILT = "the library for C is not built, by `rt lib` in crates/channel_c: nothing was tested"
+NOT_BUILT = "the library for C is not built (tools/ci/build_channel_c): nothing was tested"
 
 
-@unittest.skipUnless(is_built(), NOT_BUILT)
+@unittest.skipUnless(c_library.is_built(), NOT_BUILT)
 class LibraryForC(unittest.TestCase):
     @classmethod
     def setUpClass(cls):
         folder = tempfile.TemporaryDirectory()
         cls.addClassCleanup(folder.cleanup)
-        cls.folder, cls.library = folder.name, build_shared(folder.name)
+        cls.folder, cls.library = folder.name, c_library.build_shared(folder.name)
 
     def opened(self, text=P2):
         channel = Channel(self.library)
@@ -36,7 +37,7 @@ class LibraryForC(unittest.TestCase):
         return channel
 
     def test_a_c_program_prints_the_first_reply(self):
-        program = build_program(HEADER / "first_reply.c", self.folder)
+        program = c_library.build_program(HEADER / "first_reply.c", self.folder)
         done = subprocess.run([program, EXAMPLES / "plant_p2.toml"], capture_output=True, text=True, check=True)
         self.assertEqual(done.stdout, f"{FIRST_REPLY}\n")
         if shutil.which("valgrind") is None:
@@ -83,24 +84,26 @@ class LibraryForC(unittest.TestCase):
         self.assertEqual((code, head.kind, head.granted), (SHORT, 3, 1))
         self.assertEqual(channel.lines(), ["F A 0 0/6/8/32"])
 
-    def test_numbers_of_faults(self):
-        channel = self.opened()
-        self.assertEqual([channel.arrive("020000000009", b""), channel.request("020000000009", 1, 1), channel.at("tick", 2), channel.at("collect", 0)],
-                         [20, 20, 21, 23])
-        self.assertEqual([channel.reslice(1, []), channel.reslice(0, [(8, 32, 32), (40, 32, 32)]), channel.reslice(1, [(8, 0, 0), (40, 32, 32)]),
-                          channel.reslice(1, [(8, 33, 32), (40, 32, 32)]), channel.reslice(1, [(8, 32, 33), (40, 32, 32)])], [30, 31, 33, 34, 35])
-        self.assertEqual((channel.reslice(1, [(8, 32, 32), (40, 32, 32)]), channel.reslice(2, [(8, 32, 32), (40, 32, 32)])), (DONE, 32))
+    def test_faults_have_the_numbers_of_the_header(self):
+        channel, names = self.opened(), names_of_codes()
+        codes = [channel.arrive("020000000009", b""), channel.request("020000000009", 1, 1), channel.at("tick", 2), channel.at("collect", 0)]
+        self.assertEqual([names[code] for code in codes], ["UNKNOWN_MODEM", "UNKNOWN_MODEM", "UNKNOWN_OPERATOR", "NOTHING_TO_COLLECT"])
+        for name, start, rows in (("ROW_COUNT", 1, []), ("NOT_PAST", 0, [(8, 32, 32), (40, 32, 32)]), ("OFF_FRAME", 1, [(8, 0, 0), (40, 32, 32)]),
+                                  ("NEW_SLICES_OVERLAP", 1, [(8, 33, 32), (40, 32, 32)]), ("BUDGET_OVER_SLICE", 1, [(8, 32, 33), (40, 32, 32)]),
+                                  ("DONE", 1, [(8, 32, 32), (40, 32, 32)]), ("UNFINISHED", 2, [(8, 32, 32), (40, 32, 32)])):
+            self.assertEqual(names[channel.reslice(start, rows)], name)
         self.assertEqual(channel.lines(), [])
-        for number, text in ((10, b"\xff"), (10, b"= "), (11, b""), (12, P2.replace(b"= 72", b"= 0")), (13, P2.replace(b"[40, 32]", b"[39, 32]")),
-                             (16, P2.replace(b"0003", b"0001")), (18, P2.replace(b"budget = 32", b"budget = 33"))):
-            self.assertEqual(channel.open(text), number, text)
+        for name, text in (("NOT_TOML", b"\xff"), ("NOT_TOML", b"= "), ("MISSING_KEY", b""), ("BAD_VALUE", P2.replace(b"= 72", b"= 0")),
+                           ("SLICES_OVERLAP", P2.replace(b"[40, 32]", b"[39, 32]")), ("MODEM_TWICE", P2.replace(b"0003", b"0001")),
+                           ("PLANT_BUDGET_OVER_SLICE", P2.replace(b"budget = 32", b"budget = 33"))):
+            self.assertEqual(names[channel.open(text)], name, text)
         self.assertEqual(channel.at("tick", 0), DONE)
 
     def test_closed_handles(self):
         channel = Channel(self.library)
         calls = (channel.close, lambda: channel.arrive(A1, FIRST), lambda: channel.request(A1, 257, 1), lambda: channel.at("work", 0),
                  lambda: channel.at("tick", 0), lambda: channel.at("collect", 0), lambda: channel.reslice(1, []), lambda: channel.fetch()[0])
-        self.assertEqual([call() for call in calls], [2] * len(calls))
+        self.assertEqual([names_of_codes()[call()] for call in calls], ["CLOSED"] * len(calls))
         self.assertEqual(channel.call("open", None, ctypes.c_size_t(0)), 11)
         self.assertEqual([channel.open(P2), channel.open(P2), channel.close(), channel.close()], [DONE, DONE, DONE, 2])
         self.assertEqual([call() for call in calls], [2] * len(calls))
@@ -111,7 +114,7 @@ class LibraryForC(unittest.TestCase):
         offsets = [f'printf("%zu\\n", offsetof(melfjits_{name}, {field[0]}));' for name, made in types.items() for field in made._fields_]
         source = ROOT / self.folder / "sizes.c"
         source.write_text('#include "melfjits.h"\n#include <stdio.h>\nint main(void) {\n' + "\n".join(sizes + offsets) + "\n}\n")
-        done = subprocess.run([build_program(source, self.folder)], capture_output=True, text=True, check=True)
+        done = subprocess.run([c_library.build_program(source, self.folder)], capture_output=True, text=True, check=True)
         expected = [ctypes.sizeof(made) for made in types.values()] + [getattr(made, field[0]).offset for made in types.values() for field in made._fields_]
         self.assertEqual([int(line) for line in done.stdout.split()], expected)
 
