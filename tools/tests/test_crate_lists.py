@@ -14,7 +14,7 @@ trials: low
 low:
 # Part: High ones
 middle: low toml
-high: low middle
+high staticlib: std_heap low middle
 """
 PAGE = """# Page
 
@@ -81,7 +81,7 @@ class Lists(unittest.TestCase):
         page.write_text(PAGE.format("crates"))
         self.run_tool()
         text = page.read_text()
-        (self.root / "crates.txt").write_text(CRATES.replace("high: low", "highest: low"))
+        (self.root / "crates.txt").write_text(CRATES.replace("high static", "highest static"))
         status, output = self.run_tool("--check")
         self.assertEqual(status, 1)
         self.assertIn(", [high](reference/high.md)\n+- High ones: [middle](reference/middle.md), [highest](reference/highest.md)\n", output)
@@ -89,7 +89,7 @@ class Lists(unittest.TestCase):
 
     def test_a_moved_dependency(self):
         self.written("graph")
-        (self.root / "crates.txt").write_text(CRATES.replace("high: low middle", "high: low"))
+        (self.root / "crates.txt").write_text(CRATES.replace("high staticlib: std_heap low middle", "high: low"))
         self.assertEqual(self.run_tool("--check")[0], 1)
 
     def test_faults(self):

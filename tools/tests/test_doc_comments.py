@@ -54,6 +54,11 @@ class Comments(unittest.TestCase):
     def test_a_public_function_without_a_comment_is_found(self):
         self.assertEqual(self.findings(GOOD.replace("/// Returns the number of the value.\n", "")), (["missing"], 1))
 
+    def test_a_function_for_c_is_a_function(self):
+        text = GOOD.replace("pub fn number", 'pub extern "C" fn number')
+        self.assertEqual(self.findings(text), ([], 0))
+        self.assertEqual(self.findings(text.replace("/// Returns the number of the value.\n", "")), (["missing"], 1))
+
     def test_attributes_stand_between_a_comment_and_its_function(self):
         text = GOOD.replace("pub fn number", "#[inline]\npub fn number")
         self.assertEqual(self.findings(text), ([], 0))

@@ -9,6 +9,7 @@ import unittest
 
 from tools import ROOT
 from tools.crate_pages import reference_pages as TOOL
+from tools.crate_pages.source_items import read_items
 from tools.prose.checks import findings_of
 
 LONG = "result ≡ " + " + ".join(["number"] * 12)
@@ -18,7 +19,7 @@ trials: low
 # Part: Low ones
 low:
 # Part: High ones
-high: low toml
+high staticlib: low toml
 """
 SOURCES = {
     "trials/src/lib.rt": "//! Tests of the lowest crate.\n\n#[cfg(test)]\nmod inputs;\n",
@@ -362,6 +363,13 @@ class Items(Pages):
         self.assertEqual(self.run_tool(), (1, "reference_pages: crates/low/src/laws.rt: a block has no end\n"))
 
 
+class Functions(unittest.TestCase):
+    def test_a_function_for_c(self):
+        head = 'pub extern "C" fn open(text: &[u8]) -> u32'
+        items = read_items("src/lib.rt", f"/// Opens it.\n#[unsafe(no_mangle)]\n{head} {{\n    0\n}}\n")
+        self.assertEqual([(item.kind, item.name, item.signature, item.is_public) for item in items], [("fn", "open", head, True)])
+
+
 class Definitions(Pages):
     def test_definitions(self):
         self.assertEqual(self.below("low", "### [`Rules.antt`](../../crates/low/specs/Rules.antt)"), "\n".join((
@@ -425,7 +433,7 @@ class Check(Pages):
         self.assertEqual(self.run_tool("--check"), (1, "docs/reference/high.md is not there; tools/reference_pages writes it\n"))
 
     def test_a_page_of_a_crate_that_is_gone(self):
-        (self.root / "crates.txt").write_text(CRATES.replace("high: low toml\n", ""))
+        (self.root / "crates.txt").write_text(CRATES.replace("high staticlib: low toml\n", ""))
         self.assertEqual(self.run_tool("--check"), (1, "\n".join((
             f"docs/reference/README.md differs from the sources in line {self.index_line('## High ones')}; tools/reference_pages writes it anew",
             "docs/reference/high.md is a page of no crate; tools/reference_pages removes it\n",
