@@ -226,4 +226,5 @@ def is_noticed(test, old, new):
 
 class Edits(unittest.TestCase):
     def test_each_edit_is_noticed(self):
-        self.assertEqual([edit for edit in EDITS if not is_noticed(*edit)], [])
+        """A machine with other work may wake a program just at a look, so each edit has three tries."""
+        self.assertEqual([edit for edit in EDITS if not any(is_noticed(*edit) for _try in range(3))], [])
