@@ -3,41 +3,18 @@
 tools/ci/package_trial tries it with real users and channels.
 """
 
-import os
-import pathlib
-import subprocess
-import tempfile
 import unittest
 
 from tools import ROOT
+from tools.tests.group_script import GroupScript
 
 SCRIPT = ROOT / "packaging/channel_group"
 UNITS = ("plant@{}.socket", "plant-bridge@{}.socket", "plant@{}.service", "plant-bridge@{}.service", "plant-ticker@{}.service", "plant-metrics@{}.service",
          "plant-renumber@{}.service")
-SECONDS = 10
 
 
-class Groups(unittest.TestCase):
-    def setUp(self):
-        folder = tempfile.TemporaryDirectory()
-        self.addCleanup(folder.cleanup)
-        self.folder = pathlib.Path(folder.name)
-        (self.folder / "bin").mkdir()
-        self.command("getent", '[ -e "$PLACE/group.$2" ]')
-        self.command("groupadd", 'echo "$*" >>"$PLACE/added"; touch "$PLACE/group.$3"')
-        self.command("systemctl", 'echo "$*" >>"$PLACE/systemctl"')
-
-    def command(self, name, text):
-        path = self.folder / "bin" / name
-        path.write_text(f"#!/bin/sh\n{text}\n")
-        path.chmod(0o755)
-
-    def run_script(self, *words):
-        environment = {"PATH": f"{self.folder}/bin:{os.environ['PATH']}", "PLACE": str(self.folder), "UNITS": str(self.folder / "units")}
-        return subprocess.run([SCRIPT, *words], env=environment, capture_output=True, text=True, timeout=SECONDS, check=False)
-
-    def drop_ins(self):
-        return {str(path.relative_to(self.folder / "units")): path.read_text() for path in (self.folder / "units").rglob("*") if path.is_file()}
+class Groups(GroupScript, unittest.TestCase):
+    script = SCRIPT
 
     def wanted(self, channel, group):
         texts = {unit: "[Socket]\nSocketGroup" if unit.endswith(".socket") else "[Service]\nGroup" for unit in UNITS}

@@ -27,7 +27,8 @@ pub record StepEnds (code : ℕ) (step : Step) (old new : OpenChannel) : Type 0 
 
 -- what a modem sent is put into the inbox of its operator, which then handles the first of its inbox
 abbrev pub IsReceived : Modem → Heard → OpenChannel → OpenChannel → Type 0
-IsReceived modem heard old new = (op : ℕ) × (holder (view_of old).plant.rows modem ≡ Some op) × GoesOnTwice (steps.Arrive modem heard) (steps.Work op) old new
+IsReceived modem heard old new =
+    (op : ℕ) × (holder (view_of old).plant.rows modem ≡ Some op) × GoesOnTwice (steps.Arrive modem heard) (steps.Work op) old new
 
 -- 0: both steps are performed. 5: what was sent is in the inbox, and memory ran out before it was handled. Any other number: nothing
 -- changes, and it is that of the first step's fault, or 1
