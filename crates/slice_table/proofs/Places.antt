@@ -39,6 +39,19 @@ lists_added old new place before ms there added q =
     ap (is_some {T = ℕ}) (added q) ∙ some_or (place_of old q) place (is_listed q ms)
     ∙ ap (λ (b : Bool). b || is_listed q ms) (there q) ∙ sym (listed_append q before ms)
 
+some_cond : (b : Bool) (place : ℕ) (o : Option ℕ) → is_some (cond b (Some place) o) ≡ (is_some o || b)
+some_cond true place None = refl
+some_cond true place (Some n) = refl
+some_cond false place None = refl
+some_cond false place (Some n) = refl
+
+-- one more modem, whether or not it was there
+pub lists_one : (old new : Places) (place : ℕ) (ms : List Modem) (m : Modem) → Lists old ms
+    → ((q : Modem) → place_of new q ≡ cond (same_modem m q) (Some place) (place_of old q)) → Lists new (ms ++ m ∷ [])
+lists_one old new place ms m there updated q =
+    ap (is_some {T = ℕ}) (updated q) ∙ some_cond (same_modem m q) place (place_of old q)
+    ∙ ap (λ (b : Bool). b || same_modem m q) (there q) ∙ sym (listed_push q ms m)
+
 -- an address that is new is passed
 pub again_more : (before ms : List Modem) (i : ℕ) (d : Modem) → i < length ms → is_listed (get_or ms i d) (before ++ take i ms) ≡ false
     → first_again (before ++ take (i + 1) ms) (drop (i + 1) ms) ≡ first_again (before ++ take i ms) (drop i ms)

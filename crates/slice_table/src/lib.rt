@@ -5,6 +5,7 @@ mod checks;
 mod fits;
 mod key_laws;
 mod laws;
+mod own_modems;
 mod plant_fault;
 mod plant_key;
 mod ranges;

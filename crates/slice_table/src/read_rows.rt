@@ -12,6 +12,7 @@ ghost use Rattle.slice_table.specs.Ranges.{range_of};
 ghost use Rattle.plant.specs.Name.{is_operator_name};
 ghost use Rattle.slice_table.specs.ReadRows.{is_called, name_at, fits_frame, slice_at, is_range, range_at, aged_at, policy_named, policy_at, modem_read, modems_at, own_modem_at, has_sets, HaveSets, provision_at, provision_read, provisions_in, provisions_if, row_at, row_read, rows_of};
 
+use crate::own_modems::OwnModems;
 use crate::plant_fault::PlantFault;
 use crate::plant_key::{Field, Key, Place};
 use crate::ranges::range_of;
@@ -22,9 +23,7 @@ use crate::tree::{
 use admission::IdRange;
 use dsx_messages::Modem;
 use grant_policy::Policy;
-use plant::{
-    Consts, Modems, OperatorName, OperatorRow, Provision, Provisions, RowFields, is_listed,
-};
+use plant::{Consts, Modems, OperatorName, OperatorRow, Provision, Provisions, RowFields};
 use slice_scheduler::Slice;
 use std::alloc::Global;
 use tlv24::Bytes;
@@ -162,11 +161,11 @@ fn modems_at(alloc: Global, table: &Table, place: Place) -> Result<Modems, Plant
 
 /// Returns the modem of a flow: one of the operator's.
 #[tactic(auto, unfolding(crate::specs::ReadRows::own_modem_at))]
-fn own_modem_at(modems: &Modems, table: &Table, place: Place) -> Result<Modem, PlantFault>
+fn own_modem_at(modems: &OwnModems, table: &Table, place: Place) -> Result<Modem, PlantFault>
     ensures { result ≡ own_modem_at modems.now place (table_view table.now) }
 {
     let modem = modem_at(table, place, Field::Modem)?;
-    if is_listed(modem, modems.as_slice()) {
+    if modems.contains(modem) {
         Ok(modem)
     } else {
         Err(place.wrong(Field::Modem))
@@ -191,7 +190,7 @@ fn has_sets(consts: &Consts, flows: &[Provision], provision: &Provision) -> bool
 fn provision_at(
     alloc: Global,
     consts: &Consts,
-    modems: &Modems,
+    modems: &OwnModems,
     flows: &[Provision],
     table: &Table,
     place: Place,
@@ -215,7 +214,7 @@ fn provision_read(
     alloc: Global,
     consts: &Consts,
     operator: usize,
-    modems: &Modems,
+    modems: &OwnModems,
     flows: &[Provision],
     value: &Value,
 ) -> Result<Provision, PlantFault>
@@ -233,7 +232,7 @@ fn provisions_each(
     alloc: Global,
     consts: &Consts,
     operator: usize,
-    modems: &Modems,
+    modems: &OwnModems,
     values: &[Value],
 ) -> Result<Vec<Provision>, PlantFault>
     ensures { Gives plant_cause (λ provisions. provisions.items) result
@@ -259,7 +258,11 @@ fn provisions_in(
     ensures { Gives plant_cause (λ provisions. provisions) result (provisions_in consts.now operator modems.now (view value.now)) }
 {
     let values = array_of(value, Key::Entry(Place::Operator(operator), Field::Flow))?;
-    Ok(Provisions::from_vec(provisions_each(alloc, consts, operator, modems, values)?))
+    if values.is_empty() {
+        return Ok(Provisions::from_vec(Vec::new(alloc)));
+    }
+    let own = OwnModems::new(alloc, modems)?;
+    Ok(Provisions::from_vec(provisions_each(alloc, consts, operator, &own, values)?))
 }
 
 /// Returns the provisioned flows of an operator.
