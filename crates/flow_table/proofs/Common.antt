@@ -4,7 +4,7 @@ pub use Rattle.admission.specs.Free.{Numbers, least_free_of, IsLeastFree}
 pub use Rattle.admission.specs.Ledger.{LedgerView, total_minislots, total_elements}
 pub use Rattle.flow_table.specs.Flow.{activity_of, committed_of, flow_after_ack, taken_back, with_pending, without_pending}
 pub use Rattle.flow_table.specs.Gap.{gap_from}
-pub use Rattle.flow_table.specs.Index.{flows_of, active_of, with_activity, IsFlowRows, IsIndex, IsFlowTable, sfid_at, with_sid_of, without_sid_of, budgets_of}
+pub use Rattle.flow_table.specs.Index.{flow_in, flows_by, flows_of, active_by, is_active, place_at, with_activity, ArePlaced, IsFlowRows, IsChangedAt, IsIndex, IsFlowTable, sfid_at, with_sid_of, without_sid_of, budgets_of}
 pub use Rattle.flow_table.specs.Moved.{change_at, told_of, change_if, asker_of, scheduled_if}
 pub use Rattle.flow_table.specs.Table.{flow_at, with_flow, HaveOwnSids, flow_with, sid_if, is_sid, sids_of, committed_minislots, committed_elements, FlowTable, HasRoomFor, flowing_in, flowing_of_set, sfids_of}
 pub use Rattle.flow_table.specs.declared.flow.Activity.{Activity}

@@ -6,5 +6,4 @@ pub mod StandLemmas
 pub mod MovedLemmas
 pub mod GapLemmas
 pub mod UsedLemmas
-pub mod ActiveLemmas
-pub mod BoxedLemmas
+pub mod PlacedLemmas

@@ -1,10 +1,11 @@
 -- What the flows of one operator keep inside: the index by SID, and the rows of the ledger (implementation-specific).
-use Rattle.std.specs.Prelude.{◌≡◌, ℕ, ◌≤◌, ◌↔◌, cond, List, length, map, filter, is_some, Option, Some, None}
+use Rattle.std.specs.Prelude.{◌≡◌, ◌≢◌, ℕ, ◌≤◌, ◌↔◌, Bool, false, cond, List, length, map, filter, filter_map, is_some, IsSome, Option, Some, None, option_map}
 use Rattle.std.specs.Global.{Box}
 use Rattle.std.specs.List.Sorted.{IsStrictlySortedBy}
 use Rattle.std.specs.Ordering.{nat_cmp}
 use Rattle.std.specs.Map.{keys_of, lookup, remove_entry}
 use Rattle.std.specs.BTreeMap.{is_at, insert_entry}
+use Rattle.slab.specs.Slab.{Slab, get}
 use Rattle.admission.specs.declared.budget.Budget.{Budget}
 use Rattle.admission.specs.Ledger.{LedgerView}
 use Rattle.param_sets.specs.Units.{UnitSizes}
@@ -14,24 +15,56 @@ use Rattle.flow_table.specs.declared.flow.Flow.{Flow}
 use Rattle.flow_table.specs.Flow.{committed_of}
 use Rattle.flow_table.specs.Table.{flow_at, sid_if, is_sid}
 
--- the flows in the boxes, each under its SFID
-abbrev pub flows_of : List (ℕ × Box Flow) → List (ℕ × Flow)
-flows_of boxed = map (λ entry. (entry.0, entry.1.value)) boxed
+-- the flow at a place
+abbrev pub flow_in : Slab (Box Flow) → ℕ → Option Flow
+flow_in rows place = option_map (λ boxed. boxed.value) (get rows place)
 
--- a row for each flow that has an active set: its SFID alone
-abbrev pub active_of : List (ℕ × Flow) → List (ℕ × Unit {0})
-active_of flows = map (λ entry. (entry.0, tt)) (filter (λ entry. is_some entry.1.sets.active) flows)
+-- the place of the flow of an SFID
+abbrev pub place_at : ℕ → List (ℕ × ℕ) → Option ℕ
+place_at sfid places = lookup (is_at (nat_cmp sfid)) places
 
--- the rows with one for this SFID, or without it
-abbrev pub with_activity : ℕ → Activity → List (ℕ × Unit {0}) → List (ℕ × Unit {0})
-with_activity sfid Idle rows = remove_entry (is_at (nat_cmp sfid)) rows
-with_activity sfid Active rows = insert_entry nat_cmp rows sfid tt
+-- the places with this one for an SFID, unless it had one
+abbrev pub with_place : ℕ → ℕ → Option ℕ → List (ℕ × ℕ) → List (ℕ × ℕ)
+with_place sfid place None places = insert_entry nat_cmp places sfid place
+with_place sfid place (Some had) places = places
 
--- the flows ascend by SFID, the rows of those with an active set are theirs, and there is room for a row of each flow
-pub record IsFlowRows (flows : List (ℕ × Flow)) (active : List (ℕ × Unit {0})) (room : ℕ) : Type 0 where
-  pub ascending : IsStrictlySortedBy nat_cmp (keys_of flows)
-  pub rows : active ≡ active_of flows
-  pub room_for_each : length flows ≤ room
+-- the flows at their places, each under its SFID
+abbrev pub flows_by : (ℕ → Option Flow) → List (ℕ × ℕ) → List (ℕ × Flow)
+flows_by at places = filter_map (λ entry. option_map (λ flow. (entry.0, flow)) (at entry.1)) places
+
+abbrev pub flows_of : Slab (Box Flow) → List (ℕ × ℕ) → List (ℕ × Flow)
+flows_of rows places = flows_by (flow_in rows) places
+
+-- there is a flow with an active set
+abbrev pub is_active : Option Flow → Bool
+is_active None = false
+is_active (Some flow) = is_some flow.sets.active
+
+-- the SFID and the place of each flow that has an active set
+abbrev pub active_by : (ℕ → Option Flow) → List (ℕ × ℕ) → List (ℕ × ℕ)
+active_by at places = filter (λ entry. is_active (at entry.1)) places
+
+-- the places with this one for this SFID, or without one
+abbrev pub with_activity : ℕ → ℕ → Activity → List (ℕ × ℕ) → List (ℕ × ℕ)
+with_activity sfid place Idle rows = remove_entry (is_at (nat_cmp sfid)) rows
+with_activity sfid place Active rows = insert_entry nat_cmp rows sfid place
+
+-- the places ascend by SFID, and each has a flow and is of one SFID alone
+pub record ArePlaced (at : ℕ → Option Flow) (places : List (ℕ × ℕ)) : Type 0 where
+  pub ascending : IsStrictlySortedBy nat_cmp (keys_of places)
+  pub there : (sfid place : ℕ) → place_at sfid places ≡ Some place → IsSome (at place)
+  pub own : (a b place : ℕ) → place_at a places ≡ Some place → place_at b places ≡ Some place → a ≡ b
+
+-- the flows are placed, the rows of those with an active set are theirs, and there is room for a row of each flow
+pub record IsFlowRows (at : ℕ → Option Flow) (places active : List (ℕ × ℕ)) (room : ℕ) : Type 0 where
+  pub placed : ArePlaced at places
+  pub rows : active ≡ active_by at places
+  pub room_for_each : length places ≤ room
+
+-- the flow at one place is changed so, and no other
+pub record IsChangedAt (place : ℕ) (change : Flow → Flow) (old new : ℕ → Option Flow) : Type 0 where
+  pub here : new place ≡ option_map change (old place)
+  pub others : (other : ℕ) → other ≢ place → new other ≡ old other
 
 -- the row of each flow: its SFID, and what it has committed
 abbrev pub budgets_of : UnitSizes → List (ℕ × Flow) → List (ℕ × Budget)

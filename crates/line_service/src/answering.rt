@@ -87,7 +87,8 @@ fn run_steps_in<R: Ranks, W: Write, N: StepNotes<W>>(
 /// left, the next one is refused, or it is not refused and an allocation for it or for its note failed. A step that is not done has
 /// changed nothing, and those before it remain done. An error is one of the writer's; then no clause says how much was done.
 ///
-/// A tick of the operator at a place for which there is a ranking is ranked by it, and any other by the policy of the row.
+/// A tick of the operator at a place for which there is a ranking is ranked by it, and any other by the policy of the row. The
+/// caller knows that each step of a line has the place of the operator whose modem it names, as a step that was read has.
 pub fn run_steps_by<R: Ranks, W: Write, N: StepNotes<W>>(
     alloc: Global,
     core: &mut LiveCore,
@@ -109,7 +110,8 @@ pub fn run_steps_by<R: Ranks, W: Write, N: StepNotes<W>>(
     Ok(end)
 }
 
-/// Does steps as `run_steps_by` does, each tick ranked by the policy of the operator's row.
+/// Does steps as `run_steps_by` does, each tick ranked by the policy of the operator's row. The steps have their operators'
+/// places, as there.
 pub fn run_steps<W: Write, N: StepNotes<W>>(
     alloc: Global,
     core: &mut LiveCore,
