@@ -65,7 +65,16 @@ enum melfjits_code {
     MELFJITS_OFF_FRAME = 33,
     MELFJITS_NEW_SLICES_OVERLAP = 34,
     MELFJITS_BUDGET_OVER_SLICE = 35,
-    MELFJITS_UNFIT = 36
+    MELFJITS_UNFIT = 36,
+
+    /* why a channel is not saved, or its plant is not changed or does not start in saved states */
+    MELFJITS_FRAME_WAITS = 40,      /* a frame of an operator is not collected yet */
+    MELFJITS_NOT_AT_FRAME = 41,     /* an operator is before another frame than the first one */
+    MELFJITS_CONSTANTS_DIFFER = 42, /* what all operators share would change */
+    MELFJITS_STATE_REFUSED = 43,    /* an operator's state does not fit its row of the plant file */
+    MELFJITS_NOT_TOGETHER = 44,     /* the operators' frames or slices do not go together */
+    MELFJITS_NOT_A_SNAPSHOT = 45,
+    MELFJITS_UNKNOWN_NAME = 46      /* the plant file has no operator of a saved name */
 };
 
 /* The hardware address of a cable modem. */
@@ -104,6 +113,19 @@ typedef struct melfjits_grant {
 
 /* Opens the channel of a plant file, which is UTF-8. What the handle held is freed if that is done. */
 uint32_t melfjits_open(melfjits_channel *channel, const uint8_t *text, size_t length);
+
+/* Opens a channel that was saved, from the text that melfjits_save wrote. It goes on before the frame
+ * of its snapshot, and no output waits. */
+uint32_t melfjits_open_saved(melfjits_channel *channel, const uint8_t *text, size_t length);
+
+/* Writes a snapshot with its plant file at the beginning of a buffer, and how long it is. If it does
+ * not fit, how long it is alone: MELFJITS_SHORT. The channel has to rest before a frame: each
+ * operator ticked as often, and each frame is collected. Outputs that wait are not saved. */
+uint32_t melfjits_save(melfjits_channel *channel, uint8_t *bytes, size_t size, size_t *length);
+
+/* Puts another plant file in force between two frames. Each operator goes on in its state, by its
+ * name; outputs that wait go on waiting. The channel has to rest as for melfjits_save. */
+uint32_t melfjits_change(melfjits_channel *channel, const uint8_t *text, size_t length);
 
 /* Frees what the handle holds, and closes it. MELFJITS_CLOSED if it was closed already. */
 uint32_t melfjits_close(melfjits_channel *channel);

@@ -101,6 +101,20 @@ class Channel:
         """Opens the channel of a plant file's bytes."""
         return self.call("open", text, ctypes.c_size_t(len(text)))
 
+    def open_saved(self, text):
+        """Opens the channel of a snapshot's bytes."""
+        return self.call("open_saved", text, ctypes.c_size_t(len(text)))
+
+    def save(self, size=65_536):
+        """Saves the channel into a buffer of this size. Returns the number of the call, and what was written or how long it is."""
+        buffer, length = (ctypes.c_uint8 * size)(), ctypes.c_size_t()
+        code = self.call("save", buffer, ctypes.c_size_t(size), ctypes.byref(length))
+        return code, bytes(buffer[: length.value]) if code == DONE else length.value
+
+    def change(self, text):
+        """Puts the plant file of these bytes in force."""
+        return self.call("change", text, ctypes.c_size_t(len(text)))
+
     def close(self):
         """Closes the channel."""
         return self.call("close")

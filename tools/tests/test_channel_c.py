@@ -99,10 +99,51 @@ class LibraryForC(unittest.TestCase):
             self.assertEqual(names[channel.open(text)], name, text)
         self.assertEqual(channel.at("tick", 0), DONE)
 
+    def test_a_saved_channel_goes_on_as_it_would_have(self):
+        first = [f"M {A1} {FIRST.hex()}", f"M {A1} 11000100", f"Q {A1} 257 5", "T"]
+        later = [f"M {A1} 150002000000000101", f"Q {A1} 257 3", "T", "T"]
+        going_on, opened = self.opened(), self.opened()
+        for line in first:
+            self.assertEqual(going_on.perform(line), DONE)
+        self.assertEqual(going_on.lines()[-1][:6], "MAP 0 ")
+        code, saved = going_on.save()
+        self.assertEqual((code, saved[:20], P2 in saved), (DONE, b"melfjits-snapshot 1 ", True))
+        self.assertEqual(opened.open_saved(saved), DONE)
+        for line in later:
+            self.assertEqual((going_on.perform(line), opened.perform(line)), (DONE, DONE))
+        answers = opened.lines()
+        self.assertEqual((len(answers) > 4, going_on.lines()), (True, answers))
+
+    def test_a_channel_is_saved_at_rest_into_a_buffer_that_is_long_enough(self):
+        channel, names = self.opened(), names_of_codes()
+        code, saved = channel.save()
+        self.assertEqual((code, channel.save(len(saved) - 1), channel.save(len(saved))), (DONE, (SHORT, len(saved)), (DONE, saved)))
+        self.assertEqual(channel.at("tick", 0), DONE)
+        self.assertEqual(names[channel.save()[0]], "FRAME_WAITS")
+        self.assertEqual((channel.at("collect", 0), names[channel.save()[0]]), (DONE, "NOT_AT_FRAME"))
+        self.assertEqual(names[channel.change(P2)], "NOT_AT_FRAME")
+        for text, name in ((saved[1:], "NOT_A_SNAPSHOT"), (saved[:-1], "NOT_A_SNAPSHOT"), (P2, "NOT_A_SNAPSHOT")):
+            self.assertEqual(names[channel.open_saved(text)], name)
+        self.assertEqual(channel.lines()[0][:4], "F A ")
+
+    def test_a_plant_that_is_changed_keeps_the_flows(self):
+        channel, names = self.opened(), names_of_codes()
+        for line in (f"M {A1} {FIRST.hex()}", f"M {A1} 11000100", "T"):
+            self.assertEqual(channel.perform(line), DONE)
+        self.assertEqual(names[channel.change(P2.replace(b"head = 8", b"head = 7"))], "CONSTANTS_DIFFER")
+        self.assertEqual(names[channel.change(b"= ")], "NOT_TOML")
+        wider = P2.replace(b"budget = 32", b"budget = 30", 1)
+        self.assertEqual(channel.change(wider), DONE)
+        self.assertEqual(wider in channel.save()[1], True)
+        for line in (f"Q {A1} 257 5", "T"):
+            self.assertEqual(channel.perform(line), DONE)
+        self.assertIn("F A 1 257/5/8/5 0/6/13/27", channel.lines())
+
     def test_closed_handles(self):
         channel = Channel(self.library)
         calls = (channel.close, lambda: channel.arrive(A1, FIRST), lambda: channel.request(A1, 257, 1), lambda: channel.at("work", 0),
-                 lambda: channel.at("tick", 0), lambda: channel.at("collect", 0), lambda: channel.reslice(1, []), lambda: channel.fetch()[0])
+                 lambda: channel.at("tick", 0), lambda: channel.at("collect", 0), lambda: channel.reslice(1, []), lambda: channel.fetch()[0],
+                 lambda: channel.save()[0], lambda: channel.change(P2))
         self.assertEqual([names_of_codes()[call()] for call in calls], ["CLOSED"] * len(calls))
         self.assertEqual(channel.call("open", None, ctypes.c_size_t(0)), 11)
         self.assertEqual([channel.open(P2), channel.open(P2), channel.close(), channel.close()], [DONE, DONE, DONE, 2])

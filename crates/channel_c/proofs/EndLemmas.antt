@@ -62,6 +62,7 @@ kept_on step old mid new goes same = record {
   waiting_is = same.waiting_is ∙ goes.waiting_is;
   does = subst (λ (v : CoreView). Performs (Steps step) (view_of old) v goes.told) (sym same.view_is) goes.does;
   leads = subst (λ (v : CoreView). LeadsOnFromStart (view_of old) (step ∷ []) goes.told v) (sym same.view_is) goes.leads;
+  text_is = same.text_is ∙ goes.text_is;
 }
 
 pub arrival_kept : (modem : Modem) (heard : Heard) (old mid new : OpenChannel) → GoesOn (steps.Arrive modem heard) old mid → IsSame mid new → ArrivalEnds 5 modem heard old new
@@ -85,7 +86,7 @@ pub arrival_unknown : (modem : Modem) (heard : Heard) (channel : OpenChannel) �
 arrival_unknown modem heard channel none = record {
   done = λ zero. absurd (eqb-false 20 0 refl zero);
   received = λ five. absurd (eqb-false 20 5 refl five);
-  same = λ _ _. record { view_is = refl; waiting_is = refl };
+  same = λ _ _. record { view_is = refl; waiting_is = refl; text_is = refl };
   fault = inr (subst (λ (f : Option CoreFault). IsStepCode 20 f) (sym (ap (λ (o : Option ℕ). arrive_fault (view_of channel) (steps.Arrive modem heard) o) none)) refl);
 }
 
@@ -95,4 +96,4 @@ pub or_this : (code : ℕ) (holds : OpenChannel → OpenChannel → Type 0) (old
 or_this code holds old new done = inr done
 
 pub or_memory : (holds : OpenChannel → OpenChannel → Type 0) (channel : OpenChannel) → OrNoMemory 1 holds channel channel
-or_memory holds channel = inl (refl, record { view_is = refl; waiting_is = refl })
+or_memory holds channel = inl (refl, record { view_is = refl; waiting_is = refl; text_is = refl })

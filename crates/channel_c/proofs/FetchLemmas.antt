@@ -11,7 +11,7 @@ use Rattle.channel_c.specs.declared.head.OutputHead.{OutputHead}
 use Rattle.channel_c.specs.declared.grants.Grant.{Grant}
 use Rattle.channel_c.specs.Output.{head_of, bytes_of, grants_of, Fits}
 use Rattle.channel_c.specs.Fetched.{FetchEnds}
-use Rattle.channel_c.specs.Waiting.{view_of, waiting_of, IsSame}
+use Rattle.channel_c.specs.Waiting.{view_of, text_of, waiting_of, IsSame}
 
 first_of : (xs : List Out) (i : ℕ) (x : Out) → slice_get xs i ≡ Some x → drop i xs ≡ x ∷ drop (i + 1) xs
 first_of xs i x is =
@@ -24,7 +24,7 @@ fetch_none head bytes grants channel all = record {
   fetched = λ zero. absurd (eqb-false 4 0 refl zero);
   too_long = λ three. absurd (eqb-false 4 3 refl three);
   none_waits = λ _. drop_all channel.fetched channel.outs.items all;
-  same = λ _. record { view_is = refl; waiting_is = refl };
+  same = λ _. record { view_is = refl; waiting_is = refl; text_is = refl };
   codes = inr (inr refl);
 }
 
@@ -34,17 +34,18 @@ fetch_short out bytes bytes' grants grants' channel is long = record {
   fetched = λ zero. absurd (eqb-false 3 0 refl zero);
   too_long = λ _. record { out = out; rest = drop (channel.fetched + 1) channel.outs.items; waiting_is = first_of channel.outs.items channel.fetched out is; head_is = refl; not_fitting = long };
   none_waits = λ four. absurd (eqb-false 3 4 refl four);
-  same = λ _. record { view_is = refl; waiting_is = refl };
+  same = λ _. record { view_is = refl; waiting_is = refl; text_is = refl };
   codes = inr (inl refl);
 }
 
-pub fetch_done : (out : Out) (bytes bytes' : List ℕ) (grants grants' : List Grant) (old new : OpenChannel) → slice_get old.outs.items old.fetched ≡ Some out → new.core ≡ old.core → new.outs.items ≡ old.outs.items
+pub fetch_done : (out : Out) (bytes bytes' : List ℕ) (grants grants' : List Grant) (old new : OpenChannel) → slice_get old.outs.items old.fetched ≡ Some out → new.core ≡ old.core → text_of new ≡ text_of old → new.outs.items ≡ old.outs.items
     → new.fetched ≡ old.fetched + 1 → take (length (bytes_of out)) bytes' ≡ bytes_of out → take (length (grants_of out)) grants' ≡ grants_of out → FetchEnds 0 (head_of out) bytes bytes' grants grants' old new
-fetch_done out bytes bytes' grants grants' old new is core outs more its_bytes its_grants = record {
+fetch_done out bytes bytes' grants grants' old new is core text outs more its_bytes its_grants = record {
   fetched = λ _. record {
     out = out;
     waiting_is = first_of old.outs.items old.fetched out is ∙ ap (λ (os : List Out). out ∷ os) (sym (ap₂ (λ (n : ℕ) (os : List Out). drop n os) more outs));
     view_is = ap live_view core;
+    text_is = text;
     head_is = refl;
     bytes_are = its_bytes;
     grants_are = its_grants;

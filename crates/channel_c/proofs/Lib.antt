@@ -5,3 +5,4 @@ pub mod FetchLemmas
 pub mod HandleSteps
 pub mod PutLemmas
 pub mod StepLemmas
+pub mod SavedLemmas

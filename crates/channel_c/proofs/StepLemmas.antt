@@ -22,40 +22,42 @@ use Rattle.live_core.specs.Performing.{Performs}
 use Rattle.live_core.proofs.GoLemmas.{after_more}
 use Rattle.channel_c.specs.declared.channel.OpenChannel.{OpenChannel}
 use Rattle.channel_c.specs.PlantText.{plant_said}
-use Rattle.channel_c.specs.Waiting.{view_of, waiting_of, IsOpenedFrom, IsSame, GoesOn}
+use Rattle.channel_c.specs.Waiting.{view_of, text_of, waiting_of, IsOpenedFrom, IsSame, GoesOn}
 
-goes : (step : Step) (old new : OpenChannel) (told : List Out) → IsPlant (view_of old).plant → waiting_of new ≡ waiting_of old ++ told → Performs (Steps step) (view_of old) (view_of new) told → GoesOn step old new
-goes step old new told valid waits does = record {
+goes : (step : Step) (old new : OpenChannel) (told : List Out) → IsPlant (view_of old).plant → text_of new ≡ text_of old → waiting_of new ≡ waiting_of old ++ told → Performs (Steps step) (view_of old) (view_of new) told → GoesOn step old new
+goes step old new told valid text waits does = record {
   told = told;
   waiting_is = waits;
   does = does;
   leads = λ start before shown after. after_more (view_of old).plant start before shown step (view_of old) (view_of new) told valid does after;
+  text_is = text;
 }
 
 -- none waited, and the outputs of the step are all that wait
-pub goes_over : (step : Step) (old new : OpenChannel) → IsPlant (view_of old).plant → old.fetched ≡ length old.outs.items → new.fetched ≡ 0 → Performs (Steps step) (view_of old) (view_of new) new.outs.items → GoesOn step old new
-goes_over step old new valid all none does =
-    goes step old new new.outs.items valid
+pub goes_over : (step : Step) (old new : OpenChannel) → IsPlant (view_of old).plant → text_of new ≡ text_of old → old.fetched ≡ length old.outs.items → new.fetched ≡ 0 → Performs (Steps step) (view_of old) (view_of new) new.outs.items → GoesOn step old new
+goes_over step old new valid text all none does =
+    goes step old new new.outs.items valid text
     (ap (λ (n : ℕ). drop n new.outs.items) none ∙ sym (ap (λ (ws : List Out). ws ++ new.outs.items) (drop_all old.fetched old.outs.items (omega (arith, all))))) does
 
 -- some waited, and the outputs of the step are after them
-pub goes_after : (step : Step) (old new : OpenChannel) (now : List Out) → IsPlant (view_of old).plant → old.fetched ≤ length old.outs.items → new.fetched ≡ old.fetched → new.outs.items ≡ old.outs.items ++ now
+pub goes_after : (step : Step) (old new : OpenChannel) (now : List Out) → IsPlant (view_of old).plant → text_of new ≡ text_of old → old.fetched ≤ length old.outs.items → new.fetched ≡ old.fetched → new.outs.items ≡ old.outs.items ++ now
     → Performs (Steps step) (view_of old) (view_of new) now → GoesOn step old new
-goes_after step old new now valid within same is does =
-    goes step old new now valid (ap₂ (λ (n : ℕ) (os : List Out). drop n os) same is ∙ drop-append-le old.fetched old.outs.items now within) does
+goes_after step old new now valid text within same is does =
+    goes step old new now valid text (ap₂ (λ (n : ℕ) (os : List Out). drop n os) same is ∙ drop-append-le old.fetched old.outs.items now within) does
 
 -- none waited, and none waits
-pub same_over : (old new : OpenChannel) → view_of new ≡ view_of old → old.fetched ≡ length old.outs.items → new.fetched ≡ 0 → new.outs.items ≡ [] → IsSame old new
-same_over old new view all none is = record {
+pub same_over : (old new : OpenChannel) → view_of new ≡ view_of old → text_of new ≡ text_of old → old.fetched ≡ length old.outs.items → new.fetched ≡ 0 → new.outs.items ≡ [] → IsSame old new
+same_over old new view text all none is = record {
   view_is = view;
   waiting_is = ap₂ (λ (n : ℕ) (os : List Out). drop n os) none is ∙ sym (drop_all old.fetched old.outs.items (omega (arith, all)));
+  text_is = text;
 }
 
-pub same_after : (old new : OpenChannel) → view_of new ≡ view_of old → new.fetched ≡ old.fetched → new.outs.items ≡ old.outs.items → IsSame old new
-same_after old new view same is = record { view_is = view; waiting_is = ap₂ (λ (n : ℕ) (os : List Out). drop n os) same is }
+pub same_after : (old new : OpenChannel) → view_of new ≡ view_of old → text_of new ≡ text_of old → new.fetched ≡ old.fetched → new.outs.items ≡ old.outs.items → IsSame old new
+same_after old new view text same is = record { view_is = view; waiting_is = ap₂ (λ (n : ℕ) (os : List Out). drop n os) same is; text_is = text }
 
-pub opened_from : (text : List ℕ) (channel : OpenChannel) (plant : PlantFields) → plant_said text ≡ Ok plant → view_of channel ≡ opened_core plant → IsAfter plant [] [] (view_of channel) → waiting_of channel ≡ [] → IsOpenedFrom text channel
-opened_from text channel plant said view after waits = record { plant = plant; plant_is = said; view_is = view; after = after; none_waits = waits }
+pub opened_from : (text : List ℕ) (channel : OpenChannel) (plant : PlantFields) → plant_said text ≡ Ok plant → view_of channel ≡ opened_core plant → IsAfter plant [] [] (view_of channel) → waiting_of channel ≡ [] → text_of channel ≡ text → IsOpenedFrom text channel
+opened_from text channel plant said view after waits is = record { plant = plant; plant_is = said; view_is = view; after = after; none_waits = waits; text_is = is }
 
 abbrev plant_in : CoreView → PlantResult PlantFields
 plant_in view = Ok view.plant

@@ -10,6 +10,18 @@ use Rattle.live_core.specs.declared.core_fault.ResliceFault.{ResliceFault}
 use Rattle.live_core.specs.declared.core_fault.ResliceFault.TheVariants as reslices
 use Rattle.live_core.specs.declared.core_fault.CoreFault.{CoreFault}
 use Rattle.live_core.specs.declared.core_fault.CoreFault.TheVariants as cores
+use Rattle.live_core.specs.declared.rest_fault.RestFault.{RestFault}
+use Rattle.live_core.specs.declared.rest_fault.RestFault.TheVariants as rests
+use Rattle.snapshot_format.specs.declared.fault.SnapshotFault.{SnapshotFault}
+use Rattle.snapshot_format.specs.declared.fault.SnapshotFault.TheVariants as snapshots
+use Rattle.plant_restart.specs.declared.fault.SaveFault.{SaveFault}
+use Rattle.plant_restart.specs.declared.fault.SaveFault.TheVariants as saves
+use Rattle.plant_restart.specs.declared.fault.RestartFault.{RestartFault}
+use Rattle.plant_restart.specs.declared.fault.RestartFault.TheVariants as restarts
+use Rattle.plant_restart.specs.declared.fault.ChangeFault.{ChangeFault}
+use Rattle.plant_restart.specs.declared.fault.ChangeFault.TheVariants as changes
+use Rattle.plant_restart.specs.declared.fault.RestoreFault.{RestoreFault}
+use Rattle.plant_restart.specs.declared.fault.RestoreFault.TheVariants as restores
 
 -- 10 to 19: why a plant file is refused, in the order in which its faults are reported
 abbrev pub plant_code : PlantFault → ℕ
@@ -45,6 +57,37 @@ core_code (cores.Book fault) = 24
 core_code (cores.Gather fault) = 25
 core_code cores.NoMemory = 1
 core_code (cores.Reslice fault) = reslice_code fault
+
+-- 40 and 41: why a channel does not rest before a frame
+abbrev pub rest_code : RestFault → ℕ
+rest_code (rests.FrameWaits op) = 40
+rest_code (rests.NotAtFrame op) = 41
+
+abbrev pub save_code : SaveFault → ℕ
+save_code (saves.Unfinished why) = rest_code why
+save_code saves.NoMemory = 1
+
+-- 43 and 44: why operators do not start in their states
+abbrev pub restart_code : RestartFault → ℕ
+restart_code (restarts.State op why) = 43
+restart_code (restarts.Core why) = 44
+restart_code restarts.NoMemory = 1
+
+-- 42: what all operators share would change
+abbrev pub change_code : ChangeFault → ℕ
+change_code changes.ConstantsDiffer = 42
+change_code (changes.Unfinished why) = rest_code why
+change_code (changes.Restart why) = restart_code why
+
+-- 45: the text is not a snapshot
+abbrev pub snapshot_code : SnapshotFault → ℕ
+snapshot_code snapshots.NoMemory = 1
+snapshot_code (snapshots.Line number wrong) = 45
+
+-- 46: the plant has no operator of a name that the snapshot has
+abbrev pub restore_code : RestoreFault → ℕ
+restore_code (restores.UnknownOperator name) = 46
+restore_code (restores.Restart why) = restart_code why
 
 -- the number of an opening: 0 only where the text says a plant; out of memory says nothing of the text
 abbrev pub IsOpenCode : ℕ → PlantResult PlantFields → Type 0

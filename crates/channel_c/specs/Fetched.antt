@@ -5,13 +5,14 @@ use Rattle.channel_c.specs.declared.channel.OpenChannel.{OpenChannel}
 use Rattle.channel_c.specs.declared.head.OutputHead.{OutputHead}
 use Rattle.channel_c.specs.declared.grants.Grant.{Grant}
 use Rattle.channel_c.specs.Output.{head_of, bytes_of, grants_of, Fits}
-use Rattle.channel_c.specs.Waiting.{view_of, waiting_of, IsSame}
+use Rattle.channel_c.specs.Waiting.{view_of, text_of, waiting_of, IsSame}
 
 -- The output that waited first is fetched: the head is its own, the buffers begin with its bytes and its grants, and the others wait.
 pub record IsFetched (head : OutputHead) (bytes : List ℕ) (grants : List Grant) (old new : OpenChannel) : Type 0 where
   pub out : Out
   pub waiting_is : waiting_of old ≡ out ∷ waiting_of new
   pub view_is : view_of new ≡ view_of old
+  pub text_is : text_of new ≡ text_of old
   pub head_is : head ≡ head_of out
   pub bytes_are : take (length (bytes_of out)) bytes ≡ bytes_of out
   pub grants_are : take (length (grants_of out)) grants ≡ grants_of out

@@ -5,4 +5,5 @@ pub mod Grants
 pub mod Held
 pub mod Output
 pub mod PlantText
+pub mod Saved
 pub mod Waiting

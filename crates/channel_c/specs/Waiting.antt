@@ -12,6 +12,10 @@ use Rattle.live_core.specs.Performing.{Performs}
 use Rattle.channel_c.specs.declared.channel.OpenChannel.{OpenChannel}
 use Rattle.channel_c.specs.PlantText.{plant_said}
 
+-- the text of the plant file in force
+abbrev pub text_of : OpenChannel → List ℕ
+text_of channel = channel.text
+
 abbrev pub view_of : OpenChannel → CoreView
 view_of channel = live_view channel.core
 
@@ -26,11 +30,13 @@ pub record IsOpenedFrom (text : List ℕ) (channel : OpenChannel) : Type 0 where
   pub view_is : view_of channel ≡ opened_core plant
   pub after : IsAfter plant [] [] (view_of channel)
   pub none_waits : waiting_of channel ≡ []
+  pub text_is : text_of channel ≡ text
 
--- neither the core nor the outputs that wait are changed
+-- neither the core nor the outputs that wait nor the plant file are changed
 pub record IsSame (old new : OpenChannel) : Type 0 where
   pub view_is : view_of new ≡ view_of old
   pub waiting_is : waiting_of new ≡ waiting_of old
+  pub text_is : text_of new ≡ text_of old
 
 -- the step is performed, and its outputs wait after those that waited before; after whatever run led to the old core, that step more
 -- leads to the new one
@@ -39,6 +45,7 @@ pub record GoesOn (step : Step) (old new : OpenChannel) : Type 0 where
   pub waiting_is : waiting_of new ≡ waiting_of old ++ told
   pub does : Performs (Steps step) (view_of old) (view_of new) told
   pub leads : LeadsOnFromStart (view_of old) (step ∷ []) told (view_of new)
+  pub text_is : text_of new ≡ text_of old
 
 -- the one step is performed, and then the other
 abbrev pub GoesOnTwice : Step → Step → OpenChannel → OpenChannel → Type 0

@@ -1,10 +1,11 @@
 //! The numbers by which calls say how they ended.
 
 ghost use Rattle.std.specs.Prelude.{◌≡◌};
-ghost use Rattle.channel_c.specs.Codes.{plant_code, reslice_code, core_code};
+ghost use Rattle.channel_c.specs.Codes.{change_code, core_code, plant_code, reslice_code, rest_code, restart_code, restore_code, save_code};
 
-use live_core::{CoreFault, ResliceFault};
+use live_core::{CoreFault, ResliceFault, RestFault};
 use operator_book::BookFault;
+use plant_restart::{ChangeFault, RestartFault, RestoreFault, SaveFault};
 use slice_table::PlantFault;
 
 /// The call did what it was asked for.
@@ -24,6 +25,9 @@ pub const NONE_WAITS: u32 = 4;
 
 /// A message is in the inbox, and memory ran out before it was handled.
 pub const RECEIVED: u32 = 5;
+
+/// The text is not a snapshot.
+pub const NOT_SNAPSHOT: u32 = 45;
 
 /// Returns the number of a fault of a plant file: 10 to 19, or 1 if memory ran out.
 pub fn plant_code(fault: PlantFault) -> u32
@@ -72,5 +76,60 @@ pub fn code_of(fault: CoreFault) -> u32
         CoreFault::Gather(_) => 25,
         CoreFault::NoMemory => NO_MEMORY,
         CoreFault::Reslice(fault) => reslice_code(fault),
+    }
+}
+
+/// Returns the number by which a channel does not rest before a frame: 40 or 41.
+fn rest_code(fault: RestFault) -> u32
+    ensures { result ≡ rest_code fault }
+{
+    match fault {
+        RestFault::FrameWaits { op: _ } => 40,
+        RestFault::NotAtFrame { op: _ } => 41,
+    }
+}
+
+/// Returns the number by which operators do not start in their states: 43 or 44, or 1 if memory ran
+/// out.
+fn restart_code(fault: RestartFault) -> u32
+    ensures { result ≡ restart_code fault }
+{
+    match fault {
+        RestartFault::State { op: _, why: _ } => 43,
+        RestartFault::Core { why: _ } => 44,
+        RestartFault::NoMemory => NO_MEMORY,
+    }
+}
+
+/// Returns the number by which a channel is not saved: 40 or 41, or 1 if memory ran out.
+pub fn save_code(fault: SaveFault) -> u32
+    ensures { result ≡ save_code fault }
+{
+    match fault {
+        SaveFault::Unfinished { why } => rest_code(why),
+        SaveFault::NoMemory => NO_MEMORY,
+    }
+}
+
+/// Returns the number by which the plant of a channel is not changed: 40 to 44, or 1 if memory ran
+/// out.
+pub fn change_code(fault: ChangeFault) -> u32
+    ensures { result ≡ change_code fault }
+{
+    match fault {
+        ChangeFault::ConstantsDiffer => 42,
+        ChangeFault::Unfinished { why } => rest_code(why),
+        ChangeFault::Restart { why } => restart_code(why),
+    }
+}
+
+/// Returns the number by which a plant does not start in saved states: 43, 44 or 46, or 1 if memory
+/// ran out.
+pub fn restore_code(fault: RestoreFault) -> u32
+    ensures { result ≡ restore_code fault }
+{
+    match fault {
+        RestoreFault::UnknownOperator { name: _ } => 46,
+        RestoreFault::Restart { why } => restart_code(why),
     }
 }

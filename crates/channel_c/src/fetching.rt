@@ -9,9 +9,9 @@ use crate::head::{OutputHead, head_of};
 use crate::putting::put_output;
 
 impl OpenChannel {
-    #[tactic(auto, using(crate::proofs::FetchLemmas::fetch_none, crate::proofs::FetchLemmas::fetch_short, crate::proofs::FetchLemmas::fetch_done))]
     /// Fetches the output that waits first: its head, and its bytes and grants into the buffers. If
     /// they do not fit, the head says how long they are, and the output waits on.
+    #[tactic(auto, using(crate::proofs::FetchLemmas::fetch_none, crate::proofs::FetchLemmas::fetch_short, crate::proofs::FetchLemmas::fetch_done))]
     pub fn fetch(&mut self, head: &mut OutputHead, bytes: &mut [u8], grants: &mut [Grant]) -> u32
         ensures { FetchEnds result head.new bytes.old bytes.new grants.old grants.new self.old self.new }
     {

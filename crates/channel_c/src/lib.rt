@@ -9,7 +9,8 @@ ghost use Rattle.channel_c.specs.Answers.{InHandle, StepEnds, ArrivalEnds, OrNoM
 ghost use Rattle.channel_c.specs.Codes.{IsOpenCode};
 ghost use Rattle.channel_c.specs.Fetched.{FetchEnds};
 ghost use Rattle.channel_c.specs.PlantText.{plant_said};
-ghost use Rattle.channel_c.specs.Waiting.{IsOpenedFrom};
+ghost use Rattle.channel_c.specs.Saved.{ChangeEnds, IsReopenCode, IsReopenedFrom, SaveEnds};
+ghost use Rattle.channel_c.specs.Waiting.{IsOpenedFrom, IsSame};
 
 mod channel;
 mod codes;
@@ -20,6 +21,8 @@ mod head;
 mod parts;
 mod performing;
 mod putting;
+mod reopening;
+mod saving;
 mod slices;
 
 use channel::OpenChannel;
@@ -40,6 +43,23 @@ pub struct Address {
     pub bytes: [u8; 6],
 }
 
+/// Puts a channel into a handle, in place of what it held. Returns 0, or 1 if memory runs out; then
+/// the handle is as it was.
+fn install(alloc: Global, handle: &mut Handle, channel: OpenChannel) -> u32
+    ensures done { result ≡ 0 → handle.new.home ≡ Some channel }
+    ensures same { result ≢ 0 → handle.new.home ≡ handle.old.home }
+    ensures codes { result ≢ 0 → result ≡ 1 }
+{
+    match Box::new(alloc, channel) {
+        Ok(channel) => {
+            drop(handle.take(alloc));
+            handle.put(channel);
+            DONE
+        }
+        Err(_) => NO_MEMORY,
+    }
+}
+
 /// Opens the channel of a plant file. What the handle held before is freed. Returns 0, 1 if memory
 /// runs out, or the number of the file's first fault, 10 to 19; then the handle is as it was.
 #[tactic(auto, using(crate::proofs::CodeLemmas::plant_more, crate::proofs::CodeLemmas::open_without_memory, crate::proofs::CodeLemmas::open_done, crate::proofs::CodeLemmas::open_refused))]
@@ -53,13 +73,23 @@ pub extern "C" fn melfjits_open(alloc: Global, handle: &mut Handle, text: &[u8])
         Ok(channel) => channel,
         Err(fault) => return plant_code(fault),
     };
-    match Box::new(alloc, channel) {
-        Ok(channel) => {
-            drop(handle.take(alloc));
-            handle.put(channel);
-            DONE
-        }
-        Err(_) => NO_MEMORY,
+    install(alloc, handle, channel)
+}
+
+/// Opens a channel that was saved: it goes on before the frame of its snapshot, and no output
+/// waits. What the handle held before is freed. Returns 0, 1 if memory runs out, or the number of
+/// what is wrong: with the plant file in the snapshot 10 to 19, with the states 43 to 46. Then the
+/// handle is as it was.
+#[tactic(auto, using(crate::proofs::SavedLemmas::reopen_memory, crate::proofs::SavedLemmas::reopen_done))]
+#[unsafe(no_mangle)]
+pub extern "C" fn melfjits_open_saved(alloc: Global, handle: &mut Handle, text: &[u8]) -> u32
+    ensures opened { result ≡ 0 → (channel : OpenChannel) × (handle.new.home ≡ Some channel) × IsReopenedFrom text.now channel }
+    ensures same { result ≢ 0 → handle.new.home ≡ handle.old.home }
+    ensures fault { IsReopenCode result text.now }
+{
+    match OpenChannel::reopen(alloc, text) {
+        Ok(channel) => install(alloc, handle, channel),
+        Err(code) => code,
     }
 }
 
@@ -79,8 +109,8 @@ pub extern "C" fn melfjits_close(alloc: Global, handle: &mut Handle) -> u32
     }
 }
 
-#[tactic(auto, using(crate::proofs::EndLemmas::in_open, crate::proofs::EndLemmas::in_closed))]
 /// Performs a step in the channel of a handle.
+#[tactic(auto, using(crate::proofs::EndLemmas::in_open, crate::proofs::EndLemmas::in_closed))]
 fn perform(alloc: Global, handle: &mut Handle, step: Step) -> u32
     ensures { InHandle result (StepEnds result step) handle.old.home handle.new.home }
 {
@@ -95,8 +125,8 @@ fn perform(alloc: Global, handle: &mut Handle, step: Step) -> u32
     }
 }
 
-#[tactic(auto, using(crate::proofs::EndLemmas::in_open, crate::proofs::EndLemmas::in_closed))]
 /// Puts what a modem sent into the channel of a handle.
+#[tactic(auto, using(crate::proofs::EndLemmas::in_open, crate::proofs::EndLemmas::in_closed))]
 fn receive(alloc: Global, handle: &mut Handle, modem: Modem, heard: Heard) -> u32
     ensures { InHandle result (ArrivalEnds result modem heard) handle.old.home handle.new.home }
 {
@@ -154,9 +184,9 @@ pub extern "C" fn melfjits_collect(alloc: Global, handle: &mut Handle, operator:
     perform(alloc, handle, Step::Collect { op: operator })
 }
 
-#[tactic(auto, using(crate::proofs::EndLemmas::in_open, crate::proofs::EndLemmas::in_closed))]
 /// Puts a message of a modem into the inbox of its operator, which handles the first of its inbox
 /// (CM-SP-MULPIv3.1, 6.4.12 to 6.4.19). The message is one byte of message type and the payload.
+#[tactic(auto, using(crate::proofs::EndLemmas::in_open, crate::proofs::EndLemmas::in_closed))]
 #[unsafe(no_mangle)]
 pub extern "C" fn melfjits_arrive(
     alloc: Global,
@@ -180,9 +210,9 @@ pub extern "C" fn melfjits_arrive(
     }
 }
 
-#[tactic(auto, using(crate::proofs::EndLemmas::in_open, crate::proofs::EndLemmas::in_closed))]
 /// Gives each operator another slice and budget from a later frame on: a row for each operator, in
 /// the order of the plant file.
+#[tactic(auto, using(crate::proofs::EndLemmas::in_open, crate::proofs::EndLemmas::in_closed))]
 #[unsafe(no_mangle)]
 pub extern "C" fn melfjits_reslice(
     alloc: Global,
@@ -204,10 +234,10 @@ pub extern "C" fn melfjits_reslice(
     }
 }
 
-#[tactic(auto, using(crate::proofs::EndLemmas::in_open, crate::proofs::EndLemmas::in_closed))]
 /// Fetches the output that waits first. Returns 0, 3 if it does not fit into the buffers, 4 if none
 /// waits, or 2 if the handle is closed. An output that does not fit goes on waiting, and the head
 /// says how long it is.
+#[tactic(auto, using(crate::proofs::EndLemmas::in_open, crate::proofs::EndLemmas::in_closed))]
 #[unsafe(no_mangle)]
 pub extern "C" fn melfjits_next_output(
     alloc: Global,
@@ -223,6 +253,50 @@ pub extern "C" fn melfjits_next_output(
         Some(channel) => {
             let mut channel = channel;
             let code = channel.fetch(head, bytes, grants);
+            handle.put(channel);
+            code
+        }
+        None => CLOSED,
+    }
+}
+
+/// Saves the channel at rest before a frame: writes the text of a snapshot, with its plant file, at
+/// the beginning of a buffer, and its length. Returns 0, 3 if it does not fit, when its length alone
+/// is written, 40 or 41 if the channel does not rest before a frame, 1 if memory runs out, or 2 if
+/// the handle is closed. Outputs that wait are not saved, and go on waiting.
+#[tactic(auto, using(crate::proofs::EndLemmas::in_open, crate::proofs::EndLemmas::in_closed))]
+#[unsafe(no_mangle)]
+pub extern "C" fn melfjits_save(
+    alloc: Global,
+    handle: &mut Handle,
+    bytes: &mut [u8],
+    length: &mut usize,
+) -> u32
+    ensures { InHandle result (λ old new. SaveEnds result length.new bytes.old bytes.new old × IsSame old new)
+        handle.old.home handle.new.home }
+{
+    match handle.take(alloc) {
+        Some(channel) => {
+            let code = channel.save(alloc, bytes, length);
+            handle.put(channel);
+            code
+        }
+        None => CLOSED,
+    }
+}
+
+/// Puts another plant file in force between two frames: each operator goes on in its state, by its
+/// name. Returns 0, 1 if memory runs out, 2 if the handle is closed, the number of the file's first
+/// fault, 10 to 19, or why the plant is not changed, 40 to 44. Outputs that wait go on waiting.
+#[tactic(auto, using(crate::proofs::EndLemmas::in_open, crate::proofs::EndLemmas::in_closed))]
+#[unsafe(no_mangle)]
+pub extern "C" fn melfjits_change(alloc: Global, handle: &mut Handle, text: &[u8]) -> u32
+    ensures { InHandle result (ChangeEnds result text.now) handle.old.home handle.new.home }
+{
+    match handle.take(alloc) {
+        Some(channel) => {
+            let mut channel = channel;
+            let code = channel.change(alloc, text);
             handle.put(channel);
             code
         }

@@ -23,10 +23,10 @@ use std::alloc::Global;
 use std::str;
 use tlv24::Bytes;
 
-#[tactic(auto, using(crate::proofs::StepLemmas::text_gives, crate::proofs::StepLemmas::no_text))]
 /// Returns the plant that the bytes of a plant file say, or their first fault. Bytes that are not
 /// UTF-8 are not TOML.
-fn plant_of_bytes(alloc: Global, text: &[u8]) -> Result<Plant, PlantFault>
+#[tactic(auto, using(crate::proofs::StepLemmas::text_gives, crate::proofs::StepLemmas::no_text))]
+pub fn plant_of_bytes(alloc: Global, text: &[u8]) -> Result<Plant, PlantFault>
     ensures { Gives plant_cause (λ plant. plant) result (plant_said text.now) }
 {
     match str::from_utf8(text) {
@@ -44,9 +44,13 @@ impl OpenChannel {
         ensures fault { Gives plant_cause (λ channel. (view_of channel).plant) result (plant_said text.now) }
     {
         let plant = plant_of_bytes(alloc, text)?;
+        let Ok(text) = Bytes::from_slice(alloc, text) else {
+            return Err(PlantFault::NoMemory);
+        };
         match LiveCore::open(alloc, plant) {
             Ok(core) => Ok(OpenChannel {
                 core,
+                text,
                 outs: Vec::new(alloc),
                 fetched: 0,
             }),
@@ -54,9 +58,9 @@ impl OpenChannel {
         }
     }
 
-    #[tactic(auto, using(crate::proofs::StepLemmas::goes_over, crate::proofs::StepLemmas::goes_after, crate::proofs::StepLemmas::same_over, crate::proofs::StepLemmas::same_after))]
     /// Performs a step. Its outputs wait after those that wait already. If none waits, the memory of
     /// those that were fetched is used again. A refused step changes nothing.
+    #[tactic(auto, using(crate::proofs::StepLemmas::goes_over, crate::proofs::StepLemmas::goes_after, crate::proofs::StepLemmas::same_over, crate::proofs::StepLemmas::same_after))]
     pub fn step(&mut self, alloc: Global, step: Step) -> Result<(), CoreFault>
         ensures done { OnOk result (GoesOn step self.old self.new) }
         ensures same { OnErr result (IsSame self.old self.new) }
@@ -72,8 +76,8 @@ impl OpenChannel {
         self.core.step_into(alloc, step, &mut self.outs)
     }
 
-    #[tactic(auto, using(crate::proofs::EndLemmas::step_done, crate::proofs::EndLemmas::step_refused))]
     /// Performs a step as `step` does, and returns its number.
+    #[tactic(auto, using(crate::proofs::EndLemmas::step_done, crate::proofs::EndLemmas::step_refused))]
     pub fn perform(&mut self, alloc: Global, step: Step) -> u32
         ensures { StepEnds result step self.old self.new }
     {
@@ -83,9 +87,9 @@ impl OpenChannel {
         }
     }
 
-    #[tactic(auto, using(crate::proofs::EndLemmas::arrival_done, crate::proofs::EndLemmas::arrival_kept, crate::proofs::EndLemmas::arrival_refused, crate::proofs::EndLemmas::arrival_unknown))]
     /// Puts what a modem sent into the inbox of its operator, and lets the operator handle the first
     /// of its inbox. Returns the number of the first step's fault, if it is refused.
+    #[tactic(auto, using(crate::proofs::EndLemmas::arrival_done, crate::proofs::EndLemmas::arrival_kept, crate::proofs::EndLemmas::arrival_refused, crate::proofs::EndLemmas::arrival_unknown))]
     pub fn receive(&mut self, alloc: Global, modem: Modem, heard: Heard) -> u32
         ensures { ArrivalEnds result modem heard self.old self.new }
     {
@@ -102,9 +106,9 @@ impl OpenChannel {
         }
     }
 
-    #[tactic(auto, using(crate::proofs::EndLemmas::or_this, crate::proofs::EndLemmas::or_memory))]
     /// Puts a message of a modem into the inbox of its operator, and lets the operator handle the
     /// first of its inbox. A message of at most 30 bytes takes no memory of its own.
+    #[tactic(auto, using(crate::proofs::EndLemmas::or_this, crate::proofs::EndLemmas::or_memory))]
     pub fn receive_message(&mut self, alloc: Global, modem: Modem, message: &[u8]) -> u32
         ensures { OrNoMemory result (ArrivalEnds result modem (heards.Message message.now)) self.old self.new }
     {
@@ -114,8 +118,8 @@ impl OpenChannel {
         }
     }
 
-    #[tactic(auto, using(crate::proofs::EndLemmas::or_this, crate::proofs::EndLemmas::or_memory))]
     /// Gives each operator another slice and budget from a later frame on.
+    #[tactic(auto, using(crate::proofs::EndLemmas::or_this, crate::proofs::EndLemmas::or_memory))]
     pub fn reslice(&mut self, alloc: Global, from: u32, rows: &[SliceBudget]) -> u32
         ensures { OrNoMemory result (StepEnds result (steps.Reslice from (map row_as rows.now))) self.old self.new }
     {

@@ -1,6 +1,6 @@
 //! Writing an output into the caller's buffers.
 
-ghost use Rattle.std.specs.Prelude.{◌≡◌, ◌≤◌, ◌↔◌, ◌+◌, ◌++◌, [], length, map, take, IsTrue};
+ghost use Rattle.std.specs.Prelude.{◌≡◌, ◌≤◌, ◌↔◌, ◌+◌, ◌++◌, [], length, map, take, IsFalse, IsTrue};
 ghost use Rattle.channel_c.specs.Output.{bytes_under, bytes_of, grants_under, grants_of, Fits};
 ghost use Rattle.channel_c.specs.Grants.{granted_as, pending_as};
 
@@ -11,9 +11,10 @@ use slice_scheduler::Elements;
 
 /// Writes bytes at the beginning of a buffer, and returns whether there is room for them. If not,
 /// nothing is written.
-fn put_bytes(bytes: &[u8], room: &mut [u8]) -> bool
+pub fn put_bytes(bytes: &[u8], room: &mut [u8]) -> bool
     ensures fits { IsTrue result ↔ (length bytes.now ≤ length room.old) }
     ensures written { IsTrue result → take (length bytes.now) room.new ≡ bytes.now }
+    ensures same { IsFalse result → room.new ≡ room.old }
 {
     if bytes.len() > room.len() {
         return false;
