@@ -1,9 +1,11 @@
 """Tests the bindings of the library for C: their types, numbers and texts against the header, the Python package, and all on cases."""
 
 import ctypes
+import os
 import re
 import shutil
 import subprocess
+import sys
 import tempfile
 import threading
 import unittest
@@ -190,6 +192,11 @@ class OnTheLibrary(unittest.TestCase):
         with mock.patch.object(channel, "FIRST_BYTES", 0), mock.patch.object(channel, "FIRST_GRANTS", 0):
             self.assertEqual(outputs(), expected)
         self.assertEqual([type(output).__name__ for output in expected], ["Reply", "Frame", "Frame", "Map"])
+
+    def test_the_simulation_finds_no_difference_of_operator_a(self):
+        command = [sys.executable, "-B", EXAMPLES / "simulation/simulate.py", "--library", self.library, "--seconds", "0.5"]
+        done = subprocess.run(command, env={**os.environ, "PYTHONPATH": str(BINDINGS / "python")}, capture_output=True, text=True, check=False)
+        self.assertEqual((done.returncode, done.stderr), (0, ""), done.stdout)
 
     @unittest.skipUnless(shutil.which("g++") and shutil.which("cargo"), "g++ or cargo is not installed: only Python made calls")
     def test_bindings_agree(self):
