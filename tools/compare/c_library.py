@@ -6,53 +6,14 @@ import re
 import shutil
 import subprocess
 
+from bindings.python.melfjits.c_types import Grant, Handle, Modem, Output, Slice
+from bindings.python.melfjits.codes import Cause
 from tools import ROOT
 from tools.proving.prover import kit_folder
 
 ARCHIVE = ROOT / "crates/channel_c/out/libchannel_c.a"
 HEADER = ROOT / "bindings/c"
 DONE, SHORT, NONE_WAITS = 0, 3, 4
-CAUSES = ("InboxFull", "Idle", "Empty", "NotOurs", "Short", "TidInUse", "UnknownAck", "NoSuchSid", "NotRequesting")
-REFUSED = range(20, 40)
-
-
-class Handle(ctypes.Structure):
-    """A handle: closed while all its bytes are 0."""
-
-    _fields_ = (("ptr", ctypes.c_void_p), ("is_open", ctypes.c_bool))
-
-
-class Modem(ctypes.Structure):
-    """The hardware address of a cable modem."""
-
-    _fields_ = (("bytes", ctypes.c_uint8 * 6),)
-
-
-class Slice(ctypes.Structure):
-    """A slice and a budget of an operator."""
-
-    _fields_ = (("start", ctypes.c_uint16), ("length", ctypes.c_uint16), ("budget", ctypes.c_uint16))
-
-
-class Output(ctypes.Structure):
-    """The head of an output."""
-
-    _fields_ = (
-        ("kind", ctypes.c_uint32),
-        ("cause", ctypes.c_uint32),
-        ("operator_at", ctypes.c_size_t),
-        ("frame", ctypes.c_uint32),
-        ("modem", ctypes.c_uint8 * 6),
-        ("length", ctypes.c_size_t),
-        ("granted", ctypes.c_size_t),
-        ("pending", ctypes.c_size_t),
-    )
-
-
-class Grant(ctypes.Structure):
-    """Minislots granted to a SID, or a grant pending."""
-
-    _fields_ = (("sid", ctypes.c_uint16), ("iuc", ctypes.c_uint16), ("start", ctypes.c_uint16), ("length", ctypes.c_uint16))
 
 
 def names_of_codes():
@@ -160,7 +121,7 @@ class Channel:
         if head.kind == 1:
             return f"R {modem} {text}"
         if head.kind == 2:
-            return f"S {modem if any(head.modem) else '-'} {CAUSES[head.cause - 1]}"
+            return f"S {modem if any(head.modem) else '-'} {Cause(head.cause)}"
         if head.kind == 4:
             return f"MAP {head.frame} {text}"
         granted = [f"{grant.sid}/{grant.iuc}/{grant.start}/{grant.length}" for grant in self.grants[: head.granted]]

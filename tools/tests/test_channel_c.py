@@ -6,9 +6,9 @@ import subprocess
 import tempfile
 import unittest
 
-from tools import EXAMPLES, ROOT
+from tools import EXAMPLES
 from tools.compare import c_library
-from tools.compare.c_library import DONE, HEADER, NONE_WAITS, SHORT, Channel, Grant, Handle, Modem, Output, Slice, names_of_codes
+from tools.compare.c_library import DONE, HEADER, NONE_WAITS, SHORT, Channel, names_of_codes
 from tools.reference.answers import reference_answer
 from tools.reference.plant import read_plant
 
@@ -148,16 +148,6 @@ class LibraryForC(unittest.TestCase):
         self.assertEqual(channel.call("open", None, ctypes.c_size_t(0)), 11)
         self.assertEqual([channel.open(P2), channel.open(P2), channel.close(), channel.close()], [DONE, DONE, DONE, 2])
         self.assertEqual([call() for call in calls], [2] * len(calls))
-
-    def test_the_header_has_these_types(self):
-        types = {"channel": Handle, "modem": Modem, "slice": Slice, "output": Output, "grant": Grant}
-        sizes = [f'printf("%zu\\n", sizeof(melfjits_{name}));' for name in types]
-        offsets = [f'printf("%zu\\n", offsetof(melfjits_{name}, {field[0]}));' for name, made in types.items() for field in made._fields_]
-        source = ROOT / self.folder / "sizes.c"
-        source.write_text('#include "melfjits.h"\n#include <stdio.h>\nint main(void) {\n' + "\n".join(sizes + offsets) + "\n}\n")
-        done = subprocess.run([c_library.build_program(source, self.folder)], capture_output=True, text=True, check=True)
-        expected = [ctypes.sizeof(made) for made in types.values()] + [getattr(made, field[0]).offset for made in types.values() for field in made._fields_]
-        self.assertEqual([int(line) for line in done.stdout.split()], expected)
 
 
 if __name__ == "__main__":

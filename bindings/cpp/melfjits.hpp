@@ -1,0 +1,264 @@
+/* Melfjits for C++17: one upstream channel in this process, behind an object that closes it.
+ *
+ * The calls are those of bindings/c/melfjits.h, which has their meaning, and with which libraries a
+ * program is linked. A refused call throws a melfjits::error and changes nothing, except for
+ * melfjits::not_handled. The caller has to ensure this: a channel is used by one call at a time, on
+ * the thread that opened it, and in no signal handler.
+ */
+#ifndef MELFJITS_HPP
+#define MELFJITS_HPP
+
+#include "melfjits.h"
+
+#include <algorithm>
+#include <array>
+#include <cstddef>
+#include <cstdint>
+#include <iterator>
+#include <memory>
+#include <optional>
+#include <stdexcept>
+#include <string_view>
+#include <utility>
+#include <variant>
+#include <vector>
+
+namespace melfjits {
+
+using bytes = std::vector<std::uint8_t>;
+
+/* A slice and a budget of an operator, in minislots of a frame. */
+using slice = melfjits_slice;
+
+/* The hardware address of a cable modem. */
+using address = std::array<std::uint8_t, 6>;
+
+/* Returns what a number that a call returned means. */
+inline const char *text_of(std::uint32_t code) noexcept
+{
+    switch (code) {
+    case MELFJITS_NO_MEMORY: return "out of memory, nothing has changed";
+    case MELFJITS_CLOSED: return "the channel is closed";
+    case MELFJITS_RECEIVED: return "out of memory before the message was handled: it is in the inbox, call work()";
+    case MELFJITS_NOT_TOML: return "the plant file is not TOML";
+    case MELFJITS_MISSING_KEY: return "a required key of the plant file is missing";
+    case MELFJITS_BAD_VALUE: return "a value of the plant file has another type or is out of range";
+    case MELFJITS_SLICES_OVERLAP: return "slices of two operators overlap";
+    case MELFJITS_SIDS_OVERLAP: return "SID ranges of two operators overlap";
+    case MELFJITS_SFIDS_OVERLAP: return "SFID ranges of two operators overlap";
+    case MELFJITS_MODEM_TWICE: return "the address of a modem is listed twice";
+    case MELFJITS_TOO_MANY_ELEMENTS: return "the operators have more elements than a MAP can hold";
+    case MELFJITS_PLANT_BUDGET_OVER_SLICE: return "the budget of an operator is more than its slice";
+    case MELFJITS_PROVISIONED_OVER: return "the provisioned flows of an operator do not fit";
+    case MELFJITS_UNKNOWN_MODEM: return "no operator has this modem";
+    case MELFJITS_UNKNOWN_OPERATOR: return "there is no operator at this place";
+    case MELFJITS_FRAMES_SPENT: return "the last frame number is used";
+    case MELFJITS_NOTHING_TO_COLLECT: return "the operator has no frame that was not collected";
+    case MELFJITS_ROW_COUNT: return "a slice change needs one row for each operator";
+    case MELFJITS_NOT_PAST: return "a slice change has to start at a later frame";
+    case MELFJITS_UNFINISHED: return "an earlier slice change is still pending";
+    case MELFJITS_OFF_FRAME: return "a new slice is empty, or not after the head and within the frame";
+    case MELFJITS_NEW_SLICES_OVERLAP: return "new slices of two operators overlap";
+    case MELFJITS_BUDGET_OVER_SLICE: return "a new budget is more than its slice";
+    case MELFJITS_UNFIT: return "more minislots are committed than a new budget";
+    default: return "the library returned an unknown number";
+    }
+}
+
+/* A call was refused. */
+class error : public std::runtime_error {
+public:
+    explicit error(std::uint32_t code) : std::runtime_error(text_of(code)), code_(code) {}
+
+    /* Returns what the call returned: a number of melfjits_code. */
+    std::uint32_t code() const noexcept { return code_; }
+
+private:
+    std::uint32_t code_;
+};
+
+/* Memory ran out before any effect. The same call can be made again. */
+struct out_of_memory : error { using error::error; };
+
+/* The message is in the inbox, and memory ran out before it was handled. work() handles it. */
+struct not_handled : error { using error::error; };
+
+/* The channel is closed, or was moved away. */
+struct closed_error : error { using error::error; };
+
+/* The plant file is refused. */
+struct plant_error : error { using error::error; };
+
+/* A step is refused. */
+struct step_error : error { using error::error; };
+
+/* A slice change is refused. */
+struct slice_change_error : error { using error::error; };
+
+/* Throws the exception of a number that a call returned, unless it is MELFJITS_DONE. */
+inline void check(std::uint32_t code)
+{
+    switch (code) {
+    case MELFJITS_DONE: return;
+    case MELFJITS_NO_MEMORY: throw out_of_memory(code);
+    case MELFJITS_CLOSED: throw closed_error(code);
+    case MELFJITS_RECEIVED: throw not_handled(code);
+    }
+    switch (code / 10) {
+    case 1: throw plant_error(code);
+    case 2: throw step_error(code);
+    case 3: throw slice_change_error(code);
+    default: throw error(code);
+    }
+}
+
+/* A reply to a modem: a byte of message type, and the payload. */
+struct reply {
+    std::size_t operator_at; /* the operator's place in the plant file, from 0 */
+    address modem;
+    bytes message;
+};
+
+/* Why a message has no reply, or a bandwidth request no effect. */
+struct drop {
+    std::size_t operator_at;
+    std::optional<address> modem;
+    std::uint32_t cause; /* 1 to 9 in the order of docs/FORMATS.md */
+};
+
+/* An operator's part of a frame. */
+struct frame {
+    std::size_t operator_at;
+    std::uint32_t number;
+    std::vector<melfjits_grant> spans; /* the minislots of the slice, idle ones included */
+    std::vector<std::uint16_t> pending; /* the SIDs with a grant pending */
+};
+
+/* The body of the MAP of a frame. */
+struct map {
+    std::uint32_t number;
+    bytes message;
+};
+
+using output = std::variant<reply, drop, frame, map>;
+
+/* One upstream channel. It can be moved and not copied. Its end closes it. */
+class channel {
+public:
+    /* Opens the channel of a plant file, which is UTF-8. Throws plant_error and out_of_memory. */
+    explicit channel(std::string_view plant) : handle_(new melfjits_channel MELFJITS_CLOSED_CHANNEL)
+    {
+        check(melfjits_open(handle_.get(), reinterpret_cast<const std::uint8_t *>(plant.data()), plant.size()));
+    }
+
+    /* Returns whether the channel was neither closed nor moved away. */
+    bool is_open() const noexcept { return handle_ != nullptr; }
+
+    /* Frees the channel before its end. Throws closed_error if it was closed already. */
+    void close()
+    {
+        handle();
+        handle_.reset();
+    }
+
+    /* Receives a message of a modem, a byte of message type and the payload, and handles the first
+     * of the inbox of its operator. Throws step_error if no operator has the modem. */
+    void arrive(const address &modem, const std::uint8_t *message, std::size_t length)
+    {
+        const melfjits_modem made = modem_of(modem);
+        check(melfjits_arrive(handle(), &made, message, length));
+    }
+
+    void arrive(const address &modem, const bytes &message) { arrive(modem, message.data(), message.size()); }
+
+    /* Receives a bandwidth request of a modem, and handles the first of the inbox of its operator. */
+    void request(const address &modem, std::uint16_t sid, std::uint16_t minislots)
+    {
+        const melfjits_modem made = modem_of(modem);
+        check(melfjits_request(handle(), &made, sid, minislots));
+    }
+
+    /* Handles the first of an operator's inbox, after not_handled. */
+    void work(std::size_t operator_at) { check(melfjits_work(handle(), operator_at)); }
+
+    /* Advances an operator's timers by a tick, and schedules its next frame. */
+    void tick(std::size_t operator_at) { check(melfjits_tick(handle(), operator_at)); }
+
+    /* Puts an operator's oldest frame into the assembly; the last part of a frame completes its MAP. */
+    void collect(std::size_t operator_at) { check(melfjits_collect(handle(), operator_at)); }
+
+    /* Gives each operator, in the order of the plant file, another slice and budget from a frame on.
+     * Throws slice_change_error. */
+    void reslice(std::uint32_t from, const std::vector<slice> &rows)
+    {
+        check(melfjits_reslice(handle(), from, rows.data(), rows.size()));
+    }
+
+    /* Fetches the output that waits first, or none if none waits. All memory is allocated before: an
+     * output for which there is none goes on waiting, and std::bad_alloc is thrown. */
+    std::optional<output> next_output()
+    {
+        melfjits_output head;
+        bytes message;
+        std::vector<melfjits_grant> grants;
+        std::vector<std::uint16_t> pending;
+        std::uint32_t code = melfjits_next_output(handle(), &head, nullptr, 0, nullptr, 0);
+        if (code == MELFJITS_SHORT) {
+            message.resize(head.length);
+            grants.resize(head.granted + head.pending);
+            pending.reserve(head.pending);
+            code = melfjits_next_output(handle(), &head, message.data(), message.size(), grants.data(), grants.size());
+        }
+        if (code == MELFJITS_NONE_WAITS)
+            return std::nullopt;
+        check(code);
+        return output_of(head, std::move(message), std::move(grants), std::move(pending));
+    }
+
+private:
+    struct closing {
+        void operator()(melfjits_channel *handle) const noexcept
+        {
+            melfjits_close(handle);
+            delete handle;
+        }
+    };
+
+    melfjits_channel *handle() const
+    {
+        if (!handle_)
+            throw closed_error(MELFJITS_CLOSED);
+        return handle_.get();
+    }
+
+    static melfjits_modem modem_of(const address &modem)
+    {
+        melfjits_modem made;
+        std::copy(modem.begin(), modem.end(), made.bytes);
+        return made;
+    }
+
+    /* Returns the output with this head. It allocates nothing: `pending` has room for what it gets. */
+    static output output_of(const melfjits_output &head, bytes message, std::vector<melfjits_grant> grants,
+                            std::vector<std::uint16_t> pending)
+    {
+        address modem;
+        std::copy(std::begin(head.modem), std::end(head.modem), modem.begin());
+        switch (head.kind) {
+        case MELFJITS_REPLY: return reply{head.operator_at, modem, std::move(message)};
+        case MELFJITS_MAP: return map{head.frame, std::move(message)};
+        case MELFJITS_FRAME:
+            for (std::size_t at = head.granted; at < grants.size(); at++)
+                pending.push_back(grants[at].sid);
+            grants.resize(head.granted);
+            return frame{head.operator_at, head.frame, std::move(grants), std::move(pending)};
+        default: return drop{head.operator_at, modem == address{} ? std::nullopt : std::optional(modem), head.cause};
+        }
+    }
+
+    std::unique_ptr<melfjits_channel, closing> handle_;
+};
+
+} // namespace melfjits
+
+#endif

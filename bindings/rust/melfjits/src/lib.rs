@@ -1,0 +1,11 @@
+//! Melfjits in Rust: one DOCSIS upstream channel in this process, over the library for C.
+//!
+//! [`Channel`] opens the channel of a plant file, performs its steps, and returns their outputs.
+
+mod channel;
+mod error;
+mod output;
+
+pub use channel::{Address, Channel, Slice};
+pub use error::Error;
+pub use output::{Cause, Output, Span};
