@@ -48,9 +48,9 @@ def first_of(place):
     return 1 + place * RANGE
 
 
-def plant_text():
+def plant_text(operators=OPERATORS):
     text = channel_text(4096, 0)
-    for place in range(OPERATORS):
+    for place in range(operators):
         modems = [address(place, modem) for modem in range(MODEMS)]
         identifiers = (first_of(place), first_of(place) + RANGE - 1)
         text += operator_text(f"OP{place + 1}", modems, (place * 128, 128), identifiers, 5, flows=PROVISIONED + 1, transactions=256)

@@ -33,7 +33,7 @@ usr/libexec/plant_script/report_progress usr/libexec/plant_script/channel_group 
 usr/libexec/plant_script/renumber_channel usr/lib/systemd/system/plant-renumber@.service usr/lib/systemd/system/plant-renumber@.timer
 usr/share/plant-script/alerts.yml usr/share/plant-script/dashboard.json usr/share/doc/plant-script/METRICS.md.gz
 usr/lib/systemd/system/plant-bridge@.service usr/lib/systemd/system/plant-bridge@.socket usr/libexec/plant_script/plant_bridge
-usr/share/doc/plant-script/BRIDGE.md.gz
+usr/share/doc/plant-script/BRIDGE.md.gz usr/share/doc/plant-script/STANDBY.md.gz
 usr/bin/describe_state usr/share/man/man1/describe_state.1.gz usr/bin/plant_view usr/share/man/man1/plant_view.1.gz usr/bin/dsx
 usr/share/man/man1/dsx.1.gz usr/lib/plant_script/tools/viewing/page.html""".split()
 # The tools and the examples that are packed are those of the repository.
