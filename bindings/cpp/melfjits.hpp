@@ -18,6 +18,7 @@
 #include <memory>
 #include <optional>
 #include <stdexcept>
+#include <string>
 #include <string_view>
 #include <utility>
 #include <variant>
@@ -61,6 +62,13 @@ inline const char *text_of(std::uint32_t code) noexcept
     case MELFJITS_NEW_SLICES_OVERLAP: return "new slices of two operators overlap";
     case MELFJITS_BUDGET_OVER_SLICE: return "a new budget is more than its slice";
     case MELFJITS_UNFIT: return "more minislots are committed than a new budget";
+    case MELFJITS_FRAME_WAITS: return "a frame of an operator is not collected yet";
+    case MELFJITS_NOT_AT_FRAME: return "an operator is before another frame than the first one";
+    case MELFJITS_CONSTANTS_DIFFER: return "what all operators share would change";
+    case MELFJITS_STATE_REFUSED: return "an operator's state does not fit its row of the plant file";
+    case MELFJITS_NOT_TOGETHER: return "the operators' frames or slices do not go together";
+    case MELFJITS_NOT_A_SNAPSHOT: return "the text is not a snapshot";
+    case MELFJITS_UNKNOWN_NAME: return "the plant file has no operator of a saved name";
     default: return "the library returned an unknown number";
     }
 }
@@ -95,6 +103,9 @@ struct step_error : error { using error::error; };
 /* A slice change is refused. */
 struct slice_change_error : error { using error::error; };
 
+/* A channel is not saved, or its plant is not changed or does not start in saved states. */
+struct state_error : error { using error::error; };
+
 /* Throws the exception of a number that a call returned, unless it is MELFJITS_DONE. */
 inline void check(std::uint32_t code)
 {
@@ -108,6 +119,7 @@ inline void check(std::uint32_t code)
     case 1: throw plant_error(code);
     case 2: throw step_error(code);
     case 3: throw slice_change_error(code);
+    case 4: throw state_error(code);
     default: throw error(code);
     }
 }
@@ -146,9 +158,16 @@ using output = std::variant<reply, drop, frame, map>;
 class channel {
 public:
     /* Opens the channel of a plant file, which is UTF-8. Throws plant_error and out_of_memory. */
-    explicit channel(std::string_view plant) : handle_(new melfjits_channel MELFJITS_CLOSED_CHANNEL)
+    explicit channel(std::string_view plant) : channel() { check(melfjits_open(handle(), octets_of(plant), plant.size())); }
+
+    /* Opens a channel that was saved, from what save() returned. It goes on before the frame of its
+     * snapshot, and no output waits. Throws state_error if that is not a snapshot or its plant does
+     * not start in its states, plant_error if the plant file in it is refused, and out_of_memory. */
+    static channel open_saved(std::string_view snapshot)
     {
-        check(melfjits_open(handle_.get(), reinterpret_cast<const std::uint8_t *>(plant.data()), plant.size()));
+        channel made;
+        check(melfjits_open_saved(made.handle(), octets_of(snapshot), snapshot.size()));
+        return made;
     }
 
     /* Returns whether the channel was neither closed nor moved away. */
@@ -160,6 +179,28 @@ public:
         handle();
         handle_.reset();
     }
+
+    /* Returns a snapshot of the channel, with its plant file, for open_saved(). The channel has to
+     * rest before a frame: each operator ticked as often, and each frame is collected. Outputs that
+     * wait are not saved, and go on waiting. Throws state_error if the channel does not rest. */
+    std::string save()
+    {
+        std::string text;
+        std::size_t length;
+        std::uint32_t code = melfjits_save(handle(), nullptr, 0, &length);
+        if (code == MELFJITS_SHORT) {
+            text.resize(length);
+            code = melfjits_save(handle(), reinterpret_cast<std::uint8_t *>(text.data()), text.size(), &length);
+        }
+        check(code);
+        return text;
+    }
+
+    /* Puts another plant file in force between two frames. Each operator goes on in its state, by its
+     * name; outputs that wait go on waiting. The channel has to rest as for save(). Throws plant_error
+     * if the file is refused, and state_error if the channel does not rest, or the file changes what
+     * all operators share or does not fit their states. */
+    void change(std::string_view plant) { check(melfjits_change(handle(), octets_of(plant), plant.size())); }
 
     /* Receives a message of a modem, a byte of message type and the payload, and handles the first
      * of the inbox of its operator. Throws step_error if no operator has the modem. */
@@ -223,6 +264,14 @@ private:
             delete handle;
         }
     };
+
+    /* Makes a handle that is closed. */
+    channel() : handle_(new melfjits_channel MELFJITS_CLOSED_CHANNEL) {}
+
+    static const std::uint8_t *octets_of(std::string_view text) noexcept
+    {
+        return reinterpret_cast<const std::uint8_t *>(text.data());
+    }
 
     melfjits_channel *handle() const
     {

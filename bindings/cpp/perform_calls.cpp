@@ -86,6 +86,8 @@ void perform(melfjits::channel &channel, const std::string &line)
     } else if (name == "request") {
         fields >> text >> first >> second;
         channel.request(address_of(text), static_cast<std::uint16_t>(first), static_cast<std::uint16_t>(second));
+    } else if (name == "reopen") {
+        channel = melfjits::channel::open_saved(channel.save());
     } else if (name == "reslice") {
         std::vector<melfjits::slice> rows;
         fields >> first;

@@ -3,6 +3,7 @@
 It is a test of the package, and an example of its use.
 """
 
+import contextlib
 import sys
 
 from melfjits import Channel, Drop, Error, Frame, Reply
@@ -38,9 +39,15 @@ def perform_case(plant, lines):
     """Performs the calls of a case until one is refused."""
     place = 0
     try:
-        with Channel(plant) as channel:
+        with contextlib.ExitStack() as opened:
+            channel = opened.enter_context(Channel(plant))
             for place, line in enumerate(lines):
-                perform(channel, *line.split(" "))
+                if line == "reopen":
+                    saved = channel.save()
+                    channel.close()
+                    channel = opened.enter_context(Channel.open_saved(saved))
+                else:
+                    perform(channel, *line.split(" "))
                 for output in channel.outputs():
                     print(line_of(output))
     except Error as error:

@@ -15,8 +15,9 @@ Prints how many cases agree, and the first that differ, with what was printed. E
 The bindings have a program each, `perform_calls`. It reads cases: a line `plant LENGTH`, that many bytes of plant file, a line for each
 call, and a line `end`. The calls are
 
-    arrive MODEM BYTES    request MODEM SID MINISLOTS    tick PLACE    collect PLACE    reslice FROM START/LENGTH/BUDGET ..
+    arrive MODEM BYTES    request MODEM SID MINISLOTS    tick PLACE    collect PLACE    reslice FROM START/LENGTH/BUDGET ..    reopen
 
+`reopen` saves the channel, which rests before a frame, and goes on in one that is opened from the snapshot: after each frame of an even number.
 It prints the outputs of a case as `run` does, with the place of an operator for its name, then `refused AT CODE` if the call AT, counted
 from 0, was refused, and a line `end`.
 """
@@ -84,8 +85,12 @@ class Case:
         except Fault:
             return
         self.names = [row.name for row in plant.rows]
+        ticks = [0] * len(plant.rows)
         for line, step in judged_script(plant, script):
             self.calls += [(line, call) for call in calls_of(*step)]
+            if step[0] == "tick":
+                ticks[step[1]] += 1
+                self.calls += [(line, "reopen")] if len(set(ticks)) == 1 and ticks[0] % 2 == 1 else []
 
 
 def calls_of(what, *detail):

@@ -49,6 +49,9 @@ TYPES = {"channel": Handle, "modem": Modem, "slice": Slice, "output": Output, "g
 BYTES = ctypes.POINTER(ctypes.c_uint8)
 CALLS = {
     "open": (ctypes.c_char_p, ctypes.c_size_t),
+    "open_saved": (ctypes.c_char_p, ctypes.c_size_t),
+    "save": (BYTES, ctypes.c_size_t, ctypes.POINTER(ctypes.c_size_t)),
+    "change": (ctypes.c_char_p, ctypes.c_size_t),
     "close": (),
     "arrive": (ctypes.POINTER(Modem), ctypes.c_char_p, ctypes.c_size_t),
     "request": (ctypes.POINTER(Modem), ctypes.c_uint16, ctypes.c_uint16),

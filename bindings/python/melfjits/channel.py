@@ -32,10 +32,24 @@ class Channel:
         `plant` is the text of the file, or its bytes in UTF-8. `library` is the path of the shared library, or None for the one that
         `load_library` finds. Raises `PlantError` if the file is refused, and `OutOfMemory`.
         """
+        self._open("open", plant, library)
+
+    @classmethod
+    def open_saved(cls, snapshot: str | bytes, library: str | os.PathLike | None = None) -> "Channel":
+        """Opens a channel that was saved. It goes on before the frame of its snapshot, and no output waits.
+
+        `snapshot` is what `save` returned. `library` is as in `Channel(plant, library)`. Raises `StateError` if the text is not a snapshot
+        or its plant does not start in its states, `PlantError` if the plant file in it is refused, and `OutOfMemory`.
+        """
+        channel = cls.__new__(cls)
+        channel._open("open_saved", snapshot, library)
+        return channel
+
+    def _open(self, name, text, library):
+        """Opens the channel of a text by a call of the library."""
         self._library, self._handle, self._thread = load_library(library), Handle(), threading.get_ident()
         self._bytes, self._grants = (ctypes.c_uint8 * FIRST_BYTES)(), (Grant * FIRST_GRANTS)()
-        text = plant.encode() if isinstance(plant, str) else bytes(plant)
-        check(self._call("open", text, len(text)))
+        self._call_with_text(name, text)
         self._is_open = True
 
     def __enter__(self):
@@ -54,6 +68,29 @@ class Channel:
         """Closes the channel and frees its memory. Outputs that wait are lost. Raises `ClosedError` if it was closed already."""
         check(self._call("close"))
         self._is_open = False
+
+    def save(self) -> bytes:
+        """Returns a snapshot of the channel, with its plant file, for `open_saved`. Nothing changes.
+
+        The channel has to rest before a frame: each operator ticked as often, and each frame is collected. Outputs that wait are not saved,
+        and go on waiting. Raises `StateError` if the channel does not rest, `OutOfMemory` and `ClosedError`.
+        """
+        length = ctypes.c_size_t()
+        code = self._call("save", self._bytes, len(self._bytes), length)
+        if code == Code.SHORT:
+            self._bytes = (ctypes.c_uint8 * length.value)()
+            code = self._call("save", self._bytes, len(self._bytes), length)
+        check(code)
+        return ctypes.string_at(self._bytes, length.value)
+
+    def change(self, plant: str | bytes) -> None:
+        """Puts another plant file in force between two frames. Each operator goes on in its state, by its name.
+
+        `plant` is as in `Channel(plant)`. The channel has to rest as for `save`. Outputs that wait go on waiting. Raises `PlantError` if
+        the file is refused, `StateError` if the channel does not rest, or the file changes what all operators share or does not fit their
+        states, `OutOfMemory` and `ClosedError`.
+        """
+        self._call_with_text("change", plant)
 
     def arrive(self, modem: str | bytes, message: bytes) -> None:
         """Receives a message of a modem, and handles the first of the inbox of its operator.
@@ -118,6 +155,11 @@ class Channel:
     def _fetch(self):
         head = Output()
         return self._call("next_output", head, self._bytes, len(self._bytes), self._grants, len(self._grants)), head
+
+    def _call_with_text(self, name, text):
+        """Makes a call of the library with a text, or its bytes in UTF-8."""
+        octets = text.encode() if isinstance(text, str) else bytes(text)
+        check(self._call(name, octets, len(octets)))
 
     def _call(self, name, *arguments):
         """Makes a call of the library, and returns its number."""

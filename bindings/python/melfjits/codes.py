@@ -33,6 +33,13 @@ class Code(enum.IntEnum):
     NEW_SLICES_OVERLAP = 34
     BUDGET_OVER_SLICE = 35
     UNFIT = 36
+    FRAME_WAITS = 40
+    NOT_AT_FRAME = 41
+    CONSTANTS_DIFFER = 42
+    STATE_REFUSED = 43
+    NOT_TOGETHER = 44
+    NOT_A_SNAPSHOT = 45
+    UNKNOWN_NAME = 46
 
 
 class Kind(enum.IntEnum):
@@ -86,6 +93,13 @@ TEXTS = {
     Code.NEW_SLICES_OVERLAP: "new slices of two operators overlap",
     Code.BUDGET_OVER_SLICE: "a new budget is more than its slice",
     Code.UNFIT: "more minislots are committed than a new budget",
+    Code.FRAME_WAITS: "a frame of an operator is not collected yet",
+    Code.NOT_AT_FRAME: "an operator is before another frame than the first one",
+    Code.CONSTANTS_DIFFER: "what all operators share would change",
+    Code.STATE_REFUSED: "an operator's state does not fit its row of the plant file",
+    Code.NOT_TOGETHER: "the operators' frames or slices do not go together",
+    Code.NOT_A_SNAPSHOT: "the text is not a snapshot",
+    Code.UNKNOWN_NAME: "the plant file has no operator of a saved name",
 }
 
 
@@ -121,10 +135,14 @@ class SliceChangeError(Error, ValueError):
     """A slice change is refused, and nothing has changed."""
 
 
+class StateError(Error, ValueError):
+    """A channel is not saved, or its plant is not changed or does not start in saved states. Nothing has changed."""
+
+
 def check(code):
     """Raises the exception of a code, unless it is DONE."""
     if code == Code.DONE:
         return
     single = {Code.NO_MEMORY: OutOfMemory, Code.CLOSED: ClosedError, Code.RECEIVED: NotHandled}
-    of_tens = {1: PlantError, 2: StepError, 3: SliceChangeError}
+    of_tens = {1: PlantError, 2: StepError, 3: SliceChangeError, 4: StateError}
     raise single.get(code, of_tens.get(code // 10, Error))(code)

@@ -42,6 +42,13 @@ pub const MELFJITS_OFF_FRAME: u32 = 33;
 pub const MELFJITS_NEW_SLICES_OVERLAP: u32 = 34;
 pub const MELFJITS_BUDGET_OVER_SLICE: u32 = 35;
 pub const MELFJITS_UNFIT: u32 = 36;
+pub const MELFJITS_FRAME_WAITS: u32 = 40;
+pub const MELFJITS_NOT_AT_FRAME: u32 = 41;
+pub const MELFJITS_CONSTANTS_DIFFER: u32 = 42;
+pub const MELFJITS_STATE_REFUSED: u32 = 43;
+pub const MELFJITS_NOT_TOGETHER: u32 = 44;
+pub const MELFJITS_NOT_A_SNAPSHOT: u32 = 45;
+pub const MELFJITS_UNKNOWN_NAME: u32 = 46;
 
 pub const MELFJITS_REPLY: u32 = 1;
 pub const MELFJITS_SILENT: u32 = 2;
@@ -90,6 +97,9 @@ pub struct melfjits_grant {
 
 extern "C" {
     pub fn melfjits_open(channel: *mut melfjits_channel, text: *const u8, length: usize) -> u32;
+    pub fn melfjits_open_saved(channel: *mut melfjits_channel, text: *const u8, length: usize) -> u32;
+    pub fn melfjits_save(channel: *mut melfjits_channel, bytes: *mut u8, size: usize, length: *mut usize) -> u32;
+    pub fn melfjits_change(channel: *mut melfjits_channel, text: *const u8, length: usize) -> u32;
     pub fn melfjits_close(channel: *mut melfjits_channel) -> u32;
     pub fn melfjits_arrive(channel: *mut melfjits_channel, modem: *const melfjits_modem, message: *const u8, length: usize) -> u32;
     pub fn melfjits_request(channel: *mut melfjits_channel, modem: *const melfjits_modem, sid: u16, minislots: u16) -> u32;

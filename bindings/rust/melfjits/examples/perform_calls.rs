@@ -41,6 +41,7 @@ fn perform(channel: &mut Channel, line: &str) -> Result<(), Error> {
         "arrive" => channel.arrive(address_of(fields[1]), &octets_of(fields.get(2).unwrap_or(&""))),
         "request" => channel.request(address_of(fields[1]), number(2) as u16, number(3) as u16),
         "reslice" => channel.reslice(number(1) as u32, &fields[2..].iter().map(|field| slice_of(field)).collect::<Vec<_>>()),
+        "reopen" => channel.save().and_then(|saved| Channel::open_saved(&saved)).map(|opened| *channel = opened),
         "tick" => channel.tick(number(1)),
         _ => channel.collect(number(1)),
     }

@@ -28,6 +28,38 @@ impl Channel {
         Ok(Channel { handle })
     }
 
+    /// Opens a channel that was saved, from what [`save`](Channel::save) returned. It goes on before the frame of its snapshot, and no
+    /// output waits. Returns an error if that is not a snapshot, if its plant file is refused or does not start in its states, or if memory
+    /// runs out.
+    pub fn open_saved(snapshot: &[u8]) -> Result<Channel, Error> {
+        let mut handle = Box::new(sys::MELFJITS_CLOSED_CHANNEL);
+        // SAFETY: the handle is closed, and the text is valid for its length.
+        check(unsafe { sys::melfjits_open_saved(&mut *handle, snapshot.as_ptr(), snapshot.len()) })?;
+        Ok(Channel { handle })
+    }
+
+    /// Returns a snapshot of the channel, with its plant file, for [`open_saved`](Channel::open_saved). The channel has to rest before a
+    /// frame: each operator ticked as often, and each frame is collected. Outputs that wait are not saved, and go on waiting. Returns
+    /// [`Error::FrameWaits`] or [`Error::NotAtFrame`] if the channel does not rest.
+    pub fn save(&mut self) -> Result<Vec<u8>, Error> {
+        let (mut bytes, mut length) = (Vec::new(), 0);
+        let mut code = self.write_snapshot(&mut bytes, &mut length);
+        if code == sys::MELFJITS_SHORT {
+            bytes.resize(length, 0);
+            code = self.write_snapshot(&mut bytes, &mut length);
+        }
+        check(code)?;
+        Ok(bytes)
+    }
+
+    /// Puts another plant file in force between two frames. Each operator goes on in its state, by its name; outputs that wait go on
+    /// waiting. The channel has to rest as for [`save`](Channel::save). Returns an error if it does not, if the file is refused, if it
+    /// changes what all operators share or does not fit their states, or if memory runs out.
+    pub fn change(&mut self, plant: &[u8]) -> Result<(), Error> {
+        // SAFETY: the handle is open and ours alone, and the text is valid for its length.
+        check(unsafe { sys::melfjits_change(&mut *self.handle, plant.as_ptr(), plant.len()) })
+    }
+
     /// Receives a message of a modem, a byte of message type and the payload, and handles the first of the inbox of its operator.
     pub fn arrive(&mut self, modem: Address, message: &[u8]) -> Result<(), Error> {
         let modem = sys::melfjits_modem { bytes: modem };
@@ -81,6 +113,12 @@ impl Channel {
         }
         check(code)?;
         Ok(Some(output_of(&head, bytes, &grants)))
+    }
+
+    /// Writes a snapshot into a buffer and how long it is, and returns what the call returns.
+    fn write_snapshot(&mut self, bytes: &mut [u8], length: &mut usize) -> u32 {
+        // SAFETY: the handle is open and ours alone, and the buffer is valid for its length.
+        unsafe { sys::melfjits_save(&mut *self.handle, bytes.as_mut_ptr(), bytes.len(), length) }
     }
 
     /// Fetches the output that waits first into buffers, and returns what the call returns.

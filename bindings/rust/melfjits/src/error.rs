@@ -53,12 +53,26 @@ pub enum Error {
     BudgetOverSlice,
     /// More minislots are committed than a new budget.
     Unfit,
+    /// A frame of an operator is not collected yet.
+    FrameWaits,
+    /// An operator is before another frame than the first one.
+    NotAtFrame,
+    /// What all operators share would change.
+    ConstantsDiffer,
+    /// An operator's state does not fit its row of the plant file.
+    StateRefused,
+    /// The operators' frames or slices do not go together.
+    NotTogether,
+    /// The text is not a snapshot.
+    NotASnapshot,
+    /// The plant file has no operator of a saved name.
+    UnknownName,
     /// The library returned a number that the header does not name for this call.
     Unknown(u32),
 }
 
 /// Each error with the number of the header and its text.
-const TEXTS: [(Error, u32, &str); 23] = [
+const TEXTS: [(Error, u32, &str); 30] = [
     (Error::OutOfMemory, sys::MELFJITS_NO_MEMORY, "out of memory, nothing has changed"),
     (Error::NotHandled, sys::MELFJITS_RECEIVED, "out of memory before the message was handled: it is in the inbox, call work()"),
     (Error::NotToml, sys::MELFJITS_NOT_TOML, "the plant file is not TOML"),
@@ -82,6 +96,13 @@ const TEXTS: [(Error, u32, &str); 23] = [
     (Error::NewSlicesOverlap, sys::MELFJITS_NEW_SLICES_OVERLAP, "new slices of two operators overlap"),
     (Error::BudgetOverSlice, sys::MELFJITS_BUDGET_OVER_SLICE, "a new budget is more than its slice"),
     (Error::Unfit, sys::MELFJITS_UNFIT, "more minislots are committed than a new budget"),
+    (Error::FrameWaits, sys::MELFJITS_FRAME_WAITS, "a frame of an operator is not collected yet"),
+    (Error::NotAtFrame, sys::MELFJITS_NOT_AT_FRAME, "an operator is before another frame than the first one"),
+    (Error::ConstantsDiffer, sys::MELFJITS_CONSTANTS_DIFFER, "what all operators share would change"),
+    (Error::StateRefused, sys::MELFJITS_STATE_REFUSED, "an operator's state does not fit its row of the plant file"),
+    (Error::NotTogether, sys::MELFJITS_NOT_TOGETHER, "the operators' frames or slices do not go together"),
+    (Error::NotASnapshot, sys::MELFJITS_NOT_A_SNAPSHOT, "the text is not a snapshot"),
+    (Error::UnknownName, sys::MELFJITS_UNKNOWN_NAME, "the plant file has no operator of a saved name"),
 ];
 
 impl Error {

@@ -1,6 +1,6 @@
 //! Melfjits in Rust: one DOCSIS upstream channel in this process, over the library for C.
 //!
-//! [`Channel`] opens the channel of a plant file, performs its steps, and returns their outputs.
+//! [`Channel`] opens the channel of a plant file, performs its steps, returns their outputs, and saves it.
 
 mod channel;
 mod error;
