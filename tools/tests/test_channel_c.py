@@ -137,7 +137,7 @@ class LibraryForC(unittest.TestCase):
         self.assertEqual(wider in channel.save()[1], True)
         for line in (f"Q {A1} 257 5", "T"):
             self.assertEqual(channel.perform(line), DONE)
-        self.assertIn("F A 1 257/5/8/5 0/6/13/27", channel.lines())
+        self.assertIn("F A 1 257/6/8/5 0/6/13/27", channel.lines())
 
     def test_closed_handles(self):
         channel = Channel(self.library)
