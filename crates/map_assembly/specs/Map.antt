@@ -75,8 +75,7 @@ ordered_map channel frame parts = record {
   pending = map_pending parts;
 }
 
--- what the MAP of a frame says, given the part of each operator: the header, the head, the spans of the parts in the order of their slices,
--- with one idle span for each run of minislots between parts, and the grants pending
+-- what the MAP of a frame says, given the part of each operator
 abbrev pub map_of : Channel → ℕ → List ElementsFields → MapView
 map_of channel frame parts = ordered_map channel frame (in_slice_order parts)
 

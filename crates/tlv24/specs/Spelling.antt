@@ -25,7 +25,7 @@ abbrev pub under : ℕ → Option (List ℕ) → List Tlv
 under subtype None = []
 under subtype (Some value) = tlv subtype value ∷ []
 
--- the fields that are present, each as a TLV, in ascending order of subtype
+-- the TLVs of the fields
 abbrev pub tlvs_of : FlowFields → List Tlv
 tlvs_of m =
     under reference_subtype (option_map (to_be_bytes w16) m.reference) ++
