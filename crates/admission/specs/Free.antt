@@ -18,7 +18,7 @@ pub record IsFree (range : Numbers) (used : List ℕ) (n : ℕ) : Type 0 where
   pub at_most_last : n ≤ range.last
   pub unused : ¬ Contains used n
 
--- the least free number
+-- n is free, and no lesser number of the range is
 pub record IsLeastFree (range : Numbers) (used : List ℕ) (n : ℕ) : Type 0 where
   pub free : IsFree range used n
   pub least : (m : ℕ) → IsFree range used m → n ≤ m
@@ -32,6 +32,6 @@ unfoldable pub first_free : ℕ → ℕ → List ℕ → Option ℕ
 first_free zero n used = None
 first_free (suc count) n used = elim (is_used used n) [ true ↦ first_free count (suc n) used | false ↦ Some n ]
 
--- the first of the range's numbers, in ascending order, that is not used
+-- the least free number of the range, as a function; none where all are used
 unfoldable pub least_free_of : Numbers → List ℕ → Option ℕ
 least_free_of range used = first_free (suc range.last - range.first) range.first used

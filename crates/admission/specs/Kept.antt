@@ -4,7 +4,7 @@ use Rattle.std.specs.Map.{values_of}
 use Rattle.admission.specs.declared.budget.Budget.{Budget}
 use Rattle.admission.specs.Ledger.{IsAscending, FitsU32, total_minislots, total_elements}
 
--- what a ledger keeps of its room, its rows, the places that are reserved for them, and its totals
+-- what the type of a ledger keeps of its room, its rows, the places that are reserved for them, and its totals
 pub record IsLedger (room : ℕ) (rows : List (ℕ × Budget)) (capacity minislots elements : ℕ) : Type 0 where
   pub small : room < 2 ^ 32
   pub ascending : IsAscending rows

@@ -6,7 +6,7 @@ use Rattle.std.specs.Map.{lookup, keys_of}
 use Rattle.std.specs.BTreeMap.{is_at}
 use Rattle.admission.specs.declared.budget.Budget.{Budget}
 
--- a row for each flow, its SFID and its budget, and for how many rows there is room
+-- what contracts see of a ledger: for how many rows there is room, and its rows in ascending order of SFID, each with its budget
 pub record LedgerView : Type 0 where
   pub room : ℕ
   pub rows : List (ℕ × Budget)

@@ -64,7 +64,9 @@ impl IdRange {
     /// and looks at the used numbers once for each 128 numbers that it tries.
     pub fn least_free(&self, used: &[u32]) -> Option<u32>
         ensures exact { result ≡ least_free_of self.now used.now }
+        // The number is in the range and not in use, and none is less.
         ensures found { IfSome result (IsLeastFree self.now used.now) }
+        // None comes exactly if each number of the range is in use.
         ensures none { IsNone result ↔ ((number : ℕ) → IsFree self.now used.now number → ⊥) }
     {
         let mut base = self.first;

@@ -115,6 +115,7 @@ impl Ledger {
         ensures was_free { OnOk result ((length self.old.rows < self.old.room)
             × IsNone (lookup (is_at (nat_cmp sfid)) self.old.rows)) }
 
+        // Each error comes exactly in its case: no room, then a row that is there.
         ensures full { (result ≡ Err LedgerFault.Full) ↔ (length self.old.rows ≡ self.old.room) }
         ensures twice { (result ≡ Err LedgerFault.Twice)
             ↔ ((length self.old.rows < self.old.room) × HasRow self.old.rows sfid) }
@@ -140,6 +141,7 @@ impl Ledger {
             ≡ record self.old { rows = insert_entry nat_cmp self.old.rows sfid budget }) }
         ensures was_there { OnOk result (HasRow self.old.rows sfid) }
 
+        // The error comes exactly if there is no row.
         ensures not_there { (result ≡ Err LedgerFault.NotThere) ↔ IsNone (lookup (is_at (nat_cmp sfid)) self.old.rows) }
         ensures only { IsOkUnless result LedgerFault.NotThere }
         ensures err { OnErr result (self.new ≡ self.old) }
@@ -161,6 +163,7 @@ impl Ledger {
             ≡ record self.old { rows = remove_entry (is_at (nat_cmp sfid)) self.old.rows }) }
         ensures was_there { OnOk result (HasRow self.old.rows sfid) }
 
+        // The error comes exactly if there is no row.
         ensures not_there { (result ≡ Err LedgerFault.NotThere) ↔ IsNone (lookup (is_at (nat_cmp sfid)) self.old.rows) }
         ensures only { IsOkUnless result LedgerFault.NotThere }
         ensures err { OnErr result (self.new ≡ self.old) }

@@ -10,7 +10,9 @@ ghost use Rattle.admission.specs.Place.{StandsAt, IsGap};
 /// that is as far from the first row as its SFID from the first one, are found without a search.
 pub fn place_of<V>(rows: &[(u32, V)], sfid: u32) -> Result<usize, usize>
     requires { IsStrictlySortedBy nat_cmp (keys_of rows.now) }
+    // The row of the SFID is there.
     ensures found { IfOk result (StandsAt rows.now sfid) }
+    // There is no such row, and a new one would go there.
     ensures absent { IfErr result (IsGap rows.now sfid) }
 {
     if is_past(rows, sfid) {

@@ -5,11 +5,11 @@ use Rattle.operator_model.specs.Replay.{BookView}
 use Rattle.plant_core.specs.Waiting.{waiting_in}
 use Rattle.cell_state.specs.declared.held.Held.{Held}
 
--- the book
+-- the book of what a lock guards
 abbrev pub cell_book : {D : Type 0} {F : D → Type 0} {m : _} → Held D F m → BookView
 cell_book held = held.book.kept.book
 
--- the frames that wait
+-- the frames that wait: those of the history after the ones collected
 abbrev pub waiting_of : {D : Type 0} {F : D → Type 0} {m : _} → Held D F m → List (ℕ × ElementsFields)
 waiting_of held = waiting_in held.book.kept.book.history held.collected
 

@@ -25,6 +25,7 @@ pub record IsFrameOfSomeBook (frame : ℕ × ElementsFields) : Type 0 where
   pub later : List (ℕ × ElementsFields)
   pub waited : waiting_in book.history place ≡ frame ∷ later
 
+-- the output is a frame
 abbrev pub is_frame : Output → Bool
 is_frame (Reply modem bytes) = false
 is_frame (Silent modem cause) = false

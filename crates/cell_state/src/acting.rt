@@ -30,13 +30,17 @@ impl Held {
     /// Does an action, and returns its receipt. All memory is taken first.
     pub fn act(&mut self, alloc: Global, action: Action) -> Result<Receipt, BookFault>
         requires within { self.old.collected ≤ length (cell_book self.old).history }
+        // Its place is after all that was done, and its outputs are those of the operator's machine.
         ensures receipt { IfOk result (IsReceiptOf (cell_book self.old) action) }
+        // It is of an action that some book took, whose state is the replay of its history.
         ensures some_book { IfOk result (IsOfSomeBook action) }
         ensures book { OnOk result (cell_book self.new ≡ book_after_action (cell_book self.old) action) }
         ensures waiting { OnOk result (waiting_of self.new
             ≡ waiting_of self.old ++ frames_of (own_step (operator_of_book (cell_book self.old)) action).outputs) }
+        // Each refusal comes exactly in its case.
         ensures refused { (fault : BookFault) → fault ≢ BookFault.NoMemory
             → (result ≡ Err fault) ↔ (refusal_of (cell_book self.old) action ≡ Some fault) }
+        // It is one that the action can have.
         ensures of_action { IfErr result (IsActionFault action) }
         ensures same_book { OnErr result (cell_book self.new ≡ cell_book self.old) }
         ensures same_waiting { OnErr result (waiting_of self.new ≡ waiting_of self.old) }

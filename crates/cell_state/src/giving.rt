@@ -115,8 +115,10 @@ pub fn reslice(
     requires { vec_len helds.old < 2 ^ 64 }
     ensures books { OnOk result (HaveTaken from rows.now (map cell_book helds.old.items) (map cell_book helds.new.items)) }
     ensures waiting { map waiting_of helds.new.items ≡ map waiting_of helds.old.items }
+    // Each receipt is of the slice change of that operator's book.
     ensures receipts { IfOk result (λ told. AreOwnersReceipts from rows.now (map cell_book helds.old.items) told.items) }
     ensures same { OnErr result (map cell_book helds.new.items ≡ map cell_book helds.old.items) }
+    // The core's first fault.
     ensures fault { IsReported result
         (option_map (λ fault. core_faults.Reslice fault) (reslice_fault from (map cell_book helds.old.items) rows.now)) }
 {

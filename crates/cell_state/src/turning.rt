@@ -43,11 +43,15 @@ impl Held {
         ensures stopped { (result ≡ Err (CellFault.Stopped op)) ↔ (self.old.stopped ≡ true) }
         ensures passed { (result ≡ Err (CellFault.Passed op index))
             ↔ ((self.old.stopped ≡ false) × (length (cell_book self.old).history ≢ index)) }
+        // Each refusal comes exactly in its case.
         ensures refused { (fault : BookFault) → fault ≢ BookFault.NoMemory
             → (result ≡ Err (CellFault.Book fault)) ↔ ((self.old.stopped ≡ false)
             × (length (cell_book self.old).history ≡ index)
             × (refusal_of (cell_book self.old) action ≡ Some fault)) }
+        // It is one that the action can have: only a tick finds the frame numbers used up, and work is refused only out
+        // of memory.
         ensures fault { IfErr result (IsOfTurn op index action) }
+        // Only a turn that the book refuses stops the turns.
         ensures stops { (fault : BookFault) → result ≡ Err (CellFault.Book fault) → self.new.stopped ≡ true }
         ensures stays { self.old.stopped ≡ true → self.new.stopped ≡ true }
         ensures waits { result ≡ Err (CellFault.Passed op index) → self.new.stopped ≡ false }

@@ -38,9 +38,10 @@ pub record ArrivalEnds (code : ℕ) (modem : Modem) (heard : Heard) (old new : O
   pub same : code ≢ 0 → code ≢ 5 → IsSame old new
   pub fault : (code ≡ 5) ⊎ IsStepCode code (step_fault (view_of old) (steps.Arrive modem heard))
 
--- the same, or out of memory before anything changes
+-- the same, or memory ran out before anything changes
 abbrev pub OrNoMemory : ℕ → (OpenChannel → OpenChannel → Type 0) → OpenChannel → OpenChannel → Type 0
 OrNoMemory code holds old new = ((code ≡ 1) × IsSame old new) ⊎ holds old new
 
+-- an operator's slice and budget as C gives them, as its row of a slice change
 abbrev pub row_as : SliceBudget → SliceRow
 row_as row = record { start = row.start; length = row.length; budget = row.budget }

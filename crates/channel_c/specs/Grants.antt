@@ -4,6 +4,7 @@ use Rattle.slice_scheduler.specs.declared.span.Span.{Span}
 use Rattle.slice_scheduler.specs.Iuc.{iuc_number}
 use Rattle.channel_c.specs.declared.grants.Grant.{Grant}
 
+-- a span of minislots: its SID, the number of its IUC, its first minislot and its length
 abbrev pub granted_as : Span → Grant
 granted_as span = record { sid = span.sid; iuc = iuc_number span.iuc; start = span.start; length = span.len }
 

@@ -49,6 +49,7 @@ head_of (outs.Map made) = record (head_alone 4 0 (address_of None)) { frame = ma
 
 -- ---- the bytes and the grants
 
+-- the bytes of an operator's output: of a reply its message, and of any other output none
 abbrev pub bytes_under : Output → List ℕ
 bytes_under (Reply modem bytes) = bytes
 bytes_under (Silent modem cause) = []
@@ -59,6 +60,7 @@ abbrev pub bytes_of : Out → List ℕ
 bytes_of (outs.Of op output) = bytes_under output
 bytes_of (outs.Map made) = made.bytes
 
+-- the grants of an operator's output: of a frame its spans and then its grants pending, and of any other output none
 abbrev pub grants_under : Output → List Grant
 grants_under (Reply modem bytes) = []
 grants_under (Silent modem cause) = []

@@ -16,10 +16,11 @@ use Rattle.channel_c.specs.PlantText.{plant_said}
 abbrev pub text_of : OpenChannel → List ℕ
 text_of channel = channel.text
 
+-- the core of an open channel
 abbrev pub view_of : OpenChannel → CoreView
 view_of channel = live_view channel.core
 
--- those that no call has fetched, in the order of their steps
+-- the outputs of an open channel that no call has fetched, in the order of their steps
 abbrev pub waiting_of : OpenChannel → List Out
 waiting_of channel = drop channel.fetched channel.outs.items
 

@@ -65,8 +65,10 @@ fn install(alloc: Global, handle: &mut Handle, channel: OpenChannel) -> u32
 #[tactic(auto, using(crate::proofs::CodeLemmas::plant_more, crate::proofs::CodeLemmas::open_without_memory, crate::proofs::CodeLemmas::open_done, crate::proofs::CodeLemmas::open_refused))]
 #[unsafe(no_mangle)]
 pub extern "C" fn melfjits_open(alloc: Global, handle: &mut Handle, text: &[u8]) -> u32
+    // 0 only if the file says a plant.
     ensures opened { result ≡ 0 → (channel : OpenChannel) × (handle.new.home ≡ Some channel) × IsOpenedFrom text.now channel }
     ensures same { result ≢ 0 → handle.new.home ≡ handle.old.home }
+    // 1 if memory ran out, or the number of the file's first fault.
     ensures fault { IsOpenCode result (plant_said text.now) }
 {
     let channel = match OpenChannel::open(alloc, text) {
@@ -151,6 +153,7 @@ pub extern "C" fn melfjits_request(
     sid: u16,
     minislots: u16,
 ) -> u32
+    // Two steps, `Arrive` and the `Work` of the modem's operator. 5 says that the first alone is done.
     ensures { InHandle result (ArrivalEnds result (record { 0 = modem.now.bytes }) (heards.Request sid minislots))
         handle.old.home handle.new.home }
 {
@@ -162,6 +165,8 @@ pub extern "C" fn melfjits_request(
 /// Lets an operator handle the first of its inbox: after the number 5, what was received then.
 #[unsafe(no_mangle)]
 pub extern "C" fn melfjits_work(alloc: Global, handle: &mut Handle, operator: usize) -> u32
+    // 0 only if the step is performed and its outputs wait. Otherwise nothing changed, and the number says why. A
+    // closed handle stays closed, with 2.
     ensures { InHandle result (StepEnds result (steps.Work operator)) handle.old.home handle.new.home }
 {
     perform(alloc, handle, Step::Work { op: operator })
@@ -170,6 +175,7 @@ pub extern "C" fn melfjits_work(alloc: Global, handle: &mut Handle, operator: us
 /// Counts an operator's timers on by a tick, and schedules its next frame.
 #[unsafe(no_mangle)]
 pub extern "C" fn melfjits_tick(alloc: Global, handle: &mut Handle, operator: usize) -> u32
+    // 0 only if the step is performed and its outputs wait. Otherwise nothing changed, and the number says why.
     ensures { InHandle result (StepEnds result (steps.Tick operator)) handle.old.home handle.new.home }
 {
     perform(alloc, handle, Step::Tick { op: operator })
@@ -179,6 +185,7 @@ pub extern "C" fn melfjits_tick(alloc: Global, handle: &mut Handle, operator: us
 /// frame completes its MAP, which waits then.
 #[unsafe(no_mangle)]
 pub extern "C" fn melfjits_collect(alloc: Global, handle: &mut Handle, operator: usize) -> u32
+    // 0 only if the step is performed and its outputs wait. Otherwise nothing changed, and the number says why.
     ensures { InHandle result (StepEnds result (steps.Collect operator)) handle.old.home handle.new.home }
 {
     perform(alloc, handle, Step::Collect { op: operator })
@@ -194,6 +201,8 @@ pub extern "C" fn melfjits_arrive(
     modem: &Address,
     message: &[u8],
 ) -> u32
+    // Two steps, `Arrive` and the `Work` of the modem's operator. 5 says that the first alone is done. No clause says
+    // that memory ran out for the second.
     ensures { InHandle result (OrNoMemory result (ArrivalEnds result (record { 0 = modem.now.bytes }) (heards.Message message.now)))
         handle.old.home handle.new.home }
 {
@@ -220,6 +229,7 @@ pub extern "C" fn melfjits_reslice(
     from: u32,
     rows: &[SliceBudget],
 ) -> u32
+    // 0 only if the step `Reslice` is performed.
     ensures { InHandle result (OrNoMemory result (StepEnds result (steps.Reslice from (map row_as rows.now))))
         handle.old.home handle.new.home }
 {
@@ -246,6 +256,7 @@ pub extern "C" fn melfjits_next_output(
     bytes: &mut [u8],
     grants: &mut [Grant],
 ) -> u32
+    // The head, and the bytes and grants at the beginning of the buffers. If they do not fit nothing changes.
     ensures { InHandle result (FetchEnds result head.new bytes.old bytes.new grants.old grants.new)
         handle.old.home handle.new.home }
 {

@@ -1,4 +1,4 @@
--- What a request is about and what it asks for, as lists of all that the definitions allow (own; for inner functions).
+-- What a request is about and what it asks for, as lists of all that the definitions allow (implementation-specific; for inner functions).
 use Rattle.std.specs.Prelude.{◌&&◌, ◌||◌, ℕ, Bool, true, false, List, [], ◌∷◌, ◌++◌, map, filter, Option, Some, None, Result, Ok, Err, is_some, if◌then◌else◌}
 use Rattle.std.specs.List.{list_any}
 use Rattle.tlv24.specs.declared.fields.FlowFields.{FlowFields}
@@ -15,11 +15,13 @@ use Rattle.check_table.specs.Said.{Said, set_asked}
 use Rattle.check_explainer.specs.declared.asking.Use.{Use}
 use Rattle.check_explainer.specs.declared.asking.Use.TheVariants.{Admit, Activate}
 
+-- a request of this kind adds a flow: DSA
 abbrev pub is_addition : Kind → Bool
 is_addition Dsa = true
 is_addition Dsc = false
 is_addition Dsd = false
 
+-- a request of this kind deletes a flow: DSD
 abbrev pub is_deletion : Kind → Bool
 is_deletion Dsa = false
 is_deletion Dsc = false
@@ -37,6 +39,7 @@ names Dsd encodings fixed sfid = is_same fixed (Some sfid)
 abbrev pub subject_of : ℕ × Flow → Option Flow
 subject_of entry = Some entry.1
 
+-- the request names the SFID of this entry
 abbrev pub is_named_in : Said → ℕ × Flow → Bool
 is_named_in said entry = names said.kind said.encodings said.sfid entry.0
 
@@ -51,6 +54,7 @@ abbrev pub is_for : Use → FlowFields → Bool
 is_for Admit encoding = has_set_type Admitted encoding || has_set_type AdmittedAndActive encoding
 is_for Activate encoding = has_set_type Active encoding || has_set_type AdmittedAndActive encoding
 
+-- the parameter set that an encoding gives, if it has one and is not refused
 abbrev pub ok_of : Option (Result ParamFields Refusal) → Option ParamFields
 ok_of None = None
 ok_of (Some (Ok set)) = Some set

@@ -1,4 +1,4 @@
--- What is kept of an operator next to its state (own; for inner functions).
+-- What is kept of an operator next to its state (implementation-specific; for inner functions).
 use Rattle.std.specs.Prelude.{◌≡◌, ℕ, List, Option}
 use Rattle.param_sets.specs.declared.param_set.ParamFields.{ParamFields}
 use Rattle.flow_table.specs.declared.flow.Flow.{Flow}

@@ -74,7 +74,9 @@ impl OperatorSnapshot {
         modem: Modem,
         request: &Request,
     ) -> Result<Check, AllocError>
+        // It is the first check of the table that holds.
         ensures first { IfOk result (IsFirst (λ check. CheckApplies check self.now modem (said_by request.now)) table) }
+        // The machine's verdict is its answer.
         ensures decides { IfOk result (λ check. IsDecidedBy self.now modem (said_by request.now) check
             (verdict self.now modem request.now)) }
     {

@@ -190,7 +190,9 @@ impl OperatorSnapshot {
         modem: Modem,
         reading: &Result<Message, MessageFault>,
     ) -> Option<MessageCheck>
+        // It is the first check of the messages' table that holds.
         ensures first { IfSome result (IsFirst (λ check. HoldsOf check self.now modem reading.now) message_table) }
+        // None comes exactly for an acknowledgement, or if reading was out of memory.
         ensures none { (result ≡ None) ↔ HasNoCheck reading.now }
         // Handling the bytes that are read so results in what the check answers.
         ensures decides { IfSome result (λ check. (bytes : List ℕ) → AreBytes bytes → reading.now ≡ message_of bytes

@@ -26,6 +26,7 @@ use Rattle.check_table.specs.declared.check.Check.TheVariants.{UnknownClass, NoE
 
 -- ---- refusals
 
+-- a refusal of the request with this confirmation code and this detail
 abbrev pub refusal_verdict : Said → Code → Detail → Verdict
 refusal_verdict said code detail = Refused (record { kind = said.kind; tid = said.tid; code = code; detail = detail })
 
@@ -108,6 +109,7 @@ pub record IsDeleted (said : Said) (answer : Verdict) : Type 0 where
   pub named : NamesFlow said.kind said.encodings said.sfid sfid
   pub is : answer ≡ Deleted sfid (record { kind = Dsd; tid = said.tid; code = Okay; detail = Nothing })
 
+-- the answer to a request that no check before the last refuses: the flow is added, changed or deleted, by the kind of the request
 abbrev pub IsAccepted : Kind → Operator → Modem → Said → Verdict → Type 0
 IsAccepted Dsa op modem said answer = IsAdded op modem said answer
 IsAccepted Dsc op modem said answer = IsAnswerToChange op said answer
@@ -115,6 +117,8 @@ IsAccepted Dsd op modem said answer = IsDeleted said answer
 
 -- ---- the answers
 
+-- what each check answers: its confirmation code, and where it has one the encoding and the subtype that the reply names (which code is
+-- implementation-specific)
 abbrev pub AnswersCheck : Check → Operator → Modem → Said → Verdict → Type 0
 AnswersCheck UnknownClass op modem said answer =
     (encoding : FlowFields) × IsFirst (NamesUnknownClass op.consts.classes) said.encodings encoding

@@ -7,7 +7,7 @@ use Rattle.flow_table.specs.declared.flow.Flow.{Flow}
 use Rattle.flow_table.specs.Table.{flow_at}
 use Rattle.operator_model.specs.State.{OperatorState}
 
--- a response waits for the acknowledgement of the flow
+-- a cached response awaits the acknowledgement of the flow
 abbrev pub IsAwaited : List KeptEntry → ℕ → Type 0
 IsAwaited kept sfid = Any (λ entry. (is_waiting entry ≡ true) × (entry.sfid ≡ sfid)) kept
 
@@ -15,6 +15,7 @@ IsAwaited kept sfid = Any (λ entry. (is_waiting entry ≡ true) × (entry.sfid 
 abbrev pub AreOfTwo : KeptEntry → KeptEntry → Type 0
 AreOfTwo a b = (modem : Modem) (tid : ℕ) → is_of modem tid a ≡ true → is_of modem tid b ≡ true → ⊥
 
+-- each flow of which sets are pending is awaited by a cached response, and no two cached responses are of one transaction of one modem
 pub record AreAwaited (state : OperatorState) : Type 0 where
   pub own : AllPairs AreOfTwo state.kept
   pub flows : (sfid : ℕ) (flow : Flow) → flow_at sfid state.flows ≡ Some flow → IsSome flow.pending → IsAwaited state.kept sfid

@@ -23,10 +23,11 @@ use Rattle.check_table.specs.Messages.{IsHandledBy}
 abbrev pub worked_operator : RowFields → List Action → Operator
 worked_operator row actions = operator worked_consts row (after worked_consts row actions)
 
--- a best-effort flow is added and acknowledged; likewise one that needs the whole budget
+-- a best-effort flow is added and acknowledged
 abbrev pub one_added : List Action
 one_added = message_actions first_modem addition ++ message_actions first_modem addition_ack
 
+-- the flow that needs the whole budget is added and acknowledged
 abbrev pub full_added : List Action
 full_added = message_actions first_modem full_addition ++ message_actions first_modem addition_ack
 

@@ -68,6 +68,7 @@ abbrev pub IsOverBudget : Operator → ℕ → Type 0
 IsOverBudget op n =
     (op.state.share.budget < n) ⊎ ((next : NextShare) × (op.state.next ≡ Some next) × (next.share.budget < n))
 
+-- when each check of the table holds, by itself, whatever the others say
 abbrev pub CheckApplies : Check → Operator → Modem → Said → Type 0
 CheckApplies UnknownClass op modem said = Any (NamesUnknownClass op.consts.classes) said.encodings
 CheckApplies NoEncoding op modem said = (said.kind ≢ Dsd) × (said.encodings ≡ [])

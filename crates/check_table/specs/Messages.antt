@@ -55,7 +55,8 @@ IsUnread reading cause =
     ((reading ≡ Err faults.Empty) × (cause ≡ causes.Empty)) ⊎ (((reading ≡ Err faults.Short) × (cause ≡ causes.Short))
     ⊎ ((mtype : ℕ) × (reading ≡ Err (faults.NotOurs mtype)) × (cause ≡ causes.NotOurs)))
 
--- a cut / a subtype of a wrong length / one that is repeated or is out of range / a type that is left out
+-- the confirmation code and the detail of a request whose rest is invalid: it is cut, a subtype has a wrong length, is repeated or is out
+-- of range, or a type is left out
 abbrev pub IsRefusedFor : MessageFault → Code → Detail → Type 0
 IsRefusedFor (faults.Tlv tid kind id (tlv_faults.Cut place)) code detail = (code ≡ RejectOther) × (detail ≡ Nothing)
 IsRefusedFor (faults.Tlv tid kind id (tlv_faults.WrongLength subtype)) code detail =
@@ -80,6 +81,7 @@ IsRepeatOf op modem kind entry ran =
 
 -- ---- the checks
 
+-- when each check of a message holds, by itself, whatever the others say
 abbrev pub HoldsOf : MessageCheck → Operator → Modem → Reading → Type 0
 HoldsOf Unread op modem reading = (cause : Cause) × IsUnread reading cause
 HoldsOf OfCmts op modem reading = (kind : Kind) × (tid : ℕ) × ReadsAsRequest reading kind tid × (32768 ≤ tid)
@@ -91,6 +93,7 @@ HoldsOf Faulty op modem reading =
     (kind : Kind) × (tid : ℕ) × (fault : MessageFault) × ReadsAsRequest reading kind tid × (reading ≡ Err fault)
 HoldsOf Judged op modem reading = (request : Request) × (reading ≡ Ok (messages.Request request))
 
+-- what each check of a message results in: a drop reason, a refusal, the cached reply, or the verdict of the request
 abbrev pub AnswersOf : MessageCheck → Operator → Modem → Reading → StepResult → Type 0
 AnswersOf Unread op modem reading ran = (cause : Cause) × IsUnread reading cause × (ran ≡ silent op.state modem cause)
 AnswersOf OfCmts op modem reading ran =
@@ -112,11 +115,11 @@ AnswersOf Judged op modem reading ran =
     × IsDecidedBy op modem (said_by request) check verdict
     × (ran ≡ carried_out op modem (said_by request).kind (said_by request).tid verdict)
 
--- the checks in their order
+-- the checks 0 to 4 of docs/RULES.md, in their order, and then the check of the request
 abbrev pub message_table : List MessageCheck
 message_table = Unread ∷ OfCmts ∷ Repeated ∷ KeptFull ∷ Faulty ∷ Judged ∷ []
 
--- this check decides a message of a modem, and this is what handling it results in
+-- this check of a message that is not an acknowledgement holds, none before it does, and this is what handling the message results in
 pub record IsHandledBy (op : Operator) (modem : Modem) (reading : Reading) (check : MessageCheck) (ran : StepResult) : Type 0 where
   pub first : IsFirst (λ c. HoldsOf c op modem reading) message_table check
   pub answers : AnswersOf check op modem reading ran

@@ -20,7 +20,7 @@ use Rattle.plant.specs.Classes.{asked_of}
 use Rattle.flow_table.specs.declared.flow.Flow.{Flow}
 use Rattle.operator_model.specs.State.{Operator}
 
--- a request of any kind
+-- what a request of any kind says: its kind, its transaction ID, its flow encodings, and the SFID of a deletion
 pub record Said : Type 0 where
   pub kind : Kind
   pub tid : ℕ
@@ -29,6 +29,7 @@ pub record Said : Type 0 where
   -- the SFID in the fixed part of a deletion
   pub sfid : Option ℕ
 
+-- what a request says: its kind, its transaction ID, and its flow encodings (DSA, DSC) or its SFID (DSD)
 abbrev pub said_by : Request → Said
 said_by (requests.Dsa tid encodings) = record { kind = Dsa; tid = tid; encodings = encodings; sfid = None }
 said_by (requests.Dsc tid encodings) = record { kind = Dsc; tid = tid; encodings = encodings; sfid = None }
@@ -78,9 +79,11 @@ abbrev pub set_asked : ConstsFields → FlowFields → Option (Result ParamField
 set_asked consts encoding =
     option_map (λ asked. parameter_set_of asked consts.units) (asked_of consts.classes encoding)
 
+-- an encoding has this parameter set, over its class where it names one
 abbrev pub EncodingAsksFor : ConstsFields → FlowFields → ParamFields → Type 0
 EncodingAsksFor consts encoding set = set_asked consts encoding ≡ Some (Ok set)
 
+-- an encoding has no parameter set, for this reason
 abbrev pub EncodingIsRefused : ConstsFields → FlowFields → Refusal → Type 0
 EncodingIsRefused consts encoding refusal = set_asked consts encoding ≡ Some (Err refusal)
 
@@ -88,10 +91,11 @@ EncodingIsRefused consts encoding refusal = set_asked consts encoding ≡ Some (
 abbrev pub IsSetType : SetType → Option ℕ → Type 0
 IsSetType set_type stated = stated ≡ Some (set_type_number set_type)
 
--- the set of the encoding is to be admitted; it is to be active
+-- the set of the encoding is to be admitted
 abbrev pub Admits : FlowFields → Type 0
 Admits encoding = IsSetType Admitted encoding.set_type ⊎ IsSetType AdmittedAndActive encoding.set_type
 
+-- the set of the encoding is to be active: its set type is for the active set, or for the admitted and the active set
 abbrev pub Activates : FlowFields → Type 0
 Activates encoding = IsSetType Active encoding.set_type ⊎ IsSetType AdmittedAndActive encoding.set_type
 
@@ -100,9 +104,10 @@ abbrev pub IsSetWhere : (FlowFields → Type 0) → ConstsFields → List FlowFi
 IsSetWhere P consts encodings None = All (λ encoding. ¬ P encoding) encodings
 IsSetWhere P consts encodings (Some set) = Any (λ encoding. P encoding × EncodingAsksFor consts encoding set) encodings
 
--- the set that is to be admitted, and the one that is to be active
+-- the set that a request asks to be admitted: the null set where no encoding is for it
 abbrev pub IsToBeAdmitted : Operator → Said → Option ParamFields → Type 0
 IsToBeAdmitted op said set = IsSetWhere Admits op.consts said.encodings set
 
+-- the set that a request asks to be active: the null set where no encoding is for it
 abbrev pub IsToBeActive : Operator → Said → Option ParamFields → Type 0
 IsToBeActive op said set = IsSetWhere Activates op.consts said.encodings set

@@ -35,10 +35,12 @@ abbrev pub line_with : CommandName → Option Asked → OptionTexts → OptionTe
 line_with name None top own = wrong
 line_with name (Some asked) top own = cond (are_wrong name top own) wrong (command asked (joined top own))
 
+-- words that clap takes, by the command that they enter: wrong where it is not one of the program's
 abbrev pub line_named : Option CommandName → List Row → List Row → Reading
 line_named None top own = wrong
 line_named (Some name) top own = line_with name (asked_by name own) (options_in top) (options_in own)
 
+-- words that clap takes, by the subcommand that they enter: wrong where they enter none
 abbrev pub line_in : List Row → Option (Text × List Row) → Reading
 line_in top None = wrong
 line_in top (Some entered) = line_named (name_of entered.0) top entered.1
@@ -54,10 +56,12 @@ abbrev pub either : Reading → Reading → Reading
 either wrong wrong = wrong
 either _ _ = help_or_wrong
 
+-- words that clap refuses, where it may answer any of these kinds of error
 abbrev pub refusals : Bool → ErrorKind → Kinds → Reading
 refusals alone k [] = refusal alone k
 refusals alone k (l ∷ ks) = either (refusal alone k) (refusals alone l ks)
 
+-- words are refused by the kinds of error that clap may answer, and read where it has none
 abbrev pub read_by : Kinds → Bool → List Row → Option (Text × List Row) → Reading
 read_by [] alone top entered = line_in top entered
 read_by (k ∷ ks) alone top entered = refusals alone k ks
@@ -68,20 +72,24 @@ reading words = read_by (faults words) (length words == 1) (top_rows words) (ent
 
 -- ---- what may be answered
 
+-- the command line has the command and the options that the words are read as
 abbrev pub GivesLine : Reading → CommandLine → Type 0
 GivesLine (command asked options) l = (asked_of l.word ≡ asked) × (texts_of l.options ≡ options)
 GivesLine _ l = ⊥
 
+-- the words may be answered by the help
 abbrev pub MayHelp : Reading → Type 0
 MayHelp help = ⊤
 MayHelp help_or_wrong = ⊤
 MayHelp _ = ⊥
 
+-- the words may be answered by the version
 abbrev pub MayTellVersion : Reading → Type 0
 MayTellVersion version = ⊤
 MayTellVersion help_or_wrong = ⊤
 MayTellVersion _ = ⊥
 
+-- the words may be answered as wrong
 abbrev pub MayRefuse : Reading → Type 0
 MayRefuse wrong = ⊤
 MayRefuse help_or_wrong = ⊤
@@ -95,6 +103,7 @@ GivesFault line.Wrong r = MayRefuse r
 GivesFault (line.Options why) r = MayRefuse r
 GivesFault line.NoMemory r = ⊤
 
+-- what `read_words` returns agrees with how the words are read
 abbrev pub GivesReading : Reading → Result CommandLine LineFault → Type 0
 GivesReading r (Ok l) = GivesLine r l
 GivesReading r (Err f) = GivesFault f r
@@ -114,6 +123,7 @@ bare_order _ = None
 abbrev pub NamesOrder : List (List ℕ) → Order → Type 0
 NamesOrder words o = bare_order (reading words) ≡ Some o
 
+-- a service without an option, if the words are read as that
 abbrev pub bare_service : Reading → Option ServiceWord
 bare_service (command (service s) options) = cond (is_bare options) (Some s) None
 bare_service _ = None

@@ -6,6 +6,7 @@ use Rattle.command_line.specs.declared.names.CommandName.TheVariants.{One, Check
 use Rattle.command_line.specs.declared.names.OptionName.{OptionName}
 use Rattle.command_line.specs.declared.names.OptionName.TheVariants.{Input, Json, Strict, State, SnapshotEvery}
 
+-- how a command is written
 abbrev pub name_text : CommandName → List ℕ
 name_text One = codes "one"
 name_text Check = codes "check"

@@ -22,19 +22,23 @@ pub record OptionTexts : Type 0 where
   pub state : Option (List ℕ)
   pub snapshot_every : Option (List ℕ)
 
+-- no option is stated
 abbrev pub no_options : OptionTexts
 no_options = record { input = None; has_json = false; has_strict = false; state = None; snapshot_every = None }
 
 -- ---- the options of the program
 
+-- the output is written as objects of JSON
 abbrev pub is_json : OutputFormat → Bool
 is_json Plain = false
 is_json JsonLines = true
 
+-- unknown keys of a plant file are refused
 abbrev pub is_strict : UnknownKeyHandling → Bool
 is_strict Warn = false
 is_strict Refuse = true
 
+-- the options of the program, as texts
 abbrev pub texts_of : ProgramOptions → OptionTexts
 texts_of options = record {
   input = option_map (λ value. value.now) options.input;
@@ -50,6 +54,7 @@ texts_of options = record {
 abbrev pub is_set : OptionName → List Row → Bool
 is_set option rows = option_map_or (λ text. bytes_eq text (codes "true")) (first_of (option_text option) rows) false
 
+-- the options before a command or after it, by the values that clap has of them
 abbrev pub options_in : List Row → OptionTexts
 options_in rows = record {
   input = first_of (option_text Input) rows;
@@ -61,6 +66,7 @@ options_in rows = record {
 
 -- ---- both places
 
+-- the option is stated
 abbrev pub is_found : OptionTexts → OptionName → Bool
 is_found options Input = is_some options.input
 is_found options Json = options.has_json
@@ -73,6 +79,7 @@ abbrev pub is_bare : OptionTexts → Bool
 is_bare options = not (is_found options Input || (is_found options Json || (is_found options Strict
     || (is_found options State || is_found options SnapshotEvery))))
 
+-- the options before a command together with those after it
 abbrev pub joined : OptionTexts → OptionTexts → OptionTexts
 joined top own = record {
   input = option_or top.input own.input;
@@ -82,6 +89,7 @@ joined top own = record {
   snapshot_every = option_or top.snapshot_every own.snapshot_every;
 }
 
+-- the option is before the command and after it
 abbrev pub is_in_both : OptionTexts → OptionTexts → OptionName → Bool
 is_in_both top own option = is_found top option && is_found own option
 
@@ -90,6 +98,7 @@ abbrev pub is_twice : OptionTexts → OptionTexts → Bool
 is_twice top own = is_in_both top own Input || (is_in_both top own Json || (is_in_both top own Strict
     || (is_in_both top own State || is_in_both top own SnapshotEvery)))
 
+-- the option is before a command that does not have it
 abbrev pub is_stray : OptionTexts → CommandName → OptionName → Bool
 is_stray top command option = is_found top option && not (has_option option command)
 
@@ -101,6 +110,7 @@ is_beyond top command = is_stray top command Json || (is_stray top command Stric
 abbrev pub is_mismatch : OptionTexts → Bool
 is_mismatch options = (is_found options SnapshotEvery && not (is_found options State)) || (is_found options Json && is_found options State)
 
+-- the options are wrong: one is at both places, is not one of the command's, or does not go with another one
 abbrev pub are_wrong : CommandName → OptionTexts → OptionTexts → Bool
 are_wrong command top own = is_twice top own || (is_beyond top command || is_mismatch (joined top own))
 

@@ -37,6 +37,7 @@ batch_order (batch.Run report.Capture) = capture
 batch_order (batch.Run report.Trace) = trace
 batch_order (batch.Run (report.History operator)) = history operator.now
 
+-- what a word of the program orders
 abbrev pub order_of : Word → Order
 order_of word.Serve = serve
 order_of (word.Batch batch) = batch_order batch
@@ -46,6 +47,7 @@ pub data Asked : Type 0 where
   order : Order → Asked
   service : ServiceWord → Asked
 
+-- what the word of a command asks for: an order or a service
 abbrev pub asked_of : CommandWord → Asked
 asked_of (any.Order w) = order (order_of w)
 asked_of (any.Service w) = service w
@@ -83,6 +85,7 @@ abbrev pub operand_of : Asked → Option (List ℕ)
 operand_of (order (history operator)) = Some operator
 operand_of _ = None
 
+-- an operand as words: after `--`, so that it is not read as an option
 abbrev pub after_hyphens : Option (List ℕ) → List (List ℕ)
 after_hyphens None = []
 after_hyphens (Some operand) = codes "--" ∷ operand ∷ []

@@ -44,6 +44,7 @@ pub fn read_command_line<'a>(
     alloc: Global,
     words: &'a [&'a str],
 ) -> Result<CommandLine<'a>, LineFault>
+    // A command with its options, help, the version, or wrong, by clap's own definitions; or memory ran out.
     ensures { GivesReading (reading (texts words.entry.now)) result }
 {
     match matches_of(alloc, words) {
@@ -166,8 +167,10 @@ fn words_fault(fault: LineFault) -> WordsFault
 /// An `Err` is help that was asked for, an invalid command line, or a failed allocation, which any command line may meet. No
 /// clause says more of the text of help than that it is there: clap promises nothing of it.
 pub fn read_words<'a>(alloc: Global, words: &'a [&'a str]) -> Result<Word<'a>, WordsFault>
+    // A command is returned only if the arguments name it and have no option.
     ensures ok { IfOk result (λ word. NamesOrder (texts words.entry.now) (order_of word)) }
     ensures fault { IfErr result (Allows (texts words.entry.now)) }
+    // It is returned if they do, unless memory runs out.
     ensures named { (o : Order) → NamesOrder (texts words.entry.now) o → GivesOrder o result }
     ensures help { AsksHelp (texts words.entry.now) → GivesHelp result }
     ensures wrong { AreWrong (texts words.entry.now) → GivesWrong result }
@@ -227,6 +230,7 @@ fn command_texts<'a>(alloc: Global, word: CommandWord<'a>) -> Result<Vec<&'a str
 /// Returns words of a command without an option.
 pub fn bare_words<'a>(alloc: Global, word: CommandWord<'a>) -> Result<Vec<&'a str>, AllocError>
     ensures texts { IfOk result (λ words. texts words.items ≡ bare_texts (asked_of word.entry)) }
+    // The arguments are read as that command.
     ensures read { IfOk result (λ words. reading (texts words.items) ≡ command (asked_of word.entry) no_options) }
 {
     command_texts(alloc, word)

@@ -3,6 +3,7 @@ use Rattle.std.specs.Prelude.{ℕ}
 use Rattle.dsx_messages.specs.declared.code.Code.{Code}
 use Rattle.dsx_messages.specs.declared.code.Code.TheVariants.{Okay, RejectOther, RejectUnrecognizedSetting, RejectTemporary, RejectPermanent, RejectNotOwner, RejectFlowNotFound, RejectRequiredParameterNotPresent, RejectUnknownTransaction, RejectDuplicateReference, RejectMultipleUpstreamFlows, RejectInvalidForContext, RejectAuthorizationFailure}
 
+-- the number of each confirmation code (Annex C, C.4)
 abbrev pub code_number : Code → ℕ
 code_number Okay = 0
 code_number RejectOther = 1

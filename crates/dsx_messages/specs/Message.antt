@@ -50,7 +50,9 @@ pub record SaysSfid (body : List ℕ) (sfid : ℕ) : Type 0 where
   pub spelling : body ≡ reserved ++ (field ++ more)
   pub sfid_is : sfid ≡ long field
 
--- What a message says, by its type byte.
+-- What the bytes of a message say, by the type byte: a header with the transaction ID, and after it a list of TLVs (DSA-REQ, DSC-REQ), an
+-- SFID (DSD-REQ) or a confirmation code (DSA-ACK, DSC-ACK). No TLV of the list is of a type that is left out, and its type 24s say the
+-- flows in order.
 abbrev pub Says : List ℕ → Message → Type 0
 Says bytes (messages.Request (requests.Dsa tid flows)) = (list : List ℕ) × IsHeaded bytes dsa_req tid list × SaysFlows list flows
 Says bytes (messages.Request (requests.Dsc tid flows)) = (list : List ℕ) × IsHeaded bytes dsc_req tid list × SaysFlows list flows
@@ -118,8 +120,8 @@ pub record IsLeftOutIn (list : List ℕ) (found : ℕ) : Type 0 where
   pub first : find is_left_out tlvs ≡ Some t
   pub found_is : found ≡ t.kind
 
--- The first fault: no byte, a type that is not ours, a fixed part cut short, a cut list, a type that is left out, a flow
--- invalid encoding.
+-- The first fault: no byte, a type that is not ours, a fixed part cut short, a cut list, a type that is left out, or the first invalid flow
+-- encoding.
 abbrev pub IsFirstMessageFault : List ℕ → MessageFault → Type 0
 IsFirstMessageFault bytes faults.Empty = bytes ≡ []
 IsFirstMessageFault bytes (faults.NotOurs mtype) = (body : List ℕ) × (bytes ≡ mtype ∷ body) × IsForeign mtype

@@ -44,6 +44,7 @@ abbrev pub flow_told : ℕ → Kind → Result FlowFields FlowFault → Result F
 flow_told tid kind (Ok flow) = Ok flow
 flow_told tid kind (Err e) = Err (faults.Tlv tid kind (id_of_fault kind e) e.fault)
 
+-- what the value of one type 24 says, in a request of this kind and transaction ID
 unfoldable pub flow_in : ℕ → Kind → List ℕ → Result FlowFields MessageFault
 flow_in tid kind value = flow_told tid kind (flow_of value)
 
@@ -57,14 +58,17 @@ abbrev pub flows_unless : ℕ → Kind → Option ℕ → List (List ℕ) → Re
 flows_unless tid kind None values = flows_read_after tid kind [] values
 flows_unless tid kind (Some found) values = Err (faults.LeftOut tid kind found)
 
+-- the first type of these TLVs that is left out, if there is one
 abbrev pub left_out_in : List Tlv → Option ℕ
 left_out_in tlvs = option_map (λ t. t.kind) (find is_left_out tlvs)
 
+-- what the TLVs at the front of a list say; where a rest is left, the list is cut there
 abbrev pub flows_in_front : ℕ → Kind → List ℕ → Front → Result (List FlowFields) MessageFault
 flows_in_front tid kind list front =
     if length front.rest == 0 then flows_unless tid kind (left_out_in front.tlvs) (values_of upstream_service_flow front.tlvs)
     else Err (faults.Tlv tid kind None (Cut (length list - length front.rest)))
 
+-- the flow encodings of a list of TLVs in order, or the list's first fault
 unfoldable pub flows_in : ℕ → Kind → List ℕ → Result (List FlowFields) MessageFault
 flows_in tid kind list = flows_in_front tid kind list (front_of list)
 
@@ -75,20 +79,23 @@ abbrev pub request_with_flows : Kind → ℕ → List FlowFields → Request
 request_with_flows Dsa tid flows = requests.Dsa tid flows
 request_with_flows kind tid flows = requests.Dsc tid flows
 
+-- a DSA-REQ or DSC-REQ after its type byte: a transaction ID and a list of TLVs (6.4.12, 6.4.15)
 abbrev pub flows_request_of : Kind → List ℕ → Result Message MessageFault
 flows_request_of kind (high ∷ low ∷ list) =
     flows_in (word (high ∷ low ∷ [])) kind list >>= λ flows. Ok (messages.Request (request_with_flows kind (word (high ∷ low ∷ [])) flows))
 flows_request_of kind body = Err faults.Short
 
+-- a DSD-REQ after its type byte: a transaction ID, two reserved bytes and an SFID; what follows is not read (6.4.18)
 abbrev pub deletion_of : List ℕ → Result Message MessageFault
 deletion_of (high ∷ low ∷ reserved ∷ reserved' ∷ a ∷ b ∷ c ∷ d ∷ more) = Ok (messages.Request (requests.Dsd (word (high ∷ low ∷ [])) (long (a ∷ b ∷ c ∷ d ∷ []))))
 deletion_of body = Err faults.Short
 
+-- a DSA-ACK or DSC-ACK after its type byte: a transaction ID and a confirmation code; what follows is not read (6.4.14, 6.4.17)
 abbrev pub ack_of : Kind → List ℕ → Result Message MessageFault
 ack_of kind (high ∷ low ∷ code ∷ more) = Ok (messages.Ack kind (word (high ∷ low ∷ [])) code)
 ack_of kind body = Err faults.Short
 
--- a message by its type byte
+-- what the bytes of a message say, or their first fault, by the type byte: the result of reading as a function
 unfoldable pub message_of : List ℕ → Result Message MessageFault
 message_of [] = Err faults.Empty
 message_of (mtype ∷ body) =

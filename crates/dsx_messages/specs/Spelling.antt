@@ -24,6 +24,7 @@ response_type Dsa = dsa_rsp
 response_type Dsc = dsc_rsp
 response_type Dsd = dsd_rsp
 
+-- the identifier that a reply names: a reference of two bytes, or an SFID of four
 abbrev pub id_tlv : Option FlowId → List Tlv
 id_tlv None = []
 id_tlv (Some (Reference reference)) = tlv reference_subtype (to_be_bytes w16 reference) ∷ []
@@ -53,6 +54,8 @@ abbrev pub tail_of : Kind → Code → Detail → List ℕ
 tail_of Dsd code detail = 0 ∷ []
 tail_of kind code detail = spelled (tlvs_in code detail)
 
+-- the one spelling of a reply: the message type, the transaction ID, the confirmation code, and what goes with these
+-- (implementation-specific layout)
 abbrev pub spell_reply : ReplyFields → List ℕ
 spell_reply reply =
     response_type reply.kind ∷ (to_be_bytes w16 reply.tid ++ code_number reply.code ∷ tail_of reply.kind reply.code reply.detail)

@@ -10,12 +10,14 @@ abbrev pub first_some : Option ℕ → Option ℕ → Option ℕ
 first_some None other = other
 first_some (Some n) other = Some n
 
+-- the type of a TLV, if it is one that is left out: 22, 23, 25 or 26
 abbrev pub left_out_kind : ℕ → Option ℕ
 left_out_kind kind =
     if (kind == upstream_classifier) || (kind == downstream_classifier) || (kind == downstream_service_flow) ||
     (kind == payload_header_suppression) then Some kind
     else None
 
+-- how many flow encodings a TLV of this type is: 1 of type 24, else 0
 abbrev pub flow_count : ℕ → ℕ
 flow_count kind = if kind == upstream_service_flow then 1 else 0
 

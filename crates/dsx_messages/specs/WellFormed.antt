@@ -27,5 +27,6 @@ GoesWith Dsa code (Given (Some reference) sfid (Some sid)) = (code ≡ Okay) × 
 GoesWith Dsc code (Given None sfid sid) = (code ≡ Okay) × IfSome sid (λ n. n < 16384)
 GoesWith kind code (Given reference sfid sid) = ⊥
 
+-- the detail of a reply goes with its kind and its confirmation code; the type `Reply` keeps it
 abbrev pub IsWellFormed : ReplyFields → Type 0
 IsWellFormed reply = GoesWith reply.kind reply.code reply.detail

@@ -11,6 +11,7 @@ abbrev pub FitsId : FlowId → Type 0
 FitsId (Reference reference) = reference < 2 ^ 16
 FitsId (Sfid sfid) = sfid < 2 ^ 32
 
+-- each number of a detail has no more bits than its field: a reference and a SID 16, an SFID 32, a subtype 8
 abbrev pub FitsDetail : Detail → Type 0
 FitsDetail Nothing = Unit {0}
 FitsDetail (Given reference sfid sid) = IfSome reference (λ n. n < 2 ^ 16) × (sfid < 2 ^ 32) × IfSome sid (λ n. n < 2 ^ 16)

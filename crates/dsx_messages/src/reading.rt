@@ -249,10 +249,10 @@ pub fn read(alloc: Global, bytes: &[u8]) -> Result<Message, MessageFault>
     // What is read is what the bytes say, and what they say is read, unless memory runs out.
     ensures found { IfOk result (Says bytes.now) }
     ensures only { (m : Message) → Says bytes.now m → Gives message_cause (λ message. message) result (Ok m) }
-    // Else the first fault.
+    // Otherwise the first fault in this order.
     ensures fault { IfErr result (IsFirstMessageFault bytes.now) }
     ensures exact { Gives message_cause (λ message. message) result (message_of bytes.now) }
-    // Memory runs out only where the flow encodings of a request are kept.
+    // Memory runs out only for a request whose whole list holds flow encodings.
     ensures memory { result ≡ Err NoMemory → BringsFlows bytes.now }
 {
     message_of(alloc, bytes)

@@ -65,7 +65,9 @@ fn detail_of(kind: Kind, code: Code, tail: &[u8]) -> Option<Detail>
 
 /// Reads a reply: some exactly for the bytes that `write_reply` gives for it. Takes no memory.
 pub fn read_reply(bytes: &[u8]) -> Option<Reply>
+    // A reply is returned only for its one spelling.
     ensures spelled { IfSome result (λ reply. bytes.now ≡ spell_reply reply) }
+    // Each spelling of a reply is read.
     ensures every { (reply : ReplyFields) → IsWellFormed reply → FitsReply reply → bytes.now ≡ spell_reply reply
         → result ≡ Some reply }
 {

@@ -30,7 +30,8 @@ count_line count = codes "line " ++ decimal count
 abbrev pub joined_text : List (List ℕ) → List ℕ
 joined_text lines = flat_map (λ line. line ++ 10 ∷ []) lines
 
--- these lines say that so many lines were done before, and after the first of them the text of these states, whose plant file is of this plant
+-- these lines say that so many lines were done before, and after the first of them the text of these states, whose plant file is of this
+-- plant
 pub record SaysState (snapshot : List (List ℕ)) (count : ℕ) (plant : PlantFields) (saved : Snapshot) : Type 0 where
   pub lines : List (List ℕ)
   pub lines_are : snapshot ≡ count_line count ∷ lines
@@ -82,19 +83,19 @@ pub record LeadsTo (content : JournalContent) (plant : PlantFields) (live : Core
   pub done : AreLinesDone plant (saved_start plant saved) [] [] (before + 1) content.lines live text
   pub count_is : count ≡ before + length content.lines
 
--- the file stands for what leads there
+-- the file stands for a saved state and lines that lead there
 pub record IsLeading (content : Option JournalContent) (plant : PlantFields) (live : CoreView) (count : ℕ) : Type 0 where
   pub stored : JournalContent
   pub stands_for : content ≡ Some stored
   pub leads : LeadsTo stored plant live count
 
--- it stands for this state, and for these lines since
+-- the file stands for this saved state, and for these lines since
 pub record StandsForState (content : Option JournalContent) (count : ℕ) (plant : PlantFields) (saved : Snapshot) (lines : List (List ℕ)) : Type 0 where
   pub snapshot : List (List ℕ)
   pub stands_for : content ≡ Some (record { snapshot = snapshot; lines = lines })
   pub says : SaysState snapshot count plant saved
 
--- the file stands for a journal that was begun with this plant file, and has no line
+-- the file stands for a journal that was begun with this plant file, whose plant it opens, and that has no line
 pub record IsBegunWith (file : List ℕ) (content : Option JournalContent) : Type 0 where
   pub plant : PlantFields
   pub saved : Snapshot
@@ -110,7 +111,7 @@ pub record IsKeptSnapshot (saved : Snapshot) (count : ℕ) (snapshot : List (Lis
   pub text_is : joined_text lines ≡ text_of_snapshot saved
   pub says : SaysState snapshot count plant read
 
--- they are the state of this core after so many lines
+-- these lines are the state of this core after so many lines
 pub record IsKeptState (live : CoreView) (file : List ℕ) (count : ℕ) (snapshot : List (List ℕ)) (plant : PlantFields) (read : Snapshot) : Type 0 where
   pub saved : Snapshot
   pub of_core : IsCoreSnapshot live file saved

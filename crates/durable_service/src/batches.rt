@@ -43,7 +43,7 @@ pub fn do_batch<D: Device>(
     // The lines are on the disk.
     ensures acknowledged { OnOk result (IsJournalSettled D.seen D.may_leave journal.new.device journal.new.gate
         × (journal_content (D.seen journal.new.device) ≡ with_lines (texts lines.now) (journal_content (D.seen journal.old.device)))) }
-    // After whatever run led to the core, they are done, and this is the text of their answers.
+    // After whatever run led to the core, they are done, and the text is exactly that of their answers, by number.
     ensures done { IfOk result (λ text. BehindEachRun (live_view service.old.core) (λ plant start before shown. AreLinesDone plant start before shown
         (service.old.count + 1) (texts lines.now) (live_view service.new.core) text.items)) }
     ensures reached { OnOk result (IsReachableFromStart (live_view service.new.core)) }
@@ -58,7 +58,7 @@ pub fn do_batch<D: Device>(
     ensures any_moment { LeavesOnly D.moment D.left_since journal.old.device journal.new.device
         (IsBeforeOrAfter (journal_content (D.seen journal.old.device)) (with_lines (texts lines.now) (journal_content (D.seen journal.old.device)))) }
 
-    // It does not give up by itself.
+    // `Disk` comes only if the disk has failed.
     ensures disk { result ≡ Err faults.Disk → D.faults journal.old.device < D.faults journal.new.device }
     ensures no_journal { result ≡ Err faults.NoJournal → ⊥ }
     ensures counted { D.faults journal.old.device ≤ D.faults journal.new.device }

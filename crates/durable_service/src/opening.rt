@@ -44,6 +44,7 @@ pub fn redo_lines(
         → IsRestarted plant saved.frame (states_of saved) (live_view service.old.core)
         → LeadsTo content plant (live_view service.new.core) service.new.count) }
     ensures count { OnOk result (service.new.count ≡ service.old.count + length lines.now) }
+    // Too many lines are reported only from 2^64 - 1 on.
     ensures many { result ≡ Err failures.TooManyLines → 18446744073709551615 ≤ service.old.count + length lines.now }
     ensures same { service.new.file ≡ service.old.file }
 {

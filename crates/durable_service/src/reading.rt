@@ -95,6 +95,7 @@ pub fn read_state<D: Device>(alloc: Global, device: &mut D) -> Result<SavedState
     // After a restart, what is read is what is on the disk.
     requires { Only (D.seen device.old) (D.may_leave device.old) }
 
+    // The state and the lines that the journal has.
     ensures found { IfOk result (λ state. StandsForState (journal_content (D.seen device.new)) state.start.count state.start.plant
         state.start.saved (texts state.lines.items)) }
     ensures same { OnOk result (journal_content (D.seen device.new) ≡ journal_content (D.seen device.old)) }
@@ -104,8 +105,9 @@ pub fn read_state<D: Device>(alloc: Global, device: &mut D) -> Result<SavedState
     ensures any_moment { LeavesOnly D.moment D.left_since device.old device.new
         (λ c. journal_content c ≡ journal_content (D.seen device.old)) }
 
+    // Only for a file that is not a journal.
     ensures no_journal { result ≡ Err faults.NoJournal → journal_content (D.seen device.old) ≡ None }
-    // It does not give up by itself.
+    // `Disk` comes only if the disk has failed.
     ensures disk { result ≡ Err faults.Disk → D.faults device.old < D.faults device.new }
     ensures counted { D.faults device.old ≤ D.faults device.new }
 {

@@ -87,13 +87,14 @@ pub fn begin_state<D: Device>(
     ensures found { IfOk result (λ state. StandsForState (journal_content (D.seen device.new)) 0 state.start.plant state.start.saved []) }
     ensures settled { IfOk result (λ state. IsJournalSettled D.seen D.may_leave device.new state.gate) }
     ensures new { IfOk result (λ state. (state.start.count ≡ 0) × (state.lines.items ≡ [])) }
+    // The state opens the plant of the plant file.
     ensures opening { IfOk result (λ state. IsOpeningState file state.start.plant state.start.saved) }
 
     // A crash at any moment leaves what it might have left before, or a journal that opens the plant and has no line.
     ensures any_moment { LeavesOnly D.moment D.left_since device.old device.new (λ c. D.may_leave device.old c
         ⊎ IsBegunWith file (journal_content c)) }
 
-    // It does not give up by itself.
+    // `Disk` comes only if the disk has failed.
     ensures disk { result ≡ Err faults.Disk → D.faults device.old < D.faults device.new }
     ensures no_journal { result ≡ Err faults.NoJournal → ⊥ }
     ensures counted { D.faults device.old ≤ D.faults device.new }
@@ -138,6 +139,8 @@ pub fn snapshot_to_keep(
 /// Returns the state of a service that is to take the place of the lines before it, or that its core does not rest. What is returned was
 /// read back from its lines.
 pub fn state_to_keep(alloc: Global, service: &DurableState) -> Result<KeptState, JournalStateFault>
+    // The state is that of the core, as it was read back. It is what the core has, if the values fit the types of a
+    // machine.
     ensures { IfOk result (λ kept. IsKeptState (live_view service.now.core) service.now.file service.now.count kept.snapshot
         kept.start.plant kept.start.saved) }
 {
@@ -168,7 +171,7 @@ pub fn put_snapshot<D: Device>(
     ensures any_moment { LeavesOnly D.moment D.left_since journal.old.device journal.new.device
         (IsBeforeOrAfter (journal_content (D.seen journal.old.device)) (fresh snapshot.now)) }
 
-    // It does not give up by itself.
+    // `Disk` comes only if the disk has failed.
     ensures disk { result ≡ Err faults.Disk → D.faults journal.old.device < D.faults journal.new.device }
     ensures no_journal { result ≡ Err faults.NoJournal → ⊥ }
     ensures counted { D.faults journal.old.device ≤ D.faults journal.new.device }

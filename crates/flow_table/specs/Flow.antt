@@ -18,6 +18,7 @@ abbrev pub pending_admitted : Option Pending → Option ParamFields
 pending_admitted None = None
 pending_admitted (Some pending) = pending.sets.admitted
 
+-- of minislots and of elements the greater, each by itself
 abbrev pub greater_of : Budget → Budget → Budget
 greater_of a b = record { minislots = max a.minislots b.minislots; elements = max a.elements b.elements }
 
@@ -27,6 +28,7 @@ committed_of units flow = greater_of (need_if units flow.sets.admitted) (need_if
 
 -- ---- who asks
 
+-- the flow gets its grants without a request: the kind is unsolicited grants
 abbrev pub is_unsolicited : Scheduling → Bool
 is_unsolicited UnsolicitedGrant = true
 is_unsolicited kind = false
@@ -56,6 +58,7 @@ with_pending frame flow (Some pending) = record flow {
   backlog = if asks_for_grants pending.sets.active then flow.backlog else 0;
 }
 
+-- an acknowledgement of code 0 makes the pending sets, if there are some, the flow's
 abbrev pub flow_after_ack : ℕ → Flow → Flow
 flow_after_ack frame flow = with_pending frame flow flow.pending
 
@@ -64,6 +67,7 @@ abbrev pub without_pending : Flow → Option Pending → Flow
 without_pending flow None = flow
 without_pending flow (Some pending) = record flow { sid = if pending.sid_is_new then None else flow.sid; pending = None }
 
+-- the pending sets, if there are some, are taken back
 abbrev pub taken_back : Flow → Flow
 taken_back flow = without_pending flow flow.pending
 

@@ -32,6 +32,7 @@ with_place sfid place (Some had) places = places
 abbrev pub flows_by : (ℕ → Option Flow) → List (ℕ × ℕ) → List (ℕ × Flow)
 flows_by at places = filter_map (λ entry. option_map (λ flow. (entry.0, flow)) (at entry.1)) places
 
+-- the flows of one operator, each under its SFID
 abbrev pub flows_of : Slab (Box Flow) → List (ℕ × ℕ) → List (ℕ × Flow)
 flows_of rows places = flows_by (flow_in rows) places
 

@@ -13,6 +13,7 @@ abbrev pub change_if : ℕ → (Flow → Flow) → List (ℕ × Flow) → Option
 change_if sfid change flows None = flows
 change_if sfid change flows (Some flow) = with_flow sfid (change flow) flows
 
+-- what an acknowledgement, an undo, a request or a grant makes of the flows: that of the SFID, if there is one, is changed so
 abbrev pub change_at : ℕ → (Flow → Flow) → List (ℕ × Flow) → List (ℕ × Flow)
 change_at sfid change flows = change_if sfid change flows (flow_at sfid flows)
 
@@ -32,7 +33,7 @@ abbrev pub scheduled_if : ℕ → Option Flow → Option Flowing
 scheduled_if sfid None = None
 scheduled_if sfid (Some flow) = flowing_of_set sfid flow flow.sets.active
 
--- whose the flow is that has a SID, and whether it may ask
+-- who may request with a SID: the modem of the flow that has it, and whether the flow may ask
 abbrev pub asker_of : Option (ℕ × Flow) → Option Asker
 asker_of None = None
 asker_of (Some entry) = Some (record { sfid = entry.0; modem = entry.1.modem; may_ask = asks_for_grants entry.1.sets.active })

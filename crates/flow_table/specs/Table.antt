@@ -10,16 +10,17 @@ use Rattle.slice_scheduler.specs.declared.flowing.Flowing.{Flowing}
 use Rattle.flow_table.specs.declared.flow.Flow.{Flow}
 use Rattle.flow_table.specs.Flow.{committed_of}
 
--- for how many flows there is room, the measures of the channel, and the flows under their SFIDs, ascending
+-- what contracts see of `Flows`: for how many flows there is room, the measures of the channel, and the flows under their SFIDs, ascending
 pub record FlowTable : Type 0 where
   pub capacity : ℕ
   pub units : UnitSizes
   pub flows : List (ℕ × Flow)
 
--- the SFIDs and the SIDs that are used
+-- the SFIDs that are used
 abbrev pub sfids_of : List (ℕ × Flow) → List ℕ
 sfids_of flows = map (λ entry. entry.0) flows
 
+-- the SIDs that are used
 abbrev pub sids_of : List (ℕ × Flow) → List ℕ
 sids_of flows = filter_map (λ entry. entry.1.sid) flows
 
@@ -41,10 +42,11 @@ is_sid sid (Some n) = n == sid
 abbrev pub flow_with : ℕ → List (ℕ × Flow) → Option (ℕ × Flow)
 flow_with sid flows = find (λ entry. is_sid sid entry.1.sid) flows
 
--- what all flows have committed
+-- the minislots of a frame that all flows have committed
 abbrev pub committed_minislots : UnitSizes → List (ℕ × Flow) → ℕ
 committed_minislots units flows = sum_by (λ entry. (committed_of units entry.1).minislots) flows
 
+-- the elements of a MAP that all flows have committed
 abbrev pub committed_elements : UnitSizes → List (ℕ × Flow) → ℕ
 committed_elements units flows = sum_by (λ entry. (committed_of units entry.1).elements) flows
 
@@ -75,6 +77,6 @@ flowing_of_set sfid flow (Some set) = Some (record {
   since = flow.since;
 })
 
--- the flows with an active set, by SFID
+-- the flows with an active set, as they are scheduled, by SFID
 abbrev pub flowing_in : List (ℕ × Flow) → List Flowing
 flowing_in flows = filter_map (λ entry. flowing_of_set entry.0 entry.1 entry.1.sets.active) flows

@@ -15,21 +15,24 @@ use Rattle.operator_model.specs.Slices.{MayRun}
 use Rattle.operator_model.specs.Sound.{IsSound}
 use Rattle.frame_numbers.specs.Seen.{state_as_seen}
 
--- the states differ in how their frames are numbered alone
+-- two states that are seen as the same: they differ in how their frames are numbered alone
 abbrev pub IsRenumbered : UnitSizes → OperatorState → OperatorState → Type 0
 IsRenumbered units a b = state_as_seen units a ≡ state_as_seen units b
 
 -- ---- numbers where the frame `from` is called `to`
 
+-- the number of a frame, as many frames after `to` as it was after `from`
 abbrev pub number_moved : ℕ → ℕ → ℕ → ℕ
 number_moved from to number = number + to - from
 
+-- an action whose slice change is from a frame of the other numbers on; any other action is the same
 abbrev pub action_moved : ℕ → ℕ → Action → Action
 action_moved from to (Arrive modem heard) = Arrive modem heard
 action_moved from to Work = Work
 action_moved from to Tick = Tick
 action_moved from to (Reslice first row) = Reslice (number_moved from to first) row
 
+-- an output whose frame has its number of the other numbers; any other output is the same
 abbrev pub output_moved : ℕ → ℕ → Output → Output
 output_moved from to (outputs.Reply modem bytes) = outputs.Reply modem bytes
 output_moved from to (outputs.Silent modem cause) = outputs.Silent modem cause

@@ -24,6 +24,7 @@ flow_seen units frame flow = record flow {
   since = min 255 (frame - flow.since);
 }
 
+-- the flow of an SFID as it is seen before this frame
 abbrev pub entry_seen : UnitSizes → ℕ → ℕ × Flow → ℕ × Flow
 entry_seen units frame entry = (entry.0, flow_seen units frame entry.1)
 
@@ -32,7 +33,7 @@ abbrev pub next_seen : ℕ → Option NextShare → Option NextShare
 next_seen frame None = None
 next_seen frame (Some next) = Some (record { from = next.from - frame; share = next.share })
 
--- all of a state but the number of the next frame
+-- a state in which each frame number is replaced by its distance from the next frame, whose own number is left out
 abbrev pub state_as_seen : UnitSizes → OperatorState → OperatorState
 state_as_seen units state = record state {
   flows = map (entry_seen units state.frame) state.flows;

@@ -9,7 +9,7 @@ use Rattle.frame_numbers.specs.Renumbered.{number_moved}
 abbrev pub KeepsTime : Channel → ℕ → ℕ → Type 0
 KeepsTime channel from to = frame_start channel to ≡ frame_start channel from
 
--- then so has each later frame, and its MAP is the same
+-- where a frame keeps its Alloc Start Time, so does each later frame, and its MAP is the same
 abbrev pub TimeGoesOn : Type 0
 TimeGoesOn = (channel : Channel) (from to number : ℕ) (parts : List ElementsFields) → KeepsTime channel from to → from ≤ number
     → KeepsTime channel number (number_moved from to number)

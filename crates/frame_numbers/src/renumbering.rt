@@ -136,13 +136,18 @@ pub fn renumber(
     saved: &Snapshot,
     to: u32,
 ) -> Result<Snapshot, RenumberFault>
+    // The plant file is the same, and each state is renumbered. It is sound for every row for which the old one is.
     ensures ok { IfOk result (IsRenumberedSnapshot consts.now.units to saved.now) }
     ensures accepted { OnOk result (renumber_refusal consts.now to saved.now ≡ None) }
+    // The Alloc Start Time would not go on.
     ensures time_steps { (result ≡ Err renumber_faults.TimeSteps) ↔ (¬ KeepsTime consts.now.channel saved.now.frame to) }
+    // A flow's start or since would be before frame 0.
     ensures too_low { (result ≡ Err renumber_faults.TooLow)
         ↔ (renumber_refusal consts.now to saved.now ≡ Some renumber_faults.TooLow) }
+    // The frame from which a slice waits would have no number of 32 bits.
     ensures too_high { (result ≡ Err renumber_faults.TooHigh)
         ↔ (renumber_refusal consts.now to saved.now ≡ Some renumber_faults.TooHigh) }
+    // Memory runs out only for what is not refused. No clause says that another number is not refused.
     ensures memory { result ≡ Err renumber_faults.NoMemory → renumber_refusal consts.now to saved.now ≡ None }
 {
     if let Some(fault) = refusal(consts, to, saved) {

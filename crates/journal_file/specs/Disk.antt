@@ -21,11 +21,12 @@ bytes_after (Sync done) bytes file = file
 bytes_after (Replace true) bytes file = bytes
 bytes_after (Replace false) bytes file = file
 
+-- the content of a file that had this content, after these calls
 abbrev pub content_from : List ℕ → List FileEvent → List ℕ
 content_from file [] = file
 content_from file (event ∷ events) = content_from (bytes_after event.0 event.1.items file) events
 
--- the content of the file after all calls, the oldest of them first
+-- what a read returns: the content of the file after all calls, the oldest of them first
 abbrev pub file_content : List FileEvent → List ℕ
 file_content events = content_from [] events
 
@@ -43,6 +44,7 @@ LeavesAfter (Sync false) bytes file before c = before c
 LeavesAfter (Replace true) bytes file before c = c ≡ bytes
 LeavesAfter (Replace false) bytes file before c = before c ⊎ (c ≡ bytes)
 
+-- what a crash may leave after these calls on a file of this content, where it might have left this before them
 abbrev pub LeavesFrom : List ℕ → (List ℕ → Type 0) → List FileEvent → List ℕ → Type 0
 LeavesFrom file before [] c = before c
 LeavesFrom file before (event ∷ events) c =
@@ -70,6 +72,7 @@ is_failure (Truncate len done) = not done
 is_failure (Sync done) = not done
 is_failure (Replace done) = not done
 
+-- how many of the calls failed
 abbrev pub failures : List FileEvent → ℕ
 failures [] = 0
 failures (event ∷ events) = (if is_failure event.0 then 1 else 0) + failures events

@@ -106,9 +106,10 @@ impl JournalFile {
     /// What was read is written anew, to a file that takes its place: a sync of an earlier process that failed may have left the
     /// system's copy of the file other than the disk has it.
     pub fn open(rt: &HostRuntime, folder: &str) -> Result<JournalFile, JournalOpenFault>
-        // This was read of it, and synced.
+        // This was read of the file, which was then written anew and synced. No clause says which fault is returned, or
+        // that the folder is the one that was given.
         ensures opened { IfOk result (λ f. calls_made f ≡ calls_at_opening f) }
-        // So a crash leaves what a read returns.
+        // So a crash leaves what was read.
         ensures durable { IfOk result (λ f. Only (seen_bytes f) (MayLeave (calls_made f))) }
     {
         let alloc = rt.alloc();

@@ -19,6 +19,7 @@ with_comparison comparison members =
     (put (codes "limit") (number (unsigned comparison.limit))
     (put (codes "held") (number (unsigned comparison.held)) members)))
 
+-- the numbers that a check compared, if it compared any
 abbrev pub with_comparison_if : Option Comparison → Members → Members
 with_comparison_if None members = members
 with_comparison_if (Some comparison) members = with_comparison comparison members
@@ -31,6 +32,6 @@ with_check (Some check) members =
     (put (codes "check_name") (string (string_bytes check.name))
     (put (codes "check") (number (unsigned check.number)) members))
 
--- the line of the script, and the check
+-- the members that an object has of the line of the script, of the check that decided it, and of the numbers that the check compared
 abbrev pub with_note : OutputNote → Members → Members
 with_note note members = with_check note.check (put_if (codes "line") note.line members)

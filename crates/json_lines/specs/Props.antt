@@ -25,6 +25,7 @@ value_prop (number (negative z)) = Prim.hlevel props
 value_prop (number (float x)) = Prim.hlevel props
 value_prop (object ms) = Prim.hlevel props
 
+-- that members are writable has at most one proof
 pub members_prop : (ms : Members) → IsProp (AreWritable ms)
 members_prop no_members = Prim.hlevel props
 members_prop (member k d ms) = Prim.hlevel (props, value_prop d, members_prop ms)

@@ -75,6 +75,7 @@ fn put_check(object: &mut JsonObject, check: &DecidingCheck) -> Result<(), Alloc
 
 /// Adds what is known of an output besides its own line.
 pub(crate) fn put_note(object: &mut JsonObject, note: &OutputNote) -> Result<(), AllocError>
+    // An object has the note's line, its check and the numbers of the check, each under its name, and nothing else.
     ensures { OnOk result (members_view object.new.members.entries ≡ with_note note.now (members_view object.old.members.entries)) }
 {
     if let Some(line) = note.line {

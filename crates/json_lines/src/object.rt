@@ -72,6 +72,7 @@ impl JsonObject {
     /// Adds a member that is a list of the words of a text, or replaces it. Blanks separate words. No clause says which words
     /// these are.
     pub fn put_words(&mut self, key: &str, text: &str) -> Result<(), AllocError>
+        // Some list of texts is put: which texts, no clause says.
         ensures { OnOk result ((words : Items) × AreTexts words
             × (members_view self.new.members.entries ≡ put key.now (array words) (members_view self.old.members.entries))) }
     {
@@ -92,6 +93,8 @@ impl JsonObject {
 
 /// Writes an object on a line of its own, with a plain line as its member `text`.
 pub fn write_object<W: Write>(writer: &mut W, object: JsonObject, line: &str) -> io::Result<()>
+    // One text and a line feed, in which there is none. It reads back as the object with just the members that were put
+    // in, and the plain line as the member `text`. No clause gives the kind of an error.
     ensures { OnOk result (HasWritten line.now (members_view object.members.entries) (W.contents writer.old) (W.contents writer.new)) }
 {
     let text = object.to_text(line)?;

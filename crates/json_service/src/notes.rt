@@ -83,6 +83,7 @@ fn check_of(
     decision: Decision,
     comparison: Option<CheckComparison>,
 ) -> Result<DecidingCheck, AllocError>
+    // Which objects have a check, and that it is the one that decided, is only tested.
     ensures number { IfOk result (λ check. IsCheckNumber decision check.number) }
     ensures name { IfOk result (λ check. string_bytes check.name ≡ decision_name decision) }
     ensures comparison { IfOk result (λ check. check.comparison ≡ option_map numbers_of comparison) }

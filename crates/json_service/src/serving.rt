@@ -27,6 +27,7 @@ pub fn serve_opened<R: BufRead, W: Write, N: StepNotes<W>>(
     notes: &N,
     writer: &mut W,
 ) -> Result<(), ServiceFault>
+    // Each line has the answer that it has under `serve` of `line_service`, whatever the notes are.
     ensures served { OnOk result (IfSome (R.remaining reader.old) (λ input. IsServedFromOpening plant input (W.contents writer.old)
         (W.contents writer.new))) }
 

@@ -29,12 +29,12 @@ stored_behind snapshot (b ∷ rest) = if b == 10 then Some (record { snapshot = 
 abbrev pub journal_content : List ℕ → Option JournalContent
 journal_content file = stored_behind (marked_lines 61 file) (drop (length (records 61 (marked_lines 61 file))) file)
 
--- the same snapshot, with these lines at the end
+-- what a batch makes of a journal: the same snapshot, with these lines at the end
 abbrev pub with_lines : List (List ℕ) → Option JournalContent → Option JournalContent
 with_lines new None = None
 with_lines new (Some stored) = Some (record { snapshot = stored.snapshot; lines = stored.lines ++ new })
 
--- this snapshot, and no line since
+-- what another snapshot makes of a journal: this snapshot, and no line since
 abbrev pub fresh : List (List ℕ) → Option JournalContent
 fresh snapshot = Some (record { snapshot = snapshot; lines = [] })
 
@@ -46,6 +46,6 @@ pub record IsJournalSettled {D : Type 0} (seen : D → List ℕ) (may_leave : D 
   pub gate_is_last : gate + 1 ≡ length (seen device)
   pub durable : Only (seen device) (may_leave device)
 
--- the file stands for the one or for the other
+-- the file stands for the one journal or for the other
 abbrev pub IsBeforeOrAfter : Option JournalContent → Option JournalContent → List ℕ → Type 0
 IsBeforeOrAfter before later file = (journal_content file ≡ before) ⊎ (journal_content file ≡ later)

@@ -26,7 +26,7 @@ marked_first mark ((b ∷ line) ∷ lines) = if b == mark then line ∷ marked_f
 abbrev pub marked_lines : ℕ → List ℕ → List (List ℕ)
 marked_lines mark text = marked_first mark (whole_lines text)
 
--- the text of such lines
+-- the text of lines, each with this mark before it and its line feed
 abbrev pub records : ℕ → List (List ℕ) → List ℕ
 records mark [] = []
 records mark (line ∷ lines) = mark ∷ line ++ 10 ∷ records mark lines

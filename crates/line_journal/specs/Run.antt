@@ -9,7 +9,7 @@ abbrev pub content_after : JournalChange → Option JournalContent → Option Jo
 content_after (Append batch) stored = with_lines batch stored
 content_after (Replace snapshot) stored = fresh snapshot
 
--- and what changes make, the first of them first
+-- what changes make of what is stored, the first of them first
 abbrev pub after_all : List JournalChange → Option JournalContent → Option JournalContent
 after_all [] stored = stored
 after_all (change ∷ changes) stored = after_all changes (content_after change stored)

@@ -29,7 +29,7 @@ pub fn begin<D: Device>(
     ensures any_moment { LeavesOnly D.moment D.left_since device.old device.new
         (λ c. D.may_leave device.old c ⊎ (journal_content c ≡ fresh snapshot.now)) }
 
-    // It does not give up by itself.
+    // `Failed` comes only if the disk has failed.
     ensures failed { IsErrOf result DeviceError.Failed → D.faults device.old < D.faults device.new }
     ensures full { IsErrOf result DeviceError.Full → ⊥ }
     ensures counted { D.faults device.old ≤ D.faults device.new }
@@ -45,6 +45,7 @@ impl<D: Device> Journal<D> {
     pub fn append(&mut self, alloc: Global, batch: &Batch) -> Result<(), DeviceError>
         requires { IsJournalSettled D.seen D.may_leave self.old.device self.old.gate }
 
+        // All lines of the batch are on the disk, so every later crash leaves them.
         ensures acknowledged { OnOk result (IsJournalSettled D.seen D.may_leave self.new.device self.new.gate
             × (journal_content (D.seen self.new.device) ≡ with_lines batch.now (journal_content (D.seen self.old.device)))) }
 
@@ -52,8 +53,9 @@ impl<D: Device> Journal<D> {
         ensures any_moment { LeavesOnly D.moment D.left_since self.old.device self.new.device
             (IsBeforeOrAfter (journal_content (D.seen self.old.device)) (with_lines batch.now (journal_content (D.seen self.old.device)))) }
 
-        // It does not give up by itself.
+        // `Failed` comes only if the disk has failed.
         ensures failed { IsErrOf result DeviceError.Failed → D.faults self.old.device < D.faults self.new.device }
+        // `Full` comes only from 2^60 bytes on.
         ensures full { IsErrOf result DeviceError.Full → 2 ^ 60 ≤ self.old.gate }
         ensures counted { D.faults self.old.device ≤ D.faults self.new.device }
         ensures same_gate { OnErr result (self.new.gate ≡ self.old.gate) }
@@ -80,6 +82,7 @@ impl<D: Device> Journal<D> {
     ) -> Result<(), DeviceError>
         requires { IsJournalSettled D.seen D.may_leave self.old.device self.old.gate }
 
+        // The new snapshot is on the disk, with no line.
         ensures acknowledged { OnOk result (IsJournalSettled D.seen D.may_leave self.new.device self.new.gate
             × (journal_content (D.seen self.new.device) ≡ fresh snapshot.now)) }
 
@@ -87,7 +90,7 @@ impl<D: Device> Journal<D> {
         ensures any_moment { LeavesOnly D.moment D.left_since self.old.device self.new.device
             (IsBeforeOrAfter (journal_content (D.seen self.old.device)) (fresh snapshot.now)) }
 
-        // It does not give up by itself.
+        // `Failed` comes only if the disk has failed.
         ensures failed { IsErrOf result DeviceError.Failed → D.faults self.old.device < D.faults self.new.device }
         ensures full { IsErrOf result DeviceError.Full → ⊥ }
         ensures counted { D.faults self.old.device ≤ D.faults self.new.device }

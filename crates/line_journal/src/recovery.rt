@@ -100,16 +100,19 @@ pub fn recover<D: Device>(alloc: Global, device: &mut D) -> Result<Option<Recove
     // After a restart, what is read is what is on the disk.
     requires { Only (D.seen device.old) (D.may_leave device.old) }
 
+    // Exactly the snapshot and the lines that the file has.
     ensures found { IfOk result (λ found. found_of found ≡ journal_content (D.seen device.old)) }
     ensures same { OnOk result (journal_content (D.seen device.new) ≡ journal_content (D.seen device.old)) }
+    // The file is at rest again.
     ensures settled { IfOk result (λ found. IfSome found (λ f. IsJournalSettled D.seen D.may_leave device.new f.gate)) }
+    // A file without a snapshot is left as it is.
     ensures none { IfOk result (λ found. IfNone found (D.seen device.new ≡ D.seen device.old)) }
 
     // A crash at any moment leaves the same snapshot and the same lines.
     ensures any_moment { LeavesOnly D.moment D.left_since device.old device.new
         (λ c. journal_content c ≡ journal_content (D.seen device.old)) }
 
-    // It does not give up by itself.
+    // `Failed` comes only if the disk has failed.
     ensures failed { IsErrOf result DeviceError.Failed → D.faults device.old < D.faults device.new }
     ensures full { IsErrOf result DeviceError.Full → ⊥ }
     ensures counted { D.faults device.old ≤ D.faults device.new }

@@ -26,7 +26,7 @@ impl<D: Device> Journal<D> {
         ensures any_moment { LeavesOnly D.moment D.left_since self.old.device self.new.device
             (IsBeforeOrAfter (journal_content (D.seen self.old.device)) (content_after change.now (journal_content (D.seen self.old.device)))) }
 
-        // It does not give up by itself.
+        // `Failed` comes only if the disk has failed.
         ensures failed { IsErrOf result DeviceError.Failed → D.faults self.old.device < D.faults self.new.device }
         ensures full { IsErrOf result DeviceError.Full → 2 ^ 60 ≤ self.old.gate }
         ensures counted { D.faults self.old.device ≤ D.faults self.new.device }
@@ -42,6 +42,7 @@ impl<D: Device> Journal<D> {
     pub fn apply_all(&mut self, alloc: Global, changes: &[JournalChange]) -> Result<(), DeviceError>
         requires { IsJournalSettled D.seen D.may_leave self.old.device self.old.gate }
 
+        // Each change is on the disk, so every later crash leaves it.
         ensures acknowledged { OnOk result (IsJournalSettled D.seen D.may_leave self.new.device self.new.gate
             × (journal_content (D.seen self.new.device) ≡ after_all changes.now (journal_content (D.seen self.old.device)))) }
 
@@ -49,7 +50,7 @@ impl<D: Device> Journal<D> {
         ensures any_moment { LeavesOnly D.moment D.left_since self.old.device self.new.device
             (IsAfterSome changes.now (journal_content (D.seen self.old.device))) }
 
-        // It does not give up by itself. The gate is that of the change that was not made.
+        // `Failed` comes only if the disk has failed. The gate is that of the change that was not made.
         ensures failed { IsErrOf result DeviceError.Failed → D.faults self.old.device < D.faults self.new.device }
         ensures full { IsErrOf result DeviceError.Full → 2 ^ 60 ≤ self.new.gate }
     {

@@ -36,6 +36,7 @@ impl SnapshotLines {
     pub fn push(&mut self, alloc: Global, line: &[u8]) -> Result<(), LineError>
         ensures ok { OnOk result (self.new ≡ self.old ++ line.now ∷ []) }
         ensures err { OnErr result (self.new ≡ self.old) }
+        // Refused exactly if the line has a line feed.
         ensures line_feed { IsErrOf result LineError.LineFeed ↔ (IsLine line.now → ⊥) }
     {
         if !is_line(line) {

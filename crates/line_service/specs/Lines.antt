@@ -5,7 +5,7 @@ use Rattle.line_service.specs.declared.line_break.LineBreak.{LineBreak}
 use Rattle.line_service.specs.declared.line_break.LineBreak.TheVariants.{Another, End}
 use Rattle.line_service.specs.SoFar.{IsHeld}
 
--- the lines that are left: those of the rest of the input, or none
+-- the lines of the rest of the input, or none at its end
 abbrev pub lines_left : LineBreak → List ℕ → List (List ℕ)
 lines_left Another rest = lines_of rest
 lines_left End rest = []
@@ -16,7 +16,7 @@ pub record IsPartRead (input rest bytes : List ℕ) (is_long : Bool) : Type 0 wh
   pub is_held : IsHeld bytes is_long part
   pub lines_are : lines_of input ≡ parts_from 10 part rest
 
--- the first line is read
+-- the first line of an input is read, and this is after it
 pub record IsLineRead (input rest bytes : List ℕ) (is_long : Bool) (end : LineBreak) : Type 0 where
   pub line : List ℕ
   pub is_held : IsHeld bytes is_long line

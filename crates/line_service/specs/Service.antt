@@ -23,7 +23,7 @@ use Rattle.line_service.specs.declared.line_outcome.LineOutcome.TheVariants.{Don
 
 -- ---- what a line says
 
--- a line of more than 4,096 bytes says nothing
+-- the steps that a line says, or that it is invalid, as a line of more than 4,096 bytes is
 abbrev pub steps_said : PlantFields → ℕ → List ℕ → FieldResult (List LineStep)
 steps_said plant number line = if nat_le (length line) 4096 then line_steps plant number line else Err TooLong
 
@@ -35,6 +35,7 @@ pub record LineRun : Type 0 where
   pub told : List Out
   pub end : LineOutcome
 
+-- the last line of an answer, by how the line ended: none where its steps are done, else `fault: line` with its number, or `fault: memory`
 abbrev pub end_text : ℕ → LineOutcome → List ℕ
 end_text number Done = []
 end_text number AtFault = codes "fault: line " ++ (decimal number ++ 10 ∷ [])
@@ -105,6 +106,7 @@ service_text plant number (answered ∷ more) = answer_text plant number answere
 abbrev pub all_done : List LineRun → List Step
 all_done answers = flat_map (λ answered. answered.done) answers
 
+-- what the steps of all lines output, in order
 abbrev pub all_told : List LineRun → List Out
 all_told answers = flat_map (λ answered. answered.told) answers
 
@@ -117,7 +119,7 @@ pub record IsServiceOf (plant : PlantFields) (start : Start) (before : List Step
 
 -- ---- the law
 
--- what a service has output is shown to each operator as its own machine run alone has it, and in order
+-- what a service has output is shown to each operator as its own machine run alone has it, and in order: `IsTraceOf` and `Ordered`
 abbrev pub ServiceIsShown : Type 0
 ServiceIsShown = (plant : PlantFields) (start : Start) (input : List ℕ) (live : CoreView) (old new : Option (List ℕ)) (service : IsServiceOf plant start [] [] input live old new)
     → IsTraceFrom plant start (all_done service.answers) (all_told service.answers) × OrderedFrom plant start (all_done service.answers) (all_told service.answers)

@@ -100,7 +100,8 @@ pub fn run_steps_by<R: Ranks, W: Write, N: StepNotes<W>>(
     requires reached { IsReachableFromStart (live_view core.old) }
     requires policies { FollowRows (map R.policy rankings.now) (live_view core.old).plant.rows }
     requires placed { ArePlaced (live_view core.old).plant steps.items }
-    // After whatever run led to the core, so many steps are done, and what they output is written.
+    // After whatever run led to the core, so many steps are done, and what they output is written. It ends at the end,
+    // at a refused step, or out of memory at a step that is not refused.
     ensures { IfOk result (λ end. BehindEachRun (live_view core.old) (λ plant start before shown. HasDone plant start before shown
         steps.items (live_view core.new) end (W.contents writer.old) (W.contents writer.new))) }
 {
@@ -121,6 +122,7 @@ pub fn run_steps<W: Write, N: StepNotes<W>>(
 ) -> io::Result<StepsEnd>
     requires reached { IsReachableFromStart (live_view core.old) }
     requires placed { ArePlaced (live_view core.old).plant steps.items }
+    // As that of `run_steps_by`.
     ensures { IfOk result (λ end. BehindEachRun (live_view core.old) (λ plant start before shown. HasDone plant start before shown
         steps.items (live_view core.new) end (W.contents writer.old) (W.contents writer.new))) }
 {
@@ -188,7 +190,8 @@ pub fn answer_line<W: Write, N: StepNotes<W>>(
     writer: &mut W,
 ) -> io::Result<()>
     requires reached { IsReachableFromStart (live_view core.old) }
-    // After whatever run led to the core, the line has such an answer, and it is written.
+    // After whatever run led to the core, the line's steps are done up to the end or the first that is not. Their
+    // outputs are written, and then the line's number, `fault: memory` or nothing.
     ensures { OnOk result (BehindEachRun (live_view core.old) (λ plant start before shown. LineIsAnswered plant start before shown number
         line.now (live_view core.new) (W.contents writer.old) (W.contents writer.new))) }
 {

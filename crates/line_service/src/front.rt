@@ -69,6 +69,7 @@ fn judge_length(text: &[u8], most: usize) -> io::Result<()>
 pub fn read_to_bar<R: Read>(alloc: Global, reader: &mut R, most: usize) -> io::Result<Vec<u8>>
     ensures text { IfOk result (λ text. IfSome (R.remaining reader.old) (λ input. text.items ≡ plant_text input)) }
     ensures script { OnOk result (IfSome (R.remaining reader.old) (λ input. R.remaining reader.new ≡ Some (script_text input))) }
+    // No clause says that a text of at most so many bytes is not refused.
     ensures limit { IfOk result (λ text. length text.items ≤ most) }
 {
     let mut text = Vec::new(alloc);

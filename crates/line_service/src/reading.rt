@@ -67,6 +67,7 @@ fn read_part<R: BufRead>(reader: &mut R, held: &mut LineBuffer) -> io::Result<Op
 /// the reader's, or out of memory.
 pub fn read_line<R: BufRead>(reader: &mut R, held: &mut LineBuffer) -> io::Result<LineBreak>
     requires { IsHeld held.old.bytes.items held.old.is_long [] }
+    // The first line that is left, with the line feed that ends it; of one of more than 4,096 bytes, that it is longer.
     ensures { IfOk result (λ end. WhereKnown (R.remaining reader.old) (R.remaining reader.new)
         (λ input rest. IsLineRead input rest held.new.bytes.items held.new.is_long end)) }
 {

@@ -13,6 +13,7 @@ use std::io::Write;
 pub trait StepNotes<W: Write> {
     /// Notes the number of a line of the script, before it is answered.
     fn note_line(&self, number: u64, writer: &mut W)
+        // Nothing is written. No clause says that a line or a step is noted: that is only tested.
         ensures { W.contents writer.new ≡ W.contents writer.old };
 
     /// Notes a step before the core does it. An error is out of memory, which only a step needs that the core does not refuse.
@@ -23,7 +24,9 @@ pub trait StepNotes<W: Write> {
         step: &Step,
         writer: &mut W,
     ) -> Result<(), AllocError>
+        // Nothing is written.
         ensures kept { W.contents writer.new ≡ W.contents writer.old }
+        // The step is not refused, and is then not performed, as if memory had run out for it.
         ensures memory { OnErr result (step_fault (live_view core.now) step.now ≡ None) };
 }
 

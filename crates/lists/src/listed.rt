@@ -71,6 +71,7 @@ impl<T: Drop> Listed<T> {
     /// Adds an item after the others. If memory runs out the item is lost.
     pub fn push(&mut self, item: T) -> Result<(), AllocError>
         ensures ok { OnOk result (self.new ≡ self.old ++ item ∷ []) }
+        // If memory runs out the list is as before.
         ensures err { OnErr result (self.new ≡ self.old) }
     {
         Ok(self.items.push(item)?)

@@ -27,9 +27,9 @@ pub record IsOperatorFrom (plant : PlantFields) (start : Start) (steps : List St
   pub may : MayRun (operator plant.consts row (start.state row)) (own_steps row i steps)
   pub no_history : book.history ≡ []
 
--- a live core after these steps from a valid start, with these outputs: each operator is as its own machine run alone, its frames
--- that were not collected wait, and the assembly holds those that were collected and are in no MAP; of the slices it may lack
--- those that no frame to come needs
+-- what a live core is after these steps from a valid start, with these outputs: each operator is as its own machine run alone, its frames
+-- that were not collected wait, and the assembly holds those that were collected and are in no MAP, but for slices that no frame to come
+-- needs; the run is `IsTraceFrom` and `OrderedFrom` the start
 pub record IsAfterFrom (plant : PlantFields) (start : Start) (steps : List Step) (outs : List Out) (live : CoreView) : Type 0 where
   pub starts : IsStart plant start
   pub plant_is : live.plant ≡ plant
@@ -45,11 +45,11 @@ pub record IsAfterFrom (plant : PlantFields) (start : Start) (steps : List Step)
   pub gathering_is : GoesOnAlike gathering live.gathering
   pub held : IsGathering gathering
 
--- the same from the opened plant
+-- what a live core is after these steps from the opened plant
 abbrev pub IsAfter : PlantFields → List Step → List Out → CoreView → Type 0
 IsAfter plant steps outs live = IsAfterFrom plant (first_start plant) steps outs live
 
--- some run of its plant leads to it
+-- some run of its plant leads to the live core; the type `LiveCore` keeps it
 abbrev pub IsReachableFromStart : CoreView → Type 0
 IsReachableFromStart live = (start : Start) × (steps : List Step) × (outs : List Out) × IsAfterFrom live.plant start steps outs live
 

@@ -12,16 +12,19 @@ use Rattle.live_core.specs.declared.resume_fault.ResumeFault.TheVariants.{NotAtF
 use Rattle.live_core.specs.DeskView.{book_of}
 use Rattle.live_core.specs.Resumed.{later_of, waits_from}
 
+-- the operator of a machine: what all operators share, its row and its state
 abbrev pub sound_of : Machine → Operator
 sound_of live = live.sound
 
--- its row, its slice in force, and its slice once what waits has taken force
+-- the operator's row
 abbrev pub row_of : Machine → RowFields
 row_of live = live.sound.row
 
+-- the slice in force
 abbrev pub current_slice : Machine → Minislots
 current_slice live = live.sound.state.share.slice
 
+-- the slice once what waits has taken force
 abbrev pub later_at : Machine → Minislots
 later_at live = later_of live.sound
 
@@ -29,16 +32,19 @@ later_at live = later_of live.sound
 abbrev pub book_by : Machine → BookView
 book_by live = book_of live.sound
 
+-- the state is sound under the operator's row
 abbrev pub IsSoundAt : Machine → Type 0
 IsSoundAt live = IsSound live.sound
 
--- it shares this with the others, is at this frame, and its slices wait from this one on
+-- the operator shares these constants with the others
 abbrev pub Shares : ConstsFields → Machine → Type 0
 Shares consts live = live.sound.consts ≡ consts
 
+-- the next frame of the operator is this one
 abbrev pub IsAtFrame : ℕ → Machine → Type 0
 IsAtFrame frame live = live.sound.state.frame ≡ frame
 
+-- the operator's slice waits from this frame on, or none waits
 abbrev pub WaitsFrom : Option ℕ → Machine → Type 0
 WaitsFrom from live = waits_from live.sound ≡ from
 

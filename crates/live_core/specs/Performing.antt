@@ -12,7 +12,7 @@ use Rattle.run_model.specs.IsStateAfter.{CoreView}
 abbrev pub forgotten : BookView → BookView
 forgotten book = record { row = book.row; consts = book.consts; state = book.state; history = [] }
 
--- such a book after an action
+-- a book without its history after an action
 abbrev pub went : BookView → Action → BookView
 went book action = record {
   row = book.row;

@@ -9,7 +9,8 @@ use Rattle.run_model.specs.IsStateAfter.{CoreView}
 use Rattle.live_core.specs.declared.act_plan.ActPlan.{ActPlan}
 use Rattle.live_core.specs.Reachable.{IsOfAStep}
 
--- it is the plan of this action of the operator at this place: of its machine's outputs and its state after it
+-- it is the plan of this action of the operator at this place, which `plan_act` makes and `commit_act` carries out: of its machine's
+-- outputs and its state after it
 pub record IsActPlan (core : CoreView) (op : ℕ) (action : Action) (act : ActPlan) : Type 0 where
   pub of_step : IsOfAStep core.plant op action
   pub op_is : act.op ≡ op

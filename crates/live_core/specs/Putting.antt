@@ -20,6 +20,6 @@ pub record PutsOldest (op : ℕ) (waiting left : List (ℕ × ElementsFields)) (
   pub made_is : IsPutResult old op frame part made
   pub new_is : new ≡ after_put old op part
 
--- the same, with the MAP that is made among the outputs
+-- the assembly has taken the first of these frames, the others wait, and the MAP that is made is among the outputs
 abbrev pub CollectsOldest : ℕ → List (ℕ × ElementsFields) → List (ℕ × ElementsFields) → Gathering → Gathering → List Out → List Out → Type 0
 CollectsOldest op waiting left old new outs outs' = (made : Option MapBytes) × PutsOldest op waiting left old new made × (outs' ≡ outs ++ told_map made)

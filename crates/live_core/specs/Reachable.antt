@@ -14,7 +14,7 @@ use Rattle.run_model.specs.IsStateAfter.{CoreView, IsStateAfter}
 abbrev pub core_of : PlantFields → List BookView → List (List (ℕ × ElementsFields)) → Gathering → CoreView
 core_of plant books queues gathering = record { plant = plant; books = books; queues = queues; gathering = gathering }
 
--- it is what some steps make of the plant's core as it is opened
+-- some steps lead to it from its plant's core as it is opened; the type `PlantCore` keeps it
 abbrev pub IsReachable : CoreView → Type 0
 IsReachable core = (steps : List Step) × (outs : List Out) × IsStateAfter core.plant steps outs core
 

@@ -13,6 +13,7 @@ use Rattle.live_core.specs.declared.core_fault.Unfits.{Unfits}
 use Rattle.live_core.specs.declared.core_fault.ResliceFault.{ResliceFault}
 use Rattle.live_core.specs.declared.core_fault.ResliceFault.TheVariants as faults
 
+-- a book refuses its row for this reason
 abbrev pub is_unfit : Unfit → Option Unfit → Bool
 is_unfit unfits.NotPast (Some unfits.NotPast) = true
 is_unfit unfits.Unfinished (Some unfits.Unfinished) = true
@@ -27,6 +28,7 @@ least_unfit unfit from n (book ∷ books) (row ∷ rows) =
     if is_unfit unfit (unfit_from (operator_of_book book) from row) then Some n else least_unfit unfit from (n + 1) books rows
 least_unfit unfit from n books rows = None
 
+-- the slices of two rows have a minislot in common
 abbrev pub do_meet : SliceRow → SliceRow → Bool
 do_meet a b = slices_overlap (slice_of a) (slice_of b)
 
@@ -45,8 +47,8 @@ least_unfits from books rows = record {
   over_budget = least_unfit unfits.OverBudget from 0 books rows;
 }
 
--- the first of these faults, in the order in which they are reported: those that meet are between those off the frame and a budget
--- over its slice
+-- the first of these faults, in the order in which they are reported, each with its least operator or pair: overlapping slices come between
+-- those off the frame and a budget over its slice
 abbrev pub first_fault : Unfits → Option (ℕ × ℕ) → Option ResliceFault
 first_fault least meeting =
     option_or (option_map (λ op. faults.NotPast op) least.not_past)
@@ -60,6 +62,6 @@ first_fault least meeting =
 abbrev pub row_fault : ℕ → List BookView → List SliceRow → Option ResliceFault
 row_fault from books rows = first_fault (least_unfits from books rows) (least_meeting 0 rows)
 
--- the first fault
+-- why a slice change is refused: the number of its rows, else the first fault
 abbrev pub reslice_fault : ℕ → List BookView → List SliceRow → Option ResliceFault
 reslice_fault from books rows = if length rows == length books then row_fault from books rows else Some faults.Count

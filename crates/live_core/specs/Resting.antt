@@ -23,6 +23,7 @@ abbrev pub RestingIsAtRest : Type 0
 RestingIsAtRest = (plant : PlantFields) (start : Start) (steps : List Step) (outs : List Out) (live : CoreView) (frame : ℕ) → IsAfterFrom plant start steps outs live → Rests live frame
     → IsAtRest (record { plant = plant; start = start; steps = steps; outs = outs }) frame
 
+-- after a run from any start, each book has its operator's row and is in the state in which the run leaves the operator's own machine
 abbrev pub BooksStandNow : Type 0
 BooksStandNow = (plant : PlantFields) (start : Start) (steps : List Step) (outs : List Out) (live : CoreView) → IsAfterFrom plant start steps outs live → (i : ℕ) (row : RowFields) (book : BookView)
     → slice_get plant.rows i ≡ Some row → slice_get live.books i ≡ Some book → (book.row ≡ row) × (book.state ≡ state_now (record { plant = plant; start = start; steps = steps; outs = outs }) i row)

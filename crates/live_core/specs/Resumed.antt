@@ -24,6 +24,7 @@ abbrev pub slice_later : Share → Option NextShare → Minislots
 slice_later share None = share.slice
 slice_later share (Some next) = next.share.slice
 
+-- the slice of an operator once what waits has taken force
 abbrev pub later_of : Operator → Minislots
 later_of o = slice_later o.state.share o.state.next
 
@@ -32,11 +33,12 @@ abbrev pub waiting_if : Option NextShare → List Operator → List Reslicing
 waiting_if None ops = []
 waiting_if (Some next) ops = record { from = next.from; slicing = map later_of ops } ∷ []
 
+-- the slices of all operators that wait for one frame, if the first operator's waits
 abbrev pub waiting_among : List Operator → List Reslicing
 waiting_among [] = []
 waiting_among (o ∷ ops) = waiting_if o.state.next (o ∷ ops)
 
--- where these operators start, at this frame; an operator that is not among them starts opened
+-- where operators at work start a core, at this frame; one that is not among them starts opened
 abbrev pub start_with : PlantFields → ℕ → List Operator → Start
 start_with plant frame ops = record {
   frame = frame;
@@ -48,7 +50,8 @@ start_with plant frame ops = record {
 abbrev pub waits_from : Operator → Option ℕ
 waits_from o = option_map (λ next. next.from) o.state.next
 
--- they are the plant's operators in its order, each sound under its row, all at this frame, and their slices wait for one frame, or none does
+-- they are the plant's operators in its order, each sound under its row, all at this frame, and their slices wait for one frame, or none
+-- does
 pub record MayResume (plant : PlantFields) (frame : ℕ) (ops : List Operator) : Type 0 where
   pub rows_are : map (λ o. o.row) ops ≡ plant.rows
   pub consts_are : All (λ o. o.consts ≡ plant.consts) ops
@@ -89,10 +92,11 @@ IsOddFault frame from ops (InvalidSlice op) = ⊥
 IsOddFault frame from ops (InvalidNextSlice op) = ⊥
 IsOddFault frame from ops NoMemory = ⊥
 
--- the slices in force, and those once what waits has taken force
+-- the slices of all operators that are in force
 abbrev pub slices_now : List Operator → List Minislots
 slices_now ops = map (λ o. o.state.share.slice) ops
 
+-- the slices of all operators once what waits has taken force
 abbrev pub slices_next : List Operator → List Minislots
 slices_next ops = map later_of ops
 
@@ -106,8 +110,8 @@ IsSliceFault plant ops (SliceChangesDiffer op) = ⊥
 IsSliceFault plant ops BeforeFirstFrame = ⊥
 IsSliceFault plant ops NoMemory = ⊤
 
--- what a fault says: an operator does not go along; else the frame is before the plant's first one; else slices are not valid,
--- or an allocation failed
+-- what each refusal of a resumption says, with the first operator that it is about: an operator does not go along; else the frame is before
+-- the plant's first one; else slices are not valid, or an allocation failed
 abbrev pub IsResumeFault : PlantFields → ℕ → List Operator → ResumeFault → Type 0
 IsResumeFault plant frame ops fault =
     IsOddFault frame (first_from ops) ops fault

@@ -125,6 +125,7 @@ impl LiveCore {
 
     /// Returns the first fault of new slices.
     pub fn reslice_fault(&self, from: u32, rows: &[SliceRow]) -> Option<ResliceFault>
+        // Each fault comes exactly in its case, fault by fault over all operators.
         ensures { result ≡ reslice_fault from (live_view self.now).books rows.now }
     {
         if rows.len() != self.desks.len() {

@@ -54,6 +54,7 @@ impl LiveCore {
     pub fn plan_act(&self, alloc: Global, op: Op, action: Action) -> Result<ActPlan, CoreFault>
         requires { IsOfAStep (live_view self.now).plant op action }
         ensures plan { IfOk result (IsActPlan (live_view self.now) op action) }
+        // Refused as the step is.
         ensures fault { IsReported result (act_fault op action (slice_get (live_view self.now).books op)) }
     {
         let Some(policy) = self.policy_of(op) else {
@@ -70,6 +71,7 @@ impl LiveCore {
         op: Op,
         ranking: &R,
     ) -> Result<ActPlan, CoreFault>
+        // What the caller gives follows the policy of the operator's row.
         requires { (book : BookView) → slice_get (live_view self.now).books op ≡ Some book
             → R.policy ranking.now ≡ book.row.policy }
         ensures plan { IfOk result (IsActPlan (live_view self.now) op actions.Tick) }
@@ -158,6 +160,7 @@ impl LiveCore {
         outs: &mut Vec<Out>,
     ) -> Result<(), CoreFault>
         requires { IsOfAStep (live_view self.old).plant op (actions.Arrive modem heard) }
+        // This is the step `Arrive`.
         ensures ok { OnOk result ((now : List Out) × (outs.new.items ≡ outs.old.items ++ now)
             × Performs (Acts op (actions.Arrive modem heard)) (live_view self.old) (live_view self.new) now) }
         ensures outs { OnErr result (outs.new.items ≡ outs.old.items) }

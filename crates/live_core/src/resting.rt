@@ -34,6 +34,7 @@ impl LiveCore {
     /// (implementation-specific).
     pub fn resting_frame(&self) -> Result<u32, RestFault>
         ensures ok { IfOk result (λ frame. Rests (live_view self.now) frame) }
+        // It names the least operator of which a frame waits, or that is before another frame.
         ensures fault { IfErr result (IsRestFault (live_view self.now)) }
         ensures only { (frame : ℕ) → Rests (live_view self.now) frame → result ≡ Ok frame }
     {

@@ -225,8 +225,10 @@ impl LiveCore {
     ) -> Result<LiveCore, ResumeFault>
         requires rows { map row_of lives.items ≡ plant.rows }
         requires consts { All (Shares plant.consts) lives.items }
+        // Each operator is in its state, all at one frame.
         ensures ok { IfOk result (λ core. live_view core
             ≡ started_core plant (start_with plant frame (map sound_of lives.items))) }
+        // The core is as it is reached from there by an empty list of steps.
         ensures reached { IfOk result (λ core. IsAfterFrom plant
             (start_with plant frame (map sound_of lives.items)) [] [] (live_view core)) }
         ensures fault { IfErr result (IsResumeFault plant frame (map sound_of lives.items)) }

@@ -139,6 +139,7 @@ impl LiveCore {
     ) -> Result<(), CoreFault>
         requires { (book : BookView) → slice_get (live_view self.old).books op ≡ Some book
             → R.policy ranking.now ≡ book.row.policy }
+        // The tick is the same step as with the policy of the row.
         ensures ok { OnOk result ((now : List Out) × (outs.new.items ≡ outs.old.items ++ now)
             × Performs (Acts op actions.Tick) (live_view self.old) (live_view self.new) now) }
         ensures outs { OnErr result (outs.new.items ≡ outs.old.items) }
@@ -249,6 +250,7 @@ impl LiveCore {
         ensures ok { OnOk result (Performs (Steps step) (live_view self.old) (live_view self.new) outs.new.items) }
         ensures reached { OnOk result (LeadsOnFromStart (live_view self.old) (step ∷ []) outs.new.items (live_view self.new)) }
         ensures err { OnErr result (live_view self.new ≡ live_view self.old) }
+        // If the step is refused there are no outputs.
         ensures outs { OnErr result (outs.new.items ≡ []) }
         ensures fault { IsReported result (step_fault (live_view self.old) step) }
     {
@@ -325,8 +327,10 @@ impl LiveCore {
         rankings: &[R],
         outs: &mut Vec<Out>,
     ) -> Result<(), CoreFault>
+        // Each ranking follows the policy of the operator's row.
         requires policies { FollowRows (map R.policy rankings.now) (live_view self.old).plant.rows }
         requires placed { IsPlaced (live_view self.old).plant step place }
+        // This is the step of `step_over`. No clause says how often an address is looked up.
         ensures ok { OnOk result (Performs (Steps step) (live_view self.old) (live_view self.new) outs.new.items) }
         ensures reached { OnOk result (LeadsOnFromStart (live_view self.old) (step ∷ []) outs.new.items (live_view self.new)) }
         ensures err { OnErr result (live_view self.new ≡ live_view self.old) }
@@ -348,9 +352,13 @@ impl LiveCore {
 
     /// Performs a step, and returns its outputs. A refused step changes nothing.
     pub fn step(&mut self, alloc: Global, step: Step) -> Result<Vec<Out>, CoreFault>
+        // The step is done to the core as it is, with these outputs.
         ensures ok { IfOk result (λ outs. Performs (Steps step) (live_view self.old) (live_view self.new) outs.items) }
+        // After any steps each operator is as its own machine run alone. `live_run_is_shown` says that the run is one
+        // of the plant.
         ensures reached { IfOk result (λ outs. LeadsOnFromStart (live_view self.old) (step ∷ []) outs.items (live_view self.new)) }
         ensures err { OnErr result (live_view self.new ≡ live_view self.old) }
+        // A step is refused exactly for the stated fault. The assembly refuses no frame.
         ensures fault { IsReported result (step_fault (live_view self.old) step) }
     {
         // For the proof: what always holds of `self`.

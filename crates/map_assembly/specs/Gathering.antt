@@ -13,8 +13,8 @@ use Rattle.map_assembly.specs.Part.{quota_of, is_fitting, IsPartOf}
 use Rattle.map_assembly.specs.Plan.{AreQuotas, AreSlices}
 use Rattle.plant.specs.Consts.{IsChannel}
 
--- what the MAPs have in common, what each operator may put, the plant's slices and the later ones, for each operator the
--- parts that it put and that are in no MAP yet, frame by frame, and the frame whose MAP comes next
+-- what contracts see of a `Gather`: what the MAPs have in common, what each operator may put, the plant's slices and the later ones, for
+-- each operator the parts that it put and that are in no MAP yet, frame by frame, and the frame whose MAP comes next
 pub record Gathering : Type 0 where
   pub channel : Channel
   pub quotas : List Quota
@@ -23,7 +23,7 @@ pub record Gathering : Type 0 where
   pub queues : List (List ElementsFields)
   pub next : ℕ
 
--- nothing is put
+-- what is gathered for a plant of which nothing is put
 abbrev pub gathering_of : PlantFields → Gathering
 gathering_of plant = record {
   channel = plant.consts.channel;
@@ -140,8 +140,8 @@ AreAllQueued slices reslicings quotas queues next =
     (k : ℕ) (quota : Quota) (queue : List ElementsFields) → slice_get quotas k ≡ Some quota → slice_get queues k ≡ Some queue
     → AreQueued (λ n. slice_get (slices_at slices reslicings n) k) quota next queue
 
--- what is gathered is valid: its quotas and slices are, somebody's part of the next frame is missing, and each operator's parts
--- are for the frames from that one on
+-- what is always true of a `Gather`: its quotas and slices are valid, somebody's part of the next frame is missing, and each operator's
+-- parts are for the frames from that one on
 pub record IsGathering (g : Gathering) : Type 0 where
   pub channel_is : IsChannel g.channel
   pub quotas_are : AreQuotas g.quotas
@@ -165,7 +165,7 @@ pub record MayReslice (g : Gathering) (from : ℕ) (slices : List Minislots) : T
   pub later : All (λ r. r.from < from) g.reslicings
   pub past : All (HasPutNoneFrom g from) g.queues
 
--- these slices are next to the earlier ones
+-- a slice change: the frames from this one on have these slices, and earlier frames keep theirs
 abbrev pub gathering_after_reslice : Gathering → ℕ → List Minislots → Gathering
 gathering_after_reslice g from slices = record g { reslicings = g.reslicings ++ record { from = from; slicing = slices } ∷ [] }
 

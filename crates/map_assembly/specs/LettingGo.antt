@@ -13,6 +13,7 @@ pub record GoesOnAlike (old new : Gathering) : Type 0 where
   pub left : (gone : List Reslicing) × (old.reslicings ≡ gone ++ new.reslicings)
   pub slices_are : (frame : ℕ) → old.next ≤ frame → frame_slices new frame ≡ frame_slices old frame
 
+-- a slice change, if there is one, is from this frame on or from an earlier one
 abbrev pub is_from : ℕ → Option Reslicing → Bool
 is_from frame None = false
 is_from frame (Some reslicing) = nat_le reslicing.from frame

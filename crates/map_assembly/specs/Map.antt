@@ -75,7 +75,8 @@ ordered_map channel frame parts = record {
   pending = map_pending parts;
 }
 
--- what the MAP of a frame says, given the part of each operator
+-- what the MAP of a frame says, given the part of each operator: the header, the head, the spans of the parts in the order of their slices,
+-- with one idle span for each run of minislots between parts, and the grants pending
 abbrev pub map_of : Channel → ℕ → List ElementsFields → MapView
 map_of channel frame parts = ordered_map channel frame (in_slice_order parts)
 

@@ -35,8 +35,8 @@ AreJoined end (s ∷ spans) = (0 < s.len) × (s.start + s.len ≡ first_offset e
 abbrev pub is_pending : ℕ → MapElement → Bool
 is_pending end e = (e.iuc == short_iuc || e.iuc == long_iuc) && e.offset == end
 
--- elements say these spans and these SIDs of grants pending: first the spans, none of which is the Null, then the Null at
--- the end of the last, and after it the grants pending
+-- elements say these spans and these SIDs of grants pending: first the spans, none of which is the Null and each of which ends where the
+-- next begins, then the Null at the end of the last, and after it the grants pending
 pub record ElementsSay (elements : List MapElement) (spans : List MapSpan) (sids : List ℕ) : Type 0 where
   pub end : ℕ
   pub behind : List MapElement
@@ -76,7 +76,7 @@ counted_bytes bytes = header_bytes + element_bytes * slice_index bytes count_pla
 abbrev pub IsCounted : List ℕ → Type 0
 IsCounted bytes = length bytes ≡ counted_bytes bytes
 
--- bytes say what a MAP says: a header, spans and grants pending
+-- the bytes are a header and as many elements as it counts, and these say the view: its header, its spans and its grants pending
 pub record MapReads (bytes : List ℕ) (view : MapView) : Type 0 where
   pub counted : IsCounted bytes
   pub header : view.header ≡ header_in bytes
@@ -134,7 +134,7 @@ ElementsFault elements NoNull = AreAscending 0 elements
 ElementsFault elements (AfterNull at) = FollowsNull 0 elements at
 ElementsFault elements fault = ⊥
 
--- the first fault of bytes
+-- what is wrong with bytes that say no MAP: their first fault
 abbrev pub IsFirstMapFault : List ℕ → MapFault → Type 0
 IsFirstMapFault bytes Short = length bytes < header_bytes
 IsFirstMapFault bytes Count = (header_bytes ≤ length bytes) × (length bytes ≢ counted_bytes bytes)

@@ -5,33 +5,43 @@ use Rattle.slice_scheduler.specs.declared.span.Iuc.TheVariants.{Request, Short, 
 
 -- ---- the header: at which of its bytes each field begins, and how many bytes it has
 
+-- the Upstream Channel ID, one byte
 abbrev pub channel_place : ℕ
 channel_place = 0
 
+-- the UCD Count, one byte
 abbrev pub ucd_count_place : ℕ
 ucd_count_place = 1
 
+-- the Number of Elements, one byte: the Null and those after it included
 abbrev pub count_place : ℕ
 count_place = 2
 
+-- the Alloc Start Time, four bytes
 abbrev pub alloc_start_place : ℕ
 alloc_start_place = 4
 
+-- the Ack Time, four bytes
 abbrev pub ack_time_place : ℕ
 ack_time_place = 8
 
+-- the Ranging Backoff Start, one byte
 abbrev pub ranging_start_place : ℕ
 ranging_start_place = 12
 
+-- the Ranging Backoff End, one byte
 abbrev pub ranging_end_place : ℕ
 ranging_end_place = 13
 
+-- the Data Backoff Start, one byte
 abbrev pub data_start_place : ℕ
 data_start_place = 14
 
+-- the Data Backoff End, one byte
 abbrev pub data_end_place : ℕ
 data_end_place = 15
 
+-- how many bytes a header has
 abbrev pub header_bytes : ℕ
 header_bytes = 16
 
@@ -45,15 +55,19 @@ time_bits = 32
 
 -- ---- an element (6.4.4.2): its bytes, and the bits of its fields
 
+-- how many bytes an element has
 abbrev pub element_bytes : ℕ
 element_bytes = 4
 
+-- the bits of the SID, which come first
 abbrev pub sid_bits : ℕ
 sid_bits = 14
 
+-- the bits of the IUC
 abbrev pub iuc_bits : ℕ
 iuc_bits = 4
 
+-- the bits of the offset, which come last
 abbrev pub offset_bits : ℕ
 offset_bits = 14
 

@@ -392,15 +392,19 @@ impl Gather {
         elements: Elements,
     ) -> Result<Option<MapBytes>, Refused>
         ensures state { OnOk result (self.new ≡ after_put self.old op elements) }
+        // A MAP comes exactly with the last part of a frame. Its bytes follow from the frame, the layout and the parts
+        // alone. It reads as the parts that were put, and gives no minislot twice.
         ensures map { IfOk result (IsPutResult self.old op frame elements) }
         ensures goes { OnOk result (put_fault self.old op frame elements ≡ None) }
 
+        // Each refusal comes exactly in its case.
         ensures fault { (fault : GatherFault) → fault ≢ NoMemory
             → ((result ≡ Err (record { fault = fault; elements = elements }))
             ↔ (put_fault self.old op frame elements ≡ Some fault)) }
         ensures refused { IfErr result (λ refused. refused.elements ≡ elements) }
         ensures memory { IfErr result (λ refused. refused.fault ≡ NoMemory
             → put_fault self.old op frame elements ≡ None) }
+        // A refusal changes nothing.
         ensures err { OnErr result (self.new ≡ self.old) }
     {
         if let Some(fault) = self.fault_of(op, frame, &elements) {
@@ -475,8 +479,10 @@ impl Gather {
     ) -> Result<(), AllocError>
         requires { MayReslice self.old from slices.items }
         ensures state { OnOk result (self.new ≡ gathering_after_reslice self.old from slices.items) }
+        // The slices of earlier frames stay.
         ensures before { OnOk result ((frame : ℕ) → frame < from
             → frame_slices self.new frame ≡ frame_slices self.old frame) }
+        // All frames from this one on have the new slices.
         ensures behind { OnOk result ((frame : ℕ) → from ≤ frame → frame_slices self.new frame ≡ slices.items) }
         ensures err { OnErr result (self.new ≡ self.old) }
     {
@@ -509,6 +515,7 @@ impl Gather {
     /// left of the slice changes is of later frames than that whose MAP comes next. Takes no
     /// memory.
     pub fn let_go(&mut self)
+        // Only slices are dropped that no future frame has.
         ensures alike { GoesOnAlike self.old self.new }
         ensures begun { has_begun self.new ≡ false }
     {

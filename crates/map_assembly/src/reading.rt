@@ -206,10 +206,14 @@ fn view_in(alloc: Global, bytes: &[u8], count: usize) -> Result<MapView, AllocEr
 /// Faults: `Short` and `Count` first; then `Backward` or `AfterNull` at the first invalid element,
 /// or `NoNull` where all are valid and none is the Null. `NoMemory` comes last.
 pub fn read_map(alloc: Global, bytes: &[u8]) -> Result<MapView, MapFault>
+    // What is read is what the bytes say.
     ensures found { IfOk result (MapReads bytes.now) }
+    // What they say is read, unless memory runs out.
     ensures only { (view : MapView) → MapReads bytes.now view → MapIsRead result view }
 
+    // Otherwise the first fault.
     ensures fault { (fault : MapFault) → fault ≢ NoMemory → ((result ≡ Err fault) ↔ IsFirstMapFault bytes.now fault) }
+    // Memory runs out only for bytes that say something.
     ensures memory { result ≡ Err NoMemory → (view : MapView) × MapReads bytes.now view }
 {
     let count = count_spans(bytes)?;

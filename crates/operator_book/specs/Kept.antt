@@ -7,7 +7,7 @@ use Rattle.operator_model.specs.declared.action.Entry.{Entry}
 use Rattle.operator_model.specs.State.{OperatorState}
 use Rattle.operator_model.specs.Replay.{BookView, IsReplay}
 
--- the row is one of a plant of these constants, and the state is the replay of the history
+-- what the type of a book keeps: the row is one of a plant of these constants, and the state is the replay of the history
 pub record IsBook (consts : ConstsFields) (row : RowFields) (history : List Entry) (state : OperatorState) : Type 0 where
   pub valid : IsRowOf consts row
   pub some : 1 ≤ row.slice.length

@@ -15,10 +15,12 @@ use Rattle.operator_model.specs.State.{opened_flow}
 abbrev pub sid_for : RowFields → List (ℕ × Flow) → SetsFields → Option ℕ
 sid_for row flows sets = if is_some sets.admitted then least_free_of row.sids (sids_of flows) else None
 
+-- one flow more with these sets, opened in this frame under this SFID; none where no SFID is free
 abbrev pub put_under : ℕ → RowFields → List (ℕ × Flow) → Modem → SetsFields → Option ℕ → List (ℕ × Flow)
 put_under frame row flows modem sets None = flows
 put_under frame row flows modem sets (Some sfid) = with_flow sfid (opened_flow frame (record { modem = modem; sid = sid_for row flows sets; sets = sets })) flows
 
+-- one flow more, under the least free SFID, where its encoding gives it sets
 abbrev pub put_opened : ℕ → RowFields → List (ℕ × Flow) → Modem → Option SetsFields → List (ℕ × Flow)
 put_opened frame row flows modem None = flows
 put_opened frame row flows modem (Some sets) = put_under frame row flows modem sets (least_free_of row.sfids (sfids_of flows))
@@ -27,6 +29,7 @@ put_opened frame row flows modem (Some sets) = put_under frame row flows modem s
 unfoldable pub put_provision : ℕ → ConstsFields → RowFields → List (ℕ × Flow) → Provision → List (ℕ × Flow)
 put_provision frame consts row flows p = put_opened frame row flows p.modem (sets_of_encoding consts p.encoding)
 
+-- the provisioned flows, put one after the other
 abbrev pub put_provisions : ℕ → ConstsFields → RowFields → List (ℕ × Flow) → List Provision → List (ℕ × Flow)
 put_provisions frame consts row flows [] = flows
 put_provisions frame consts row flows (p ∷ provisions) = put_provisions frame consts row (put_provision frame consts row flows p) provisions

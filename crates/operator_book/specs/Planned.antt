@@ -47,6 +47,7 @@ abbrev pub requested : Operator → Modem → ℕ → Result ℕ Cause → StepR
 requested op modem minislots (Ok sfid) = record { state = state_after_request op sfid minislots; outputs = [] }
 requested op modem minislots (Err cause) = silent op.state modem cause
 
+-- the operator's state once what was handled has its effect: nothing, a verdict with its reply, an acknowledgement, or a bandwidth request
 abbrev pub state_after_handling : HandledEffect → Operator → OperatorState
 state_after_handling handled.Nothing op = op.state
 state_after_handling (handled.Response modem tid kind reply verdict) op = state_after_response op modem tid kind reply (verdict_of verdict)
@@ -64,6 +65,7 @@ state_after_tick op granted = record {
   next = next_at (op.state.frame + 1) op.state.next;
 }
 
+-- the operator's state once a plan is committed, by its kind: nothing, an arrival, the first of the inbox, a tick or a slice change
 abbrev pub state_after : Effect → Operator → OperatorState
 state_after effects.Nothing op = op.state
 state_after (effects.Received arrival) op = (with_inbox op (op.state.inbox ++ arrival ∷ [])).state
@@ -71,6 +73,7 @@ state_after (effects.Handled effect) op = without_first (state_after_handling ef
 state_after (effects.Ticked granted given_up) op = state_after_tick op granted
 state_after (effects.Resliced from row) op = (reslice_result op.state from row).state
 
+-- the operator once a plan is committed
 abbrev pub after_effect : Operator → Effect → Operator
 after_effect op effect = record op { state = state_after effect op }
 
@@ -86,12 +89,16 @@ pub record MayRespond (op : Operator) (modem : Modem) (tid : ℕ) (verdict : Ver
   pub free : IsNone (find (is_of modem tid) op.state.kept)
   pub room : length op.state.kept < op.row.transactions
 
+-- the effect of what was handled may be committed: the flow of a verdict may be put, and an acknowledgement is of the cached response that
+-- waits for it
 abbrev pub MayHandle : Operator → HandledEffect → Type 0
 MayHandle op handled.Nothing = Unit {0}
 MayHandle op (handled.Response modem tid kind reply verdict) = MayRespond op modem tid (verdict_of verdict)
 MayHandle op (handled.Acknowledged place modem tid kind code) = position (waits_for modem tid kind) op.state.kept ≡ Some place
 MayHandle op (handled.Requested sfid minislots) = Unit {0}
 
+-- a plan may be committed, by its kind: a tick has a frame number left and abandons what the timers abandon, and a slice change is not
+-- refused
 abbrev pub MayCommit : Operator → Effect → Type 0
 MayCommit op effects.Nothing = Unit {0}
 MayCommit op (effects.Received arrival) = Unit {0}

@@ -33,7 +33,8 @@ use Rattle.operator_book.specs.declared.state_fault.StateFault.TheVariants as fa
 abbrev pub IsListedIn : RowFields → Modem → Type 0
 IsListedIn row modem = is_listed modem row.modems ≡ true
 
--- the state is sound under the row, the responses are as the cache keeps them, and all is of modems that the row lists
+-- when a machine can go on from a state under a row: the state is sound under it, the responses are as the cache keeps them, and all is of
+-- modems that the row lists
 pub record IsStateUnder (consts : ConstsFields) (row : RowFields) (state : OperatorState) : Type 0 where
   pub sound : IsSound (operator consts row state)
   pub one_each : OneEach state.kept
@@ -50,17 +51,21 @@ abbrev pub first_fault_in : {A : Type 0} → (A → Option StateFault) → List 
 first_fault_in fault_of [] = None
 first_fault_in fault_of (x ∷ xs) = option_or (fault_of x) (first_fault_in fault_of xs)
 
+-- this fault, if the test holds
 abbrev pub fault_where : Bool → StateFault → Option StateFault
 fault_where b fault = if b then Some fault else None
 
 -- ---- a flow
 
+-- the modem of a flow, a response or a message is not one of the row's
 abbrev pub modem_fault : RowFields → Modem → Option StateFault
 modem_fault row modem = fault_where (not (is_listed modem row.modems)) (faults.ModemInUse modem)
 
+-- the number is not in the range
 abbrev pub is_out_of : Numbers → ℕ → Bool
 is_out_of range n = nat_lt n range.first || nat_lt range.last n
 
+-- the SID of a flow, if it has one, is not in the row's range
 abbrev pub sid_fault : RowFields → ℕ → Option ℕ → Option StateFault
 sid_fault row sfid None = None
 sid_fault row sfid (Some sid) = fault_where (is_out_of row.sids sid) (faults.SidOutOfRange sfid sid)
@@ -73,6 +78,7 @@ lacks_sid admitted sid = is_some admitted && not (is_some sid)
 abbrev pub has_stray_backlog : Flow → Bool
 has_stray_backlog flow = not (asks_for_grants flow.sets.active) && nat_lt 0 flow.backlog
 
+-- two parameter sets are equal in each parameter
 abbrev pub same_params : ParamFields → ParamFields → Bool
 same_params a b =
     scheduling_number a.scheduling == scheduling_number b.scheduling && a.priority == b.priority
@@ -82,6 +88,7 @@ same_params a b =
     && a.grant_size == b.grant_size && a.grant_interval == b.grant_interval
     && a.grant_jitter == b.grant_jitter && a.grants_per_interval == b.grants_per_interval
 
+-- both sets are null, or both are present and equal
 abbrev pub same_set : Option ParamFields → Option ParamFields → Bool
 same_set None None = true
 same_set (Some a) (Some b) = same_params a b
@@ -114,6 +121,7 @@ flow_fault row frame entry =
 
 -- ---- all flows
 
+-- the SFID is not greater than the one before it
 abbrev pub is_not_after : Option ℕ → ℕ → Bool
 is_not_after None sfid = false
 is_not_after (Some previous) sfid = nat_le sfid previous
@@ -142,12 +150,14 @@ all_put_back before (entry ∷ flows) = all_put_back (with_flow entry.0 entry.1 
 abbrev pub HasTypedSets : SetsFields → Type 0
 HasTypedSets sets = AreNested sets × AreOfTheirKinds sets
 
+-- what the types of a flow keep of its sets and of those that wait
 pub record IsTypedFlow (flow : Flow) : Type 0 where
   pub sets : HasTypedSets flow.sets
   pub pending : IfSome flow.pending (λ pending. HasTypedSets pending.sets)
 
 -- ---- a cached response
 
+-- all three sets are null
 abbrev pub is_unset : SetsFields → Bool
 is_unset sets = not (is_some sets.provisioned) && not (is_some sets.admitted) && not (is_some sets.active)
 
@@ -158,6 +168,7 @@ does_await Dsa (Some flow) = is_some flow.pending && is_unset flow.sets
 does_await Dsc (Some flow) = is_some flow.pending
 does_await Dsd (Some flow) = false
 
+-- the first fault of a cached response: its modem is not the row's, or it waits for a flow that does not wait for such an acknowledgement
 abbrev pub response_fault : RowFields → List (ℕ × Flow) → KeptEntry → Option StateFault
 response_fault row flows entry =
     option_or (modem_fault row entry.modem)
@@ -165,6 +176,7 @@ response_fault row flows entry =
 
 -- ---- all cached responses
 
+-- the response waits for an acknowledgement of the flow of this SFID
 abbrev pub awaits_flow : ℕ → KeptEntry → Bool
 awaits_flow sfid entry = is_waiting entry && entry.sfid == sfid
 
@@ -178,6 +190,7 @@ pairs_fault (entry ∷ entries) =
 abbrev pub is_off_time : KeptEntry → Bool
 is_off_time entry = entry.ticks_left == 0 || (not (is_waiting entry) && nat_lt 0 entry.resends_left)
 
+-- the first fault of a cached response after those before it: one of them is of its transaction, or its timer is invalid
 abbrev pub entry_fault : List KeptEntry → KeptEntry → Option StateFault
 entry_fault before entry =
     option_or (fault_where (is_some (find (is_of entry.modem entry.tid) before)) (faults.ResponseTwice entry.modem entry.tid))
@@ -190,11 +203,13 @@ entries_fault before (entry ∷ entries) = option_or (entry_fault before entry) 
 
 -- ---- shares
 
+-- the first fault of a share: its slice is not after the head and within the frame, or its budget is greater than its slice
 abbrev pub share_fault : ConstsFields → Share → Option StateFault
 share_fault consts share =
     option_or (fault_where (nat_lt share.slice.start consts.channel.head || nat_lt consts.channel.frame_minislots (share.slice.start + share.slice.length)) (faults.NoSuchSlice share.slice.start share.slice.length))
     (fault_where (nat_lt share.slice.length share.budget) (faults.BudgetOverSlice share.budget))
 
+-- the first fault of a share that waits: that of a share, a frame that is not to come, or a budget below what is committed
 abbrev pub next_fault : ConstsFields → ℕ → ℕ → Option NextShare → Option StateFault
 next_fault consts frame committed None = None
 next_fault consts frame committed (Some next) =
@@ -204,12 +219,14 @@ next_fault consts frame committed (Some next) =
 
 -- ---- the whole state
 
+-- the first count that is greater than the row's: of flows, of cached responses, of messages in the inbox
 abbrev pub counts_fault : RowFields → OperatorState → Option StateFault
 counts_fault row state =
     option_or (fault_where (nat_lt row.flows (length state.flows)) (faults.TooManyFlows (length state.flows)))
     (option_or (fault_where (nat_lt row.transactions (length state.kept)) (faults.TooManyResponses (length state.kept)))
     (fault_where (nat_lt row.inbox (length state.inbox)) (faults.TooManyMessages (length state.inbox))))
 
+-- what the flows have committed is more than the quota of elements, or than the budget in force
 abbrev pub committed_fault : ConstsFields → RowFields → OperatorState → Option StateFault
 committed_fault consts row state =
     option_or (fault_where (nat_lt row.elements (committed_elements consts.units state.flows)) (faults.OverElements (committed_elements consts.units state.flows)))
@@ -232,8 +249,8 @@ table_fault consts row state =
     (option_or (first_fault_in (response_fault row state.flows) state.kept)
     (pairs_fault state.kept)))
 
--- the first fault of a state: the counts, the order of the flows, each flow, the modems of the messages, the share, SIDs that are twice, what is
--- committed, the share that waits, each response, responses that wait for one flow, and what the cache does not take
+-- the first fault of a state: the counts, the order of the flows, each flow, the modems of the messages, the share, SIDs that are twice,
+-- what is committed, the share that waits, each response, responses that wait for one flow, and what the cache does not take
 abbrev pub state_fault : ConstsFields → RowFields → OperatorState → Option StateFault
 state_fault consts row state =
     option_or (parts_fault consts row state)

@@ -13,12 +13,15 @@ use Rattle.operator_book.specs.Resuming.{fault_where, modem_fault, is_out_of, si
 use Rattle.operator_book.specs.declared.state_fault.StateFault.{StateFault}
 use Rattle.operator_book.specs.declared.state_fault.StateFault.TheVariants as faults
 
+-- there are more flows than the row allows
 abbrev pub flows_over : RowFields → OperatorState → Option StateFault
 flows_over row state = fault_where (nat_lt row.flows (length state.flows)) (faults.TooManyFlows (length state.flows))
 
+-- there are more cached responses than the row allows
 abbrev pub responses_over : RowFields → OperatorState → Option StateFault
 responses_over row state = fault_where (nat_lt row.transactions (length state.kept)) (faults.TooManyResponses (length state.kept))
 
+-- there are more messages in the inbox than the row allows
 abbrev pub messages_over : RowFields → OperatorState → Option StateFault
 messages_over row state = fault_where (nat_lt row.inbox (length state.inbox)) (faults.TooManyMessages (length state.inbox))
 
@@ -26,6 +29,7 @@ messages_over row state = fault_where (nat_lt row.inbox (length state.inbox)) (f
 abbrev pub count_faults : RowFields → OperatorState → List StateFault
 count_faults row state = option_to_list (flows_over row state) ++ option_to_list (responses_over row state) ++ option_to_list (messages_over row state)
 
+-- the SFID is not in the row's range
 abbrev pub sfid_fault : RowFields → ℕ → Option StateFault
 sfid_fault row sfid = fault_where (is_out_of row.sfids sfid) (faults.SfidOutOfRange sfid)
 
@@ -36,10 +40,11 @@ row_faults_of_flow row entry =
     ++ option_to_list (sfid_fault row entry.0)
     ++ option_to_list (sid_fault row entry.0 entry.1.sid)
 
--- the modem of a cached response or of a message, if the row does not list it
+-- the modem of a cached response, if the row does not list it
 abbrev pub row_faults_of_response : RowFields → KeptEntry → List StateFault
 row_faults_of_response row entry = option_to_list (modem_fault row entry.modem)
 
+-- the modem of a message in the inbox, if the row does not list it
 abbrev pub row_faults_of_message : RowFields → Arrival → List StateFault
 row_faults_of_message row arrival = option_to_list (modem_fault row arrival.modem)
 
@@ -48,7 +53,8 @@ abbrev pub quota_fault : UnitSizes → RowFields → List (ℕ × Flow) → Opti
 quota_fault units row flows = if nat_lt row.flows (length flows) then None else
     fault_where (nat_lt row.elements (committed_elements units flows)) (faults.OverElements (committed_elements units flows))
 
--- the counts, then each flow in order, then each cached response, then each message, then the quota
+-- the faults that a state has under a row: of its counts, then of each flow in order, then of each cached response, then of each message,
+-- then of its quota of elements
 abbrev pub row_faults : UnitSizes → RowFields → OperatorState → List StateFault
 row_faults units row state =
     count_faults row state

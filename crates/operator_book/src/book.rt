@@ -90,6 +90,7 @@ impl Book {
     ) -> Result<Book, OpenFault>
         requires { IsRowOf consts.now row.now }
         ensures ok { IfOk result (λ book. book.kept.book ≡ opened_book consts.now row.now) }
+        // A ranking of another policy is refused, and only such a one.
         ensures mismatch { (result ≡ Err OpenFault.PolicyMismatch) ↔ (ranking.policy ≢ row.now.policy) }
     {
         if ranking.policy() != row.get_fields().policy {
@@ -102,18 +103,21 @@ impl Book {
     /// Does an action, and reports what it outputs. A refused action changes nothing but that there
     /// may be more spare room.
     pub fn act(&mut self, alloc: Global, action: Action) -> Result<Vec<Output>, BookFault>
+        // A step of the operator's own machine.
         ensures state { OnOk result (self.new.kept.book ≡ book_after_action self.old.kept.book action) }
+        // The outputs are those of this step.
         ensures outputs { IfOk result (λ outputs. outputs.items
             ≡ (own_step (operator_of_book self.old.kept.book) action).outputs) }
 
-        // A stranger is refused first, then a tick past the last frame, then a slice that does not fit, and only these are;
-        // else only memory can be wanting.
+        // Refused in exactly three cases: another operator's modem, a tick past the last frame, a slice that does not
+        // fit.
         ensures not_mine { (modem : Modem) → (result ≡ Err (BookFault.NotMine modem))
             ↔ (stranger_of self.old.kept.book.row action ≡ Some modem) }
         ensures spent { (result ≡ Err BookFault.FramesSpent) ↔ (is_spent self.old.kept.book.state action ≡ true) }
         ensures unfit { (u : Unfit) → (result ≡ Err (BookFault.Unfit u))
             ↔ (unfit_of (operator_of_book self.old.kept.book) action ≡ Some u) }
         ensures allowed { OnOk result (IsAllowed (operator_of_book self.old.kept.book) action) }
+        // A refusal changes nothing, and neither does a failed allocation.
         ensures err { OnErr result (self.new.kept.book ≡ self.old.kept.book) }
         ensures ranking { self.new.ranking ≡ self.old.ranking }
     {
@@ -156,6 +160,7 @@ impl Book {
     /// retransmits and its frame, any other action one. At most 65,537.
     pub fn most_outputs(&self, action: &Action) -> usize
         ensures value { result ≡ most_outputs_of self.now.kept.book.state action.now }
+        // The action has at most so many outputs.
         ensures bound { length (own_step (operator_of_book self.now.kept.book) action.now).outputs ≤ result }
         ensures few { result ≤ 65537 }
     {

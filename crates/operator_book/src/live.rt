@@ -224,7 +224,10 @@ impl Machine {
         state: StateView,
     ) -> Result<Machine, StateFault>
         ensures ok { IfOk result (λ live. live.sound ≡ operator consts.now row.now state) }
+        // The fault is the first one of the state in a stated order, or memory ran out.
         ensures fault { IfErr result (λ f. (f ≡ NoMemory) ⊎ (state_fault consts.now row.now state ≡ Some f)) }
+        // No other fault than memory comes of a sound state whose responses are as the cache keeps them, and whose
+        // modems the row lists.
         ensures only { IsStateUnder consts.now row.now state → IfErr result (λ fault. fault ≡ NoMemory) }
     {
         let sound = SoundMachine::resume(alloc, row, consts, state)?;
@@ -236,11 +239,15 @@ impl Machine {
     /// the row's policy.
     #[inline(always)]
     pub fn plan(&self, alloc: Global, action: Action) -> Result<Plan, BookFault>
+        // The plan has the outputs of the step.
         ensures outputs { IfOk result (λ plan. plan.outputs.items ≡ (own_step self.now.sound action).outputs) }
+        // It leads to the state of the step.
         ensures plan { IfOk result (IsPlanOf self.now.sound action) }
+        // It may be committed while the machine is as it was.
         ensures committable { IfOk result (IsCommittable self.now.sound) }
 
-        // Only these are refused; else only memory can be wanting.
+        // Refused in exactly three cases: another operator's modem, a tick past the last frame, a slice that does not
+        // fit.
         ensures not_mine { (modem : Modem) → (result ≡ Err (BookFault.NotMine modem))
             ↔ (stranger_of self.now.sound.row action ≡ Some modem) }
         ensures spent { (result ≡ Err BookFault.FramesSpent) ↔ (is_spent self.now.sound.state action ≡ true) }
@@ -266,6 +273,7 @@ impl Machine {
         action: Action,
     ) -> Result<Plan, AllocError>
         requires { IsAllowed self.now.sound action }
+        // No clause speaks of the memory that the caller gives.
         ensures outputs { IfOk result (λ plan. plan.outputs.items ≡ (own_step self.now.sound action).outputs) }
         ensures plan { IfOk result (IsPlanOf self.now.sound action) }
         ensures committable { IfOk result (IsCommittable self.now.sound) }
@@ -299,6 +307,7 @@ impl Machine {
     #[inline(always)]
     pub fn commit(&mut self, plan: Plan, memory: &mut TickMemory) -> Result<Vec<Output>, AllocError>
         requires { IsCommittable self.old.sound plan }
+        // It leads to the state of the plan.
         ensures state { OnOk result (self.new.sound ≡ after_effect self.old.sound plan.effect) }
         ensures outputs { IfOk result (λ outputs. outputs.items ≡ plan.outputs.items) }
         ensures err { OnErr result (self.new.sound ≡ self.old.sound) }
@@ -319,6 +328,7 @@ impl Machine {
         ensures state { OnOk result (self.new.sound ≡ after_step self.old.sound (actions.Arrive modem heard)) }
         ensures outputs { IfOk result (λ outputs. outputs.items
             ≡ (own_step self.old.sound (actions.Arrive modem heard)).outputs) }
+        // It has at most one output.
         ensures few { IfOk result (λ outputs. vec_len outputs ≤ 1) }
         ensures err { OnErr result (self.new.sound ≡ self.old.sound) }
     {
@@ -344,6 +354,7 @@ impl Machine {
         requires { IsFirstRequest self.old.sound.state.inbox first }
         ensures state { OnOk result (self.new.sound ≡ after_step self.old.sound actions.Work) }
         ensures outputs { IfOk result (λ outputs. outputs.items ≡ (own_step self.old.sound actions.Work).outputs) }
+        // It has at most one output.
         ensures few { IfOk result (λ outputs. vec_len outputs ≤ 1) }
         ensures err { OnErr result (self.new.sound ≡ self.old.sound) }
     {
@@ -353,11 +364,12 @@ impl Machine {
     /// Plans an action and commits the plan. A refused action changes nothing. A tick ranks the flows by
     /// the row's policy.
     pub fn act(&mut self, alloc: Global, action: Action) -> Result<Vec<Output>, BookFault>
+        // What `plan` and then `commit` do: a step of the operator's own machine.
         ensures state { OnOk result (self.new.sound ≡ after_step self.old.sound action) }
         ensures outputs { IfOk result (λ outputs. outputs.items ≡ (own_step self.old.sound action).outputs) }
 
-        // A stranger is refused first, then a tick past the last frame, then a slice that does not fit, and only these are;
-        // else only memory can be wanting.
+        // Refused in exactly three cases: another operator's modem, a tick past the last frame, a slice that does not
+        // fit.
         ensures not_mine { (modem : Modem) → (result ≡ Err (BookFault.NotMine modem))
             ↔ (stranger_of self.old.sound.row action ≡ Some modem) }
         ensures spent { (result ≡ Err BookFault.FramesSpent) ↔ (is_spent self.old.sound.state action ≡ true) }

@@ -174,6 +174,7 @@ pub fn row_faults(
     units: Units,
     state: &StateView,
 ) -> Result<Vec<StateFault>, AllocError>
+    // No clause relates this list to the fault of `Machine::resume`.
     ensures { IfOk result (λ faults. faults.items ≡ row_faults units row.now state.now) }
 {
     let mut faults = Vec::new(alloc);

@@ -38,6 +38,7 @@ use Rattle.operator_model.specs.declared.verdict.AskedSets.{AskedSets}
 use Rattle.operator_model.specs.declared.verdict.Addition.{Addition}
 use Rattle.operator_model.specs.declared.verdict.Change.{Change}
 
+-- the transaction of this modem, kind and transaction ID
 abbrev pub transaction : Modem → Kind → ℕ → Transaction
 transaction modem kind tid = record { modem = modem; kind = kind; tid = tid }
 
@@ -76,6 +77,7 @@ is_same None None = true
 is_same (Some a) (Some b) = a == b
 is_same a b = false
 
+-- an encoding states this set type (Annex C, subtype 6)
 abbrev pub has_set_type : SetType → FlowFields → Bool
 has_set_type set_type flow = is_same flow.set_type (Some (set_type_number set_type))
 
@@ -98,17 +100,18 @@ first_of t (first ∷ others) =
 abbrev pub is_unclassed : List Class → FlowFields → Bool
 is_unclassed classes flow = is_none (asked_of classes flow)
 
+-- the first of the encodings, or a refusal that names the class of the first unclassed one, if there is one (check 5)
 abbrev pub first_unless : Option FlowFields → Transaction → List FlowFields → Result FlowFields ReplyFields
 first_unless (Some flow) t encodings = Err (refusal_naming t codes.RejectPermanent flow class_name_subtype)
 first_unless None t encodings = first_of t encodings
 
--- the first of the encodings, unless one of them is unclassed: the first such in order of bytes
+-- checks 5 to 8: the first of the encodings, unless one of them names an unknown class: the first such in order of bytes
 unfoldable pub first_encoding : Transaction → List Class → List FlowFields → Result FlowFields ReplyFields
 first_encoding t classes encodings = first_unless (find (is_unclassed classes) encodings) t encodings
 
 -- ---- checks 10 to 12: whether the flow may be changed or deleted now
 
--- there is none; it is another modem's; it waits for an acknowledgement
+-- checks 10 to 12: the flow, unless there is none, it is another modem's, or it waits for an acknowledgement
 abbrev pub free_flow : Transaction → Option Flow → Result Flow ReplyFields
 free_flow t None = Err (refusal t.kind t.tid codes.RejectFlowNotFound)
 free_flow t (Some flow) =
@@ -118,10 +121,12 @@ free_flow t (Some flow) =
 
 -- ---- checks 13 and 14: the parameter sets that are asked for
 
+-- a parameter set, or a refusal that names the encoding and the subtype that fails
 abbrev pub set_or_refusal : Transaction → FlowFields → Result ParamFields Refusal → Result ParamFields ReplyFields
 set_or_refusal t flow (Ok set) = Ok set
 set_or_refusal t flow (Err r) = Err (refusal_naming t r.code flow r.subtype)
 
+-- the parameter set of an encoding over its class, or a refusal: no class has that name, or the set is refused
 abbrev pub set_over_class : Transaction → UnitSizes → FlowFields → Option FlowFields → Result ParamFields ReplyFields
 set_over_class t units flow None = Err (refusal_naming t codes.RejectPermanent flow class_name_subtype)
 set_over_class t units flow (Some asked) = set_or_refusal t flow (parameter_set_of asked units)
@@ -130,6 +135,7 @@ set_over_class t units flow (Some asked) = set_or_refusal t flow (parameter_set_
 unfoldable pub set_of : Transaction → ConstsFields → FlowFields → Result ParamFields ReplyFields
 set_of t consts flow = set_over_class t consts.units flow (asked_of consts.classes flow)
 
+-- a request of this kind changes a flow: DSC
 abbrev pub is_change : Kind → Bool
 is_change Dsa = false
 is_change Dsc = true
@@ -144,6 +150,7 @@ asked_by_type t consts flow (Some Null) =
     Err (refusal_naming t codes.RejectInvalidForContext flow set_type_subtype)
 asked_by_type t consts flow other = Err (refusal_naming t codes.RejectInvalidForContext flow set_type_subtype)
 
+-- the sets that one encoding asks for, or a refusal where it states no set type or one that is not taken
 abbrev pub asked_by_one : Transaction → ConstsFields → FlowFields → Option ℕ → Result AskedSets ReplyFields
 asked_by_one t consts flow None = Err (refusal_naming t codes.RejectRequiredParameterNotPresent flow set_type_subtype)
 asked_by_one t consts flow (Some n) = asked_by_type t consts flow (set_type_of n)
@@ -154,10 +161,12 @@ asked_in_order first a b =
     if has_set_type Admitted first then record { admitted = Some a; active = Some b } else
     record { admitted = Some b; active = Some a }
 
+-- the sets that two encodings ask for: one the admitted set, the other the active set
 abbrev pub asked_by_two : Transaction → ConstsFields → FlowFields → FlowFields → Result AskedSets ReplyFields
 asked_by_two t consts first second =
     set_of t consts first >>= λ a. set_of t consts second >>= λ b. Ok (asked_in_order first a b)
 
+-- the admitted and the active set that the encodings of a request ask for, or the refusal of the first that gives none (checks 13 and 14)
 unfoldable pub asked_sets : Transaction → ConstsFields → List FlowFields → Result AskedSets ReplyFields
 asked_sets t consts (flow ∷ []) = asked_by_one t consts flow flow.set_type
 asked_sets t consts (first ∷ second ∷ []) = asked_by_two t consts first second
@@ -176,12 +185,14 @@ abbrev pub failing_admitted : Option ParamFields → Option ParamFields → Opti
 failing_admitted None provisioned = None
 failing_admitted (Some admitted) provisioned = failing_in_provisioned admitted provisioned
 
+-- the flow's sets with those that are asked for, or a refusal that names the subtype that fails: of the active set (check 15), else of the
+-- admitted set (check 16)
 abbrev pub nested_unless : Transaction → FlowFields → Option ParamFields → AskedSets → Option ℕ → Option ℕ → Result SetsFields ReplyFields
 nested_unless t first provisioned asked (Some subtype) other = Err (refusal_naming t codes.RejectInvalidForContext first subtype)
 nested_unless t first provisioned asked None (Some subtype) = Err (refusal_naming t codes.RejectAuthorizationFailure first subtype)
 nested_unless t first provisioned asked None None = Ok (record { provisioned = provisioned; admitted = asked.admitted; active = asked.active })
 
--- the flow's sets with those that are asked for
+-- checks 15 and 16: the flow's sets with those that are asked for
 unfoldable pub nested_sets : Transaction → FlowFields → Option ParamFields → AskedSets → Result SetsFields ReplyFields
 nested_sets t first provisioned asked =
     nested_unless t first provisioned asked (failing_active asked.active asked.admitted) (failing_admitted asked.admitted provisioned)

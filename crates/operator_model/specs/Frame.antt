@@ -20,6 +20,7 @@ use Rattle.flow_table.specs.Moved.{change_at}
 
 -- ---- timers
 
+-- a response that is retransmitted, as an output
 abbrev pub resent : Resend → Output
 resent resend = outputs.Reply resend.modem resend.reply
 
@@ -46,6 +47,7 @@ abbrev pub share_at : ℕ → Share → Option NextShare → Share
 share_at frame share None = share
 share_at frame share (Some next) = if next.from == frame then next.share else share
 
+-- the share that waits once this frame has come: none where it was to take force in it
 abbrev pub next_at : ℕ → Option NextShare → Option NextShare
 next_at frame None = None
 next_at frame (Some next) = if next.from == frame then None else Some next
@@ -60,11 +62,12 @@ flows_left state = all_undone (given_up_in state.kept) state.flows
 abbrev pub frame_elements : Operator → ElementsFields
 frame_elements op = elements_of op.row.policy (at_frame op) (flowing_in (flows_left op.state))
 
--- and the minislots that it grants to flows
+-- the minislots that a tick grants to flows
 abbrev pub frame_grants : Operator → List (ℕ × ℕ)
 frame_grants op = granted_of op.row.policy (at_frame op) (flowing_in (flows_left op.state))
 
--- resends in the order of their transactions, then the frame; then the next frame
+-- what a tick does: retransmissions in the order of their transactions, then the frame; then the next frame follows, with its slice and
+-- budget
 abbrev pub tick_result : Operator → StepResult
 tick_result op = record {
   state = record {

@@ -18,6 +18,7 @@ frame_number (outputs.Frame number elements) = Some number
 abbrev pub frame_numbers : List Output → List ℕ
 frame_numbers outputs = filter_map frame_number outputs
 
+-- the action is a tick, which outputs a frame
 abbrev pub is_tick : Action → Bool
 is_tick (Arrive modem heard) = false
 is_tick Work = false
@@ -29,6 +30,6 @@ abbrev pub FramesHaveNoGap : Type 0
 FramesHaveNoGap = (op : Operator) (actions : List Action)
     → frame_numbers (own_run op actions).outputs ≡ range_with_len op.state.frame (count_by is_tick actions)
 
--- the next frame follows them
+-- the number of the next frame follows those of the frames that a run outputs
 abbrev pub NextFrameFollows : Type 0
 NextFrameFollows = (op : Operator) (actions : List Action) → (own_run op actions).state.frame ≡ op.state.frame + count_by is_tick actions

@@ -57,6 +57,7 @@ reply_result state modem bytes = record { state = state; outputs = outputs.Reply
 
 -- ---- flows that change
 
+-- the flows without that of this SFID
 abbrev pub without_flow : ℕ → List (ℕ × Flow) → List (ℕ × Flow)
 without_flow sfid flows = remove_entry (is_at (nat_cmp sfid)) flows
 
@@ -74,6 +75,7 @@ flows_after (Refused reply) flows = flows
 flows_after (Put sfid flow reply) flows = with_flow sfid flow flows
 flows_after (Deleted sfid reply) flows = without_flow sfid flows
 
+-- the reply of a verdict
 abbrev pub reply_of : Verdict → ReplyFields
 reply_of (Refused reply) = reply
 reply_of (Put sfid flow reply) = reply
@@ -91,7 +93,7 @@ does_wait (Refused reply) = false
 does_wait (Put sfid flow reply) = true
 does_wait (Deleted sfid reply) = false
 
--- the verdict is carried out, and its reply is reported and kept
+-- the verdict's effect on the flows and the cached responses, and its reply: the reply is returned and cached
 abbrev pub carried_out : Operator → Modem → Kind → ℕ → Verdict → StepResult
 carried_out op modem kind tid v = record {
   state = record op.state {
@@ -122,12 +124,12 @@ transaction_result op modem kind tid v =
     if is_of_cmts tid then reply_result op.state modem (spell_reply (refusal kind tid codes.RejectUnknownTransaction)) else
     new_unless op modem kind tid v (find (is_of modem tid) op.state.kept)
 
--- whatever the verdict would be, nothing changes, and this is output
+-- what checks 1 to 3 leave of a verdict: it has no effect, and this is output
 abbrev pub IsAnswered : Operator → Modem → Kind → ℕ → List Output → Type 0
 IsAnswered op modem kind tid outputs =
     (v : Verdict) → transaction_result op modem kind tid v ≡ record { state = op.state; outputs = outputs }
 
--- whatever the verdict is, it is carried out, and there is room to keep its reply
+-- what checks 1 to 3 leave of a verdict: it is carried out, and there is room to cache its reply
 pub record IsCarriedOut (op : Operator) (modem : Modem) (kind : Kind) (tid : ℕ) : Type 0 where
   pub judged : (v : Verdict) → transaction_result op modem kind tid v ≡ carried_out op modem kind tid v
   pub free : IsNone (find (is_of modem tid) op.state.kept)
@@ -150,23 +152,27 @@ acked_if op modem tid kind code (Some sfid) = record {
   outputs = [];
 }
 
+-- an acknowledgement: the modem's transaction that waits for one of this kind is committed or taken back; there is no reply (11.2)
 abbrev pub ack_result : Operator → Modem → ℕ → Kind → ℕ → StepResult
 ack_result op modem tid kind code =
     acked_if op modem tid kind code (option_map (λ entry. entry.sfid) (find (waits_for modem tid kind) op.state.kept))
 
 -- ---- a message
 
+-- the transaction ID of a request
 abbrev pub tid_of : Request → ℕ
 tid_of (requests.Dsa tid encodings) = tid
 tid_of (requests.Dsc tid encodings) = tid
 tid_of (requests.Dsd tid sfid) = tid
 
+-- the kind of a request: DSA, DSC or DSD
 abbrev pub kind_of : Request → Kind
 kind_of (requests.Dsa tid encodings) = Dsa
 kind_of (requests.Dsc tid encodings) = Dsc
 kind_of (requests.Dsd tid sfid) = Dsd
 
--- by what it says, or by its fault
+-- a message is handled by what it says, or by its first fault: one that cannot be read has no reply (check 0), and a request with an
+-- invalid rest is refused (check 4)
 abbrev pub message_handled : Operator → Modem → Result Message MessageFault → StepResult
 message_handled op modem (Err faults.Empty) = silent op.state modem causes.Empty
 message_handled op modem (Err (faults.NotOurs mtype)) = silent op.state modem causes.NotOurs
@@ -188,11 +194,13 @@ asked_of_flow state modem minislots (Some entry) =
     if not (asks_for_grants entry.1.sets.active) then silent state modem causes.NotRequesting else
     record { state = record state { flows = with_flow entry.0 (flow_after_request minislots state.frame entry.1) state.flows }; outputs = [] }
 
+-- a bandwidth request: the backlog of the flow that has the SID is replaced, or nothing changes and there is a drop reason (7.2)
 abbrev pub bandwidth_request_result : Operator → Modem → ℕ → ℕ → StepResult
 bandwidth_request_result op modem sid minislots = asked_of_flow op.state modem minislots (flow_with sid op.state.flows)
 
 -- ---- what was received
 
+-- what a modem sent is handled: a message, or a bandwidth request
 abbrev pub handle : Operator → Modem → Heard → StepResult
 handle op modem (heards.Message bytes) = message_handled op modem (message_of bytes)
 handle op modem (heards.Request sid minislots) = bandwidth_request_result op modem sid minislots

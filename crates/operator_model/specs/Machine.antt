@@ -1,4 +1,5 @@
--- One operator's own machine: what each action makes of its state, what it outputs, and which actions are refused (implementation-specific).
+-- One operator's own machine: what each action makes of its state, what it outputs, and which actions are refused
+-- (implementation-specific).
 use Rattle.std.specs.Prelude.{◌≡◌, ◌==◌, ◌||◌, ◌+◌, ℕ, Bool, false, List, [], ◌∷◌, ◌++◌, length, nat_le, nat_lt, is_some, Option, Some, None, if◌then◌else◌}
 use Rattle.dsx_messages.specs.declared.modem.Modem.{Modem}
 use Rattle.plant.specs.declared.consts.ConstsFields.{ConstsFields}
@@ -44,6 +45,7 @@ reslice_result state from row = record {
   outputs = [];
 }
 
+-- one action of an operator: the state after it and what it outputs
 unfoldable pub own_step : Operator → Action → StepResult
 own_step o (Arrive modem heard) = arrival_result o modem heard
 own_step o Work = work_result o o.state.inbox
@@ -80,13 +82,15 @@ unfit_from o from row =
     if nat_lt row.budget (committed_minislots o.consts.units o.state.flows) then Some OverBudget else
     None
 
+-- why a slice change is refused; no other action is unfit
 abbrev pub unfit_of : Operator → Action → Option Unfit
 unfit_of o (Arrive modem heard) = None
 unfit_of o Work = None
 unfit_of o Tick = None
 unfit_of o (Reslice from row) = unfit_from o from row
 
--- an action that is not refused
+-- the action is not refused: it is not of another operator's modem, not a tick past the last frame number, and not a slice change that does
+-- not fit
 pub record IsAllowed (o : Operator) (action : Action) : Type 0 where
   pub mine : stranger_of o.row action ≡ None
   pub not_spent : is_spent o.state action ≡ false
@@ -98,7 +102,7 @@ pub record IsAllowed (o : Operator) (action : Action) : Type 0 where
 abbrev pub after_step : Operator → Action → Operator
 after_step o action = record o { state = (own_step o action).state }
 
--- the actions one after the other, and all their outputs in order
+-- the actions one after the other: the state after them, and all their outputs in order
 abbrev pub own_run : Operator → List Action → StepResult
 own_run o [] = record { state = o.state; outputs = [] }
 own_run o (action ∷ actions) = record {

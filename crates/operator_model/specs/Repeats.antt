@@ -1,4 +1,4 @@
--- What a repeated request is answered (own; CM-SP-MULPIv3.1, 11.2).
+-- What a repeated request is answered (implementation-specific; CM-SP-MULPIv3.1, 11.2).
 use Rattle.std.specs.Prelude.{◌≡◌, ℕ, ◌<◌, true, find, Some}
 use Rattle.dsx_messages.specs.declared.modem.Modem.{Modem}
 use Rattle.dsx_messages.specs.declared.kind.Kind.{Kind}

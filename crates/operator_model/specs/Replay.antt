@@ -19,12 +19,13 @@ AreTold o (entry ∷ history) =
     × (entry.outputs ≡ (own_step o entry.action).outputs)
     × AreTold (after_step o entry.action) history
 
--- the state is the run of the history from this first state, and the outputs are the run's
+-- the state is the run of a history's actions from this first state: each action is allowed at its place, and each entry's outputs are the
+-- run's
 pub record IsReplayFrom (consts : ConstsFields) (row : RowFields) (first : OperatorState) (history : List Entry) (state : OperatorState) : Type 0 where
   pub state_is : state ≡ (own_run (operator consts row first) (actions_of history)).state
   pub told : AreTold (operator consts row first) history
 
--- the same from the opened state
+-- the state is the replay of the history from the opened state
 abbrev pub IsReplay : ConstsFields → RowFields → List Entry → OperatorState → Type 0
 IsReplay consts row history state = IsReplayFrom consts row (opened_state consts row) history state
 
@@ -43,11 +44,11 @@ operator_of_book b = operator b.consts b.row b.state
 abbrev pub opened_book : ConstsFields → RowFields → BookView
 opened_book consts row = record { row = row; consts = consts; state = opened_state consts row; history = [] }
 
--- the state is the replay of the history
+-- the state of a book is the replay of its history
 abbrev pub IsReplayed : BookView → Type 0
 IsReplayed b = IsReplay b.consts b.row b.history b.state
 
--- all that an action changes: the state by the machine, and one more entry
+-- all that an action changes of a book, in one equation: the state by the machine, and one more entry
 abbrev pub book_after_action : BookView → Action → BookView
 book_after_action b action = record {
   row = b.row;

@@ -30,6 +30,7 @@ slice_from (Reslice from row) = Some (record { from = from; slice = record { sta
 abbrev pub reslicings_in : List Action → List SliceFrom
 reslicings_in actions = filter_map slice_from actions
 
+-- the slice of a slice change, if there is one, else this one
 abbrev pub slice_or : Minislots → Option SliceFrom → Minislots
 slice_or first None = first
 slice_or first (Some reslicing) = reslicing.slice
@@ -83,7 +84,7 @@ NextSliceIsInForce = (consts : ConstsFields) (row : RowFields) (actions : List A
     → (own_run (opened_operator consts row) actions).state.share.slice
     ≡ slice_in_frame row.slice (reslicings_in actions) (own_run (opened_operator consts row) actions).state.frame
 
--- so it is in the replay of a history
+-- in the replay of a history the slice of the frame that comes next is in force
 abbrev pub ReplayedSliceIsInForce : Type 0
 ReplayedSliceIsInForce = (consts : ConstsFields) (row : RowFields) (history : List Entry) (state : OperatorState)
     → IsReplay consts row history state → state.share.slice ≡ slice_in_frame row.slice (reslicings_in (actions_of history)) state.frame

@@ -87,6 +87,7 @@ pub record IsNextShare (consts : ConstsFields) (frame committed : ℕ) (next : N
 
 -- ---- the state
 
+-- what always holds of an operator's state: it keeps the row's ranges, limits and quota, and the budget in force and the one that waits
 pub record IsSound (op : Operator) : Type 0 where
   -- a flow's SFID and SID lie in the row's ranges and are its own
   pub ascending : IsStrictlySortedBy nat_cmp (keys_of op.state.flows)

@@ -9,6 +9,8 @@ use Rattle.operator_model.specs.declared.heard.Arrival.{Arrival}
 use Rattle.operator_model.specs.declared.share.Share.{Share}
 use Rattle.operator_model.specs.declared.share.NextShare.{NextShare}
 
+-- what an operator's machine keeps: its flows, its cached responses, its inbox, the number of the next frame, the slice and the budget in
+-- force, and those that wait
 pub record OperatorState : Type 0 where
   -- the flows under their SFIDs, ascending
   pub flows : List (ℕ × Flow)
@@ -60,5 +62,6 @@ pub record Operator : Type 0 where
   pub row : RowFields
   pub state : OperatorState
 
+-- an operator of these constants, this row and this state
 abbrev pub operator : ConstsFields → RowFields → OperatorState → Operator
 operator consts row state = record { consts = consts; row = row; state = state }

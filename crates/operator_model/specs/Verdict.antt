@@ -33,7 +33,7 @@ abbrev pub minislots_allowed : ℕ → Option NextShare → ℕ
 minislots_allowed budget None = budget
 minislots_allowed budget (Some next) = min budget next.share.budget
 
--- the budget in force and the operator's quota of elements
+-- what all flows may have committed: the minislots that are allowed, and the operator's quota of elements
 abbrev pub limit_of : Operator → Budget
 limit_of op = record { minislots = minislots_allowed op.state.share.budget op.state.next; elements = op.row.elements }
 
@@ -48,7 +48,7 @@ within_limit kind tid units limit flows verdict =
     if nat_lt limit.minislots (committed_minislots units flows) then no_room kind tid else
     verdict
 
--- the flow is put under the SFID, unless more would be committed with it than may be
+-- checks 20 and 21: the flow is put under the SFID, unless more would be committed with it than may be
 abbrev pub put_within_limit : Operator → Kind → ℕ → ℕ → Flow → ReplyFields → Verdict
 put_within_limit op kind tid sfid flow reply =
     within_limit kind tid op.consts.units (limit_of op) (with_flow sfid flow op.state.flows)
@@ -68,6 +68,7 @@ new_flow modem frame sets sid = record {
   since = frame;
 }
 
+-- the DSA-RSP of a flow that is added: its reference, its SFID and its SID
 abbrev pub added_reply : ℕ → ℕ → ℕ → ℕ → ReplyFields
 added_reply tid reference sfid sid = record { kind = Dsa; tid = tid; code = codes.Okay; detail = Given (Some reference) sfid (Some sid) }
 
@@ -78,7 +79,7 @@ added_under op modem tid addition (Some sfid) None = no_room Dsa tid
 added_under op modem tid addition (Some sfid) (Some sid) =
     put_within_limit op Dsa tid sfid (new_flow modem op.state.frame addition.sets sid) (added_reply tid addition.reference sfid sid)
 
--- as many flows are as the row allows; else the flow gets the least free identifiers
+-- checks 17 to 21: as many flows are as the row allows; else the flow gets the least free identifiers
 unfoldable pub addition_within_limit : Operator → Modem → ℕ → Addition → Verdict
 addition_within_limit op modem tid addition =
     if nat_le op.row.flows (length op.state.flows) then no_room Dsa tid else
@@ -94,6 +95,7 @@ changed_flow change sid sid_is_new = record change.flow { sid = sid; pending = S
 abbrev pub changed_reply : ℕ → ℕ → SetsFields → Option ℕ → ReplyFields
 changed_reply tid sfid sets sid = record { kind = Dsc; tid = tid; code = codes.Okay; detail = Given None sfid (if is_some sets.admitted then sid else None) }
 
+-- the change of a flow with this SID, unless more would be committed than may be
 abbrev pub changed_with : Operator → ℕ → Change → Option ℕ → Bool → Verdict
 changed_with op tid change sid sid_is_new =
     put_within_limit op Dsc tid change.sfid (changed_flow change sid sid_is_new) (changed_reply tid change.sfid change.sets sid)
@@ -107,6 +109,7 @@ changed_with_new op tid change (Some sid) = changed_with op tid change (Some sid
 abbrev pub wants_sid : Change → Bool
 wants_sid change = is_some change.sets.admitted && is_none change.flow.sid
 
+-- a change whose sets are nested, by the checks that need room: no SID is free (19), or too much would be committed (20, 21)
 unfoldable pub change_within_limit : Operator → ℕ → Change → Verdict
 change_within_limit op tid change =
     if wants_sid change then changed_with_new op tid change (least_free_of op.row.sids (sids_of op.state.flows)) else
@@ -114,10 +117,12 @@ change_within_limit op tid change =
 
 -- ---- requests
 
+-- the verdict of an addition: the refusal of the checks before, or that of the checks that need room
 abbrev pub addition_verdict : Operator → Modem → ℕ → Result Addition ReplyFields → Verdict
 addition_verdict op modem tid (Err reply) = Refused reply
 addition_verdict op modem tid (Ok addition) = addition_within_limit op modem tid addition
 
+-- the verdict of a change: the refusal of the checks before, or that of the checks that need room
 abbrev pub change_verdict : Operator → ℕ → Result Change ReplyFields → Verdict
 change_verdict op tid (Err reply) = Refused reply
 change_verdict op tid (Ok change) = change_within_limit op tid change
@@ -127,7 +132,7 @@ abbrev pub deletion_verdict : ℕ → ℕ → Result Flow ReplyFields → Verdic
 deletion_verdict tid sfid (Err reply) = Refused reply
 deletion_verdict tid sfid (Ok flow) = Deleted sfid (record { kind = Dsd; tid = tid; code = codes.Okay; detail = Nothing })
 
--- what becomes of a request whose transaction is new
+-- what becomes of a request whose transaction is new: it is refused, or a flow is added, changed or deleted
 unfoldable pub verdict : Operator → Modem → Request → Verdict
 verdict op modem (requests.Dsa tid encodings) = addition_verdict op modem tid (addition_of op.consts (transaction modem Dsa tid) encodings)
 verdict op modem (requests.Dsc tid encodings) = change_verdict op tid (change_of op.consts op.state.flows (transaction modem Dsc tid) encodings)
@@ -135,6 +140,7 @@ verdict op modem (requests.Dsd tid sfid) = deletion_verdict tid sfid (free_flow 
 
 -- ---- check 4: what could not be read
 
+-- check 4: the refusal of a request whose list of TLVs is invalid, by its first fault
 abbrev pub encoding_refusal : Kind → ℕ → Option FlowId → TlvFault → ReplyFields
 encoding_refusal kind tid id (tlv_faults.Cut place) = refusal kind tid codes.RejectOther
 encoding_refusal kind tid id (tlv_faults.WrongLength subtype) = record { kind = kind; tid = tid; code = codes.RejectUnrecognizedSetting; detail = Errored id subtype }

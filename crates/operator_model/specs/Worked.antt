@@ -61,9 +61,11 @@ gold = record {
 abbrev pub classed_consts : ConstsFields
 classed_consts = record worked_consts { classes = record { name = codes "gold"; encoding = gold } ∷ [] }
 
+-- 02:00:00:00:00:01
 abbrev pub first_modem : Modem
 first_modem = record { 0 = 2 ∷ 0 ∷ 0 ∷ 0 ∷ 0 ∷ 1 ∷ [] }
 
+-- 02:00:00:00:00:02
 abbrev pub second_modem : Modem
 second_modem = record { 0 = 2 ∷ 0 ∷ 0 ∷ 0 ∷ 0 ∷ 2 ∷ [] }
 
@@ -86,9 +88,11 @@ worked_row = record {
 
 -- ---- bytes, as two hexadecimal digits each
 
+-- the value of an upper-case hexadecimal digit
 abbrev pub digit : ℕ → ℕ
 digit code = if nat_lt code 65 then code - 48 else code - 55
 
+-- the bytes of a text of hexadecimal digits, two for each
 abbrev pub hex : List ℕ → List ℕ
 hex [] = []
 hex (high ∷ []) = []
@@ -104,37 +108,41 @@ message_actions modem text = Arrive modem (Message (hex text)) ∷ Work ∷ []
 abbrev pub request_actions : Modem → ℕ → ℕ → List Action
 request_actions modem sid minislots = Arrive modem (Request sid minislots) ∷ Work ∷ []
 
--- a best-effort flow of reference 1 is added with its set admitted and active, and is reported SFID 257 and SID 257; then the
--- reply is acknowledged
+-- the DSA-REQ of a best-effort flow of reference 1 with its set admitted and active, in hexadecimal; the flow gets SFID 257 and SID 257
 abbrev pub addition : List ℕ
 addition = codes "0F0001180A010200010601060F0102"
 
+-- the DSA-RSP to the addition, in hexadecimal
 abbrev pub addition_reply : List ℕ
 addition_reply = codes "10000100180E0102000102040000010103020101"
 
+-- the DSA-ACK of the addition, in hexadecimal
 abbrev pub addition_ack : List ℕ
 addition_ack = codes "11000100"
 
--- likewise a flow of one unsolicited grant of 512 bytes in each frame: it needs the whole budget
+-- the DSA-REQ of a flow of one unsolicited grant of 512 bytes in each frame, in hexadecimal: it needs the whole budget
 abbrev pub full_addition : List ℕ
 full_addition = codes "0F00011817010200010601060F0106130202001404000007D0160101"
 
 -- ---- what comes of it
 
--- a machine is opened, and this is done
+-- what a machine outputs that is opened, and of which this is done
 abbrev pub answers : ConstsFields → RowFields → List Action → List Output
 answers consts row actions = (own_run (operator consts row (opened_state consts row)) actions).outputs
 
--- and the state that it leads to
+-- the state of that machine after this
 abbrev pub after : ConstsFields → RowFields → List Action → OperatorState
 after consts row actions = (own_run (operator consts row (opened_state consts row)) actions).state
 
+-- the operator once this was done
 abbrev pub operator_after : ConstsFields → RowFields → List Action → Operator
 operator_after consts row actions = operator consts row (after consts row actions)
 
+-- a reply to this modem, in hexadecimal
 abbrev pub hex_reply : Modem → List ℕ → Output
 hex_reply modem text = Reply modem (hex text)
 
+-- no reply to this modem, for this drop reason
 abbrev pub silent : Modem → Cause → Output
 silent modem cause = Silent (Some modem) cause
 
@@ -142,8 +150,10 @@ silent modem cause = Silent (Some modem) cause
 abbrev pub frame_within : Minislots → ℕ → List Span → List ℕ → Output
 frame_within slice number spans pending = Frame number (record { slice = slice; spans = spans; pending = pending })
 
+-- the worked operator's part of a frame: these spans, and the SIDs of these grants pending
 abbrev pub frame : ℕ → List Span → List ℕ → Output
 frame number spans pending = frame_within worked_row.slice number spans pending
 
+-- a span of this SID and IUC, from this minislot on and of so many minislots
 abbrev pub span : ℕ → Iuc → ℕ → ℕ → Span
 span sid iuc start len = record { sid = sid; iuc = iuc; start = start; len = len }

@@ -16,8 +16,11 @@ ghost use Rattle.operator_model.specs.Sound.{IsSound};
 /// States that the slice in force can serve the flows: they are sorted by SFID, none is of a later
 /// frame, and what their active sets need fits the slice.
 pub fn schedule_can_serve()
+    // The flows are sorted by SFID.
     ensures ascending { (op : Operator) → IsSound op → SfidsAscend (flowing_in op.state.flows) }
+    // No start and no age is of a later frame.
     ensures past { (op : Operator) → IsSound op → All (IsPast op.state.frame) (flowing_in op.state.flows) }
+    // What the active sets need fits the slice.
     ensures within { (op : Operator) → IsSound op
         → total_need (at_frame op) (flowing_in op.state.flows) ≤ op.state.share.slice.length }
 {}
@@ -33,8 +36,11 @@ pub fn given_up_have_no_grants()
 /// force and tiles it, with SIDs of the row's range or nobody's, at most one span is nobody's, and
 /// it has no more elements than the row's quota and one for what is left of the slice.
 pub fn frame_is_a_part()
+    // It is of the slice in force.
     ensures slice { (op : Operator) → (frame_elements op).slice ≡ op.state.share.slice }
+    // Its spans are the minislots of the slice, each in exactly one.
     ensures tiled { (op : Operator) → IsSound op → IsTiled (frame_elements op) }
+    // Each span has a SID of the row's range or SID 0.
     ensures spans_mine { (op : Operator) → IsSound op
         → list_all (λ span. is_own_sid op.row.sids span.sid) (frame_elements op).spans ≡ true }
     ensures pending_mine { (op : Operator) → IsSound op
@@ -43,6 +49,7 @@ pub fn frame_is_a_part()
         → count_by (λ span. span.sid == 0) (frame_elements op).spans ≤ 1 }
     ensures pending_not_null { (op : Operator) → IsSound op → IsRow op.row
         → All (λ sid. sid ≢ 0) (frame_elements op).pending }
+    // It has at most one element more than the quota.
     ensures few { (op : Operator) → IsSound op
         → length (frame_elements op).spans + length (frame_elements op).pending ≤ op.row.elements + 1 }
 {}
@@ -58,6 +65,7 @@ pub fn frames_have_no_gap()
 /// the slice of its number: that of the newest slice change that is not from a later frame on, at
 /// first the row's. So is the slice in force after it.
 pub fn frames_are_shares()
+    // Each frame has the slice that is in force for its number.
     ensures frames { FramesHaveTheirSlices }
     ensures in_force { NextSliceIsInForce }
     ensures replayed { ReplayedSliceIsInForce }

@@ -24,6 +24,7 @@ subtypes_of UnsolicitedGrant =
     traffic_priority_subtype ∷ max_sustained_rate_subtype ∷ max_burst_subtype ∷ request_policy_subtype ∷
     grant_size_subtype ∷ grant_interval_subtype ∷ grant_jitter_subtype ∷ grants_per_interval_subtype ∷ []
 
+-- a set of this kind of scheduling keeps the subtype
 abbrev pub keeps : Scheduling → ℕ → Bool
 keeps kind subtype = list_any (λ kept. kept == subtype) (subtypes_of kind)
 

@@ -14,6 +14,7 @@ need_of_kind RealTimePolling set units = record { minislots = 1 + reserve_of set
 need_of_kind UnsolicitedGrant set units =
     record { minislots = set.grants_per_interval * minislots_of set.grant_size units; elements = set.grants_per_interval }
 
+-- the minislots of each frame and the elements of its MAP that a parameter set needs, by its kind of scheduling
 abbrev pub need_of : ParamFields → UnitSizes → Budget
 need_of set units = need_of_kind set.scheduling set units
 

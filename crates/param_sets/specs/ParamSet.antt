@@ -30,6 +30,7 @@ IsOfKind NonRealTimePolling set = HasNoGrants set
 IsOfKind RealTimePolling set = HasNoGrants set
 IsOfKind UnsolicitedGrant set = HasNoPolls set × HasGrants set
 
+-- the priority is 0 to 7, and the set keeps what its kind of scheduling keeps; the type `ParamSet` keeps it
 pub record IsParameterSet (set : ParamFields) : Type 0 where
   pub priority : set.priority ≤ 7
   pub kind : IsOfKind set.scheduling set

@@ -39,5 +39,6 @@ set_of_kind None flow units = Err (record { code = RejectInvalidForContext; subt
 set_of_kind (Some kind) flow units =
     set_unless (missing_of kind flow) (invalid_of (kept_of kind flow) units) (kept_of kind flow)
 
+-- the parameter set of a flow encoding by its scheduling type, or why it has none: what `from_tlv` returns
 abbrev pub parameter_set_of : FlowFields → UnitSizes → Result ParamFields Refusal
 parameter_set_of flow units = set_of_kind (scheduling_of flow.scheduling_type) flow units

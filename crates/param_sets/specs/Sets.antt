@@ -13,7 +13,7 @@ abbrev pub IsWithinProvisioned : Option ParamFields → Option ParamFields → T
 IsWithinProvisioned set None = Unit {0}
 IsWithinProvisioned set (Some provisioned) = IsWithinOrNull set (Some provisioned)
 
--- the active set is within the admitted one, and that one within the provisioned one where there is one
+-- the active set is within the admitted one, and that one within the provisioned one where there is one; the type `Sets` keeps it
 pub record AreNested (sets : SetsFields) : Type 0 where
   pub active : IsWithinOrNull sets.active sets.admitted
   pub admitted : IsWithinProvisioned sets.admitted sets.provisioned

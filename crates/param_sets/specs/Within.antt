@@ -9,7 +9,7 @@ use Rattle.param_sets.specs.declared.param_set.ParamFields.{ParamFields}
 abbrev pub IsNoGreaterLimit : ℕ → ℕ → Type 0
 IsNoGreaterLimit a b = 0 < b → (0 < a) × (a ≤ b)
 
--- a asks for no more than b
+-- a asks for no more than b, in eight facts
 pub record IsWithin (a b : ParamFields) : Type 0 where
   pub scheduling : a.scheduling ≡ b.scheduling
   pub priority : a.priority ≤ b.priority
@@ -26,6 +26,7 @@ IsWithinOrNull None b = Unit {0}
 IsWithinOrNull (Some a) None = ⊥
 IsWithinOrNull (Some a) (Some b) = IsWithin a b
 
+-- a is a greater limit than b: 0 is no limit, and is greater than any other
 abbrev pub is_greater_limit : ℕ → ℕ → Bool
 is_greater_limit a b = not (b == 0) && (a == 0 || nat_lt b a)
 

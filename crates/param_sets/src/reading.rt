@@ -27,10 +27,13 @@ const POLLED_EACH: u32 = 1_000_000;
 /// keeps.
 pub fn from_tlv(flow: &FlowTlv, units: &Units) -> Result<ParamSet, Refusal>
     ensures exact { result ≡ parameter_set_of flow.now units.now }
+    // What is returned is what the encoding asks for.
     ensures asked { IfOk result (AsksFor flow.now units.now) }
     ensures only { (set : ParamFields) → AsksFor flow.now units.now set → result ≡ Ok set }
+    // This refusal comes exactly if the kind of scheduling is unknown.
     ensures unknown { (result ≡ Err (record { code = RejectInvalidForContext; subtype = scheduling_type_subtype }))
         ↔ (scheduling_of flow.now.scheduling_type ≡ None) }
+    // This refusal comes exactly for the least required subtype that is missing.
     ensures missing { (subtype : ℕ)
         → (result ≡ Err (record { code = RejectRequiredParameterNotPresent; subtype = subtype }))
         ↔ IsLeastMissing flow.now subtype }

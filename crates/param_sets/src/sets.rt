@@ -79,6 +79,7 @@ impl Sets {
     pub fn admit(&self, set: ParamSet) -> Result<Sets, Refusal>
         ensures exact { result ≡ admit_of self.now set }
         ensures ok { IsOk result ↔ IsWithinProvisioned (Some set) self.now.provisioned }
+        // Refused exactly if the set is not within the provisioned one, with the first subtype in which it is not.
         ensures refused { (subtype : ℕ)
             → (result ≡ Err (record { code = RejectAuthorizationFailure; subtype = subtype }))
             ↔ (failing_in_provisioned set self.now.provisioned ≡ Some subtype) }
@@ -107,6 +108,8 @@ impl Sets {
     pub fn activate(&self, set: ParamSet) -> Result<Sets, Refusal>
         ensures exact { result ≡ activate_of self.now set }
         ensures ok { IsOk result ↔ IsWithinOrNull (Some set) self.now.admitted }
+        // Refused exactly if the set is not within the admitted one: 15 if none is admitted, else the first subtype
+        // that fails.
         ensures refused { (subtype : ℕ) → (result ≡ Err (record { code = RejectInvalidForContext; subtype = subtype }))
             ↔ (failing_in_admitted set self.now.admitted ≡ Some subtype) }
     {

@@ -17,12 +17,12 @@ use Rattle.pcap_capture.specs.File.{file_of}
 
 -- ---- packets
 
--- the packet of what a modem sends, if a step is that: a request for minislots is not a management message
+-- the packet of a step, if a modem sends a message by it: a bandwidth request is not a management message
 abbrev pub sent_in : Step → List Packet
 sent_in (steps.Arrive modem (Message bytes)) = Sent modem bytes ∷ []
 sent_in step = []
 
--- the packet of a reply or of a MAP
+-- the packet of an output, if it is a reply or a MAP
 abbrev pub told_in : Out → List Packet
 told_in (outs.Of op (outputs.Reply modem bytes)) = Reply modem bytes ∷ []
 told_in (outs.Map made) = Map made.frame made.bytes ∷ []
@@ -30,7 +30,7 @@ told_in out = []
 
 -- ---- a capture
 
--- a capture so far: the plant's clock, and the packets in their order
+-- what contracts see of a `Capture` so far: the plant's clock, and the packets in their order
 pub record CaptureView : Type 0 where
   pub clock : Clock
   pub packets : List Packet
@@ -74,7 +74,7 @@ pub record CapturesRun (plant : PlantFields) (steps : List Step) (outs : List Ou
   pub clock_is : captured.clock ≡ clock_of plant.consts
   pub packets_are : captured.packets ≡ flat_map packets_of turns
 
--- the bytes are the file of such a capture
+-- the bytes are the file of a capture of these steps and outputs
 pub record IsCaptureOf (plant : PlantFields) (steps : List Step) (outs : List Out) (bytes : List ℕ) : Type 0 where
   pub captured : CaptureView
   pub of_run : CapturesRun plant steps outs captured

@@ -22,11 +22,12 @@ with_byte polynomial rest byte = with_bits polynomial 8 (bit_xor rest byte)
 abbrev pub rest_of : ℕ → ℕ → List ℕ → ℕ
 rest_of polynomial start bytes = fold (with_byte polynomial) start bytes
 
--- x^16 + x^12 + x^5 + 1, begun with ones, and complemented
+-- the CRC-CCITT of bytes, which are divided bit by bit in the order in which they are sent: x^16 + x^12 + x^5 + 1, begun with ones, and
+-- complemented
 abbrev pub crc_x25 : List ℕ → ℕ
 crc_x25 bytes = bit_xor (rest_of 33800 65535 bytes) 65535
 
--- the polynomial of Ethernet, begun with ones, and complemented
+-- the CRC-32 of bytes, divided likewise by the polynomial of Ethernet: begun with ones, and complemented
 abbrev pub crc_32 : List ℕ → ℕ
 crc_32 bytes = bit_xor (rest_of 3988292384 4294967295 bytes) 4294967295
 

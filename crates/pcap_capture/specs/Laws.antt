@@ -29,7 +29,7 @@ pub record FrameHolds (frame : List ℕ) (m : ManagementMessage) : Type 0 where
   pub payload : take (length m.payload) (drop 26 frame) ≡ m.payload
   pub whole : length frame ≡ 30 + length m.payload
 
--- the frame holds the packet's management message
+-- the frame holds the packet's management message, each part at its place
 pub record HoldsPacket (frame : List ℕ) (packet : Packet) : Type 0 where
   pub message : ManagementMessage
   pub message_is : managed_of packet ≡ Some message

@@ -11,8 +11,8 @@ pub record ManagementMessage : Type 0 where
   pub kind : ℕ
   pub payload : List ℕ
 
--- the management header and the payload: the addresses, the length of what follows it, DSAP and SSAP 0, control 3, version,
--- type, and a reserved byte
+-- the body of a frame, which is the management header and the payload: the addresses, the length of what follows it, DSAP and SSAP 0,
+-- control 3, version, type, and a reserved byte
 abbrev pub body_of : ManagementMessage → List ℕ
 body_of m =
     m.to ++ (m.from ++ (to_be_bytes w16 (6 + length m.payload) ++ ((0 ∷ 0 ∷ 3 ∷ m.version ∷ m.kind ∷ 0 ∷ []) ++ m.payload)))

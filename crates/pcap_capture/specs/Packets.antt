@@ -35,7 +35,8 @@ map_type = 3
 abbrev pub map_message : List ℕ → Option ManagementMessage
 map_message body = if_fits (record { to = all_modems_address; from = cmts; version = 1; kind = map_type; payload = body })
 
--- the management message of a packet, if it has one: a modem's goes to the CMTS, a reply to the modem
+-- the management message of a packet: a modem's goes to the CMTS, a reply to the modem, a MAP to all modems; there is none if the packet
+-- has no message type, or is too long
 abbrev pub managed_of : Packet → Option ManagementMessage
 managed_of (Sent modem bytes) = packet_message cmts modem.0 bytes
 managed_of (Reply modem bytes) = packet_message modem.0 cmts bytes

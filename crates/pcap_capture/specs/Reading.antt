@@ -15,6 +15,6 @@ records_in (suc more) bytes =
       | false ↦ []
     ]
 
--- the frames of a file: its header takes 24 bytes
+-- what a reader finds that goes from record to record: the frames of a file, whose header takes 24 bytes
 abbrev pub frames_of_file : ℕ → List ℕ → List (List ℕ)
 frames_of_file most bytes = records_in most (drop 24 bytes)

@@ -11,7 +11,7 @@ abbrev pub frame_time_after : ℕ → Packet → ℕ
 frame_time_after count (Map frame bytes) = count + 1
 frame_time_after count packet = count
 
--- the records of packets, so many MAPs having come before them
+-- the records of packets with their times by a count of MAPs, so many MAPs having come before them
 abbrev pub counted_from : ℕ → ℕ → ℕ → List Packet → List ℕ
 counted_from frame_us first_frame count [] = []
 counted_from frame_us first_frame count (packet ∷ packets) =

@@ -102,9 +102,12 @@ impl Capture {
     /// messages and leave nothing. Only a message takes memory.
     #[tactic(auto, using(crate::proofs::AddressLemmas::none_addressed, crate::proofs::AddressLemmas::one_addressed, crate::proofs::AddressLemmas::more_addressed))]
     pub fn add_sent_message(&mut self, alloc: Global, step: &Step) -> Result<(), AllocError>
+        // The packet of the modem's message is added.
         ensures ok { OnOk result (self.new ≡ with_packets self.old (sent_in step.now)) }
         ensures addressed { OnOk result (All IsAddressed (sent_in step.now)) }
+        // Out of memory it adds nothing.
         ensures err { OnErr result (self.new ≡ self.old) }
+        // Memory runs out only for a step that is a message.
         ensures memory { OnErr result (sent_in step.now ≢ []) }
     {
         if let Step::Arrive {
@@ -126,6 +129,7 @@ impl Capture {
     /// Adds the replies and MAPs among outputs, in order.
     #[tactic(auto, using(crate::proofs::AddressLemmas::more_addressed))]
     pub fn add_outputs(&mut self, alloc: Global, outs: &[Out]) -> Result<(), AllocError>
+        // The packets of replies and MAPs are added, in order.
         ensures ok { OnOk result (self.new ≡ with_packets self.old (flat_map told_in outs.now)) }
         ensures addressed { OnOk result (All IsAddressed (flat_map told_in outs.now)) }
         ensures err { OnErr result (self.new ≡ self.old) }
@@ -138,9 +142,12 @@ impl Capture {
     /// Returns the capture as a file. A message of no byte has no frame and no record, nor does one of more than 65,511 bytes of
     /// payload. A reader finds each frame in it, and in the frame the message.
     pub fn to_bytes(&self, alloc: Global) -> Result<Vec<u8>, AllocError>
+        // The file of the packets, byte for byte.
         ensures value { IfOk result (λ bytes. bytes.items ≡ file_of self.now.clock self.now.packets) }
+        // If the packets are those of a run, this is the capture of that run.
         ensures of_run { IfOk result (λ bytes. (plant : PlantFields) (steps : List Step) (outs : List Out)
             → CapturesRun plant steps outs self.now → IsCaptureOf plant steps outs bytes.items) }
+        // Whoever reads it from record to record finds the frames of the packets, in order, and nothing else.
         ensures read { IfOk result (λ bytes. AreRead self.now.packets bytes.items) }
     {
         file_of(alloc, self.clock, self.packets.as_slice())

@@ -48,6 +48,7 @@ pub fn capture_holds_run()
 /// States that the times in the file of a run that is `IsTraceOf` are counted by MAPs. A packet after so many MAPs has the time of
 /// the frame that is so many after the first one.
 pub fn times_are_counted()
+    // A packet has the time of the frame that is as many after the first as there were MAPs before it.
     ensures { (plant : PlantFields) (steps : List Step) (outs : List Out) (captured : CaptureView)
         → IsTraceOf plant steps outs → CapturesRun plant steps outs captured
         → file_of captured.clock captured.packets

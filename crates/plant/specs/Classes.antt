@@ -8,6 +8,7 @@ use Rattle.tlv24.specs.declared.fields.FlowFields.{FlowFields}
 use Rattle.param_sets.specs.Overridden.{overridden_of}
 use Rattle.plant.specs.declared.class_table.Class.{Class}
 
+-- the class has this name
 abbrev pub is_class_named : List ℕ → Class → Bool
 is_class_named name class = bytes_eq class.name name
 

@@ -22,6 +22,8 @@ all_modems rows = flat_map (λ row. row.modems) rows
 abbrev pub most_elements : List RowFields → ℕ
 most_elements rows = sum_by (λ row. row.elements) rows + 2 * length rows + 3
 
+-- when a plant is valid: it has 1 to 32 operators, each row is valid by itself, no two share a name, a minislot, an SFID, a SID or a modem,
+-- and a MAP of all their quotas keeps its limit of elements; the type `Plant` keeps it
 pub record IsPlant (plant : PlantFields) : Type 0 where
   pub consts : AreConsts plant.consts
   pub some : 1 ≤ length plant.rows
@@ -34,7 +36,7 @@ pub record IsPlant (plant : PlantFields) : Type 0 where
   pub modems : AllPairs (λ a b. a ≢ b) (all_modems plant.rows)
   pub elements : most_elements plant.rows ≤ 240
 
--- two plants are provisioned alike for the operators at these places: one row and all that operators share
+-- two plants are provisioned alike for the operators at these places: the same constants, and the same row
 pub record AgreeOn (p : PlantFields) (i : ℕ) (q : PlantFields) (j : ℕ) : Type 0 where
   pub row : RowFields
   pub consts : p.consts ≡ q.consts

@@ -1,4 +1,4 @@
--- Which flows an operator is opened with (own; set types: CM-SP-MULPIv3.1, Annex C, subtype 6).
+-- Which flows an operator is opened with (implementation-specific; set types: CM-SP-MULPIv3.1, Annex C, subtype 6).
 use Rattle.std.specs.Prelude.{ℕ, List, [], ◌∷◌, map, filter_map, Option, Some, None, is_some, Result, Ok, Err, if◌then◌else◌}
 use Rattle.std.specs.Ordering.{nat_cmp}
 use Rattle.std.specs.BTreeMap.{insert_entry}
@@ -29,6 +29,7 @@ sets_of_type (Some set_types.ProvisionedAndAdmitted) set = Some (record { provis
 sets_of_type (Some set_types.AllSets) set = Some (record { provisioned = Some set; admitted = Some set; active = Some set })
 sets_of_type other set = None
 
+-- the sets of a flow of this set type and parameter set; none where it states no set type or its set is refused
 abbrev pub sets_of_set : Option ℕ → Result ParamFields Refusal → Option SetsFields
 sets_of_set (Some n) (Ok set) = sets_of_type (set_type_of n) set
 sets_of_set (Some n) (Err refusal) = None
@@ -43,11 +44,12 @@ abbrev pub sets_over_class : UnitSizes → Option ℕ → Option FlowFields → 
 sets_over_class units set_type None = None
 sets_over_class units set_type (Some asked) = sets_of_asked units set_type asked
 
+-- the sets of a flow that is provisioned with what its encoding states; none where the encoding is invalid
 abbrev pub sets_of_flow : ConstsFields → Result FlowFields FlowFault → Option SetsFields
 sets_of_flow consts (Err fault) = None
 sets_of_flow consts (Ok stated) = sets_over_class consts.units stated.set_type (asked_of consts.classes stated)
 
--- the sets of a flow that is provisioned with these bytes
+-- the sets that a flow is opened with that is provisioned with these bytes; none where the bytes give it none
 abbrev pub sets_of_encoding : ConstsFields → List ℕ → Option SetsFields
 sets_of_encoding consts bytes = sets_of_flow consts (flow_of bytes)
 
@@ -59,9 +61,11 @@ pub record OpenedFlow : Type 0 where
   pub sid : Option ℕ
   pub sets : SetsFields
 
+-- the SFIDs of flows as they are opened
 abbrev pub opened_sfids : List (ℕ × OpenedFlow) → List ℕ
 opened_sfids flows = map (λ entry. entry.0) flows
 
+-- the SIDs of flows as they are opened
 abbrev pub opened_sids : List (ℕ × OpenedFlow) → List ℕ
 opened_sids flows = filter_map (λ entry. entry.1.sid) flows
 

@@ -24,6 +24,7 @@ pub record ListsFirst (rows : List RowFields) (modem : Modem) (operator : ℕ) :
 abbrev pub Places : Type 0
 Places = HashMap Modem ℕ (BuildHasherDefault FoldHasher)
 
+-- the place that the map has for a modem
 abbrev pub place_of : Places → Modem → Option ℕ
 place_of places modem = get same_modem places modem
 

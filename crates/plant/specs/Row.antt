@@ -19,6 +19,7 @@ use Rattle.plant.specs.Provisioned.{sets_of_encoding}
 abbrev pub same_modem : Modem → Modem → Bool
 same_modem a b = bytes_eq a.0 b.0
 
+-- the modem is one of these
 abbrev pub is_listed : Modem → List Modem → Bool
 is_listed modem modems = list_any (λ m. same_modem m modem) modems
 
@@ -29,6 +30,7 @@ pub record IsFrom (least most n : ℕ) : Type 0 where
   pub low : least ≤ n
   pub high : n ≤ most
 
+-- each key of a row is in its range, by itself; the SIDs are those that one flow may have (Annex A, A.2)
 pub record IsRow (row : RowFields) : Type 0 where
   pub sfids : 1 ≤ row.sfids.first
   pub sids_low : 1 ≤ row.sids.first
@@ -47,9 +49,11 @@ abbrev pub need_of_sets : UnitSizes → Option SetsFields → Budget
 need_of_sets units None = record { minislots = 0; elements = 0 }
 need_of_sets units (Some sets) = need_if units sets.admitted
 
+-- what a provisioned flow needs, by its encoding
 abbrev pub need_of_provision : ConstsFields → Provision → Budget
 need_of_provision consts p = need_of_sets consts.units (sets_of_encoding consts p.encoding)
 
+-- a flow with these sets has an admitted set
 abbrev pub admits : Option SetsFields → Bool
 admits None = false
 admits (Some sets) = is_some sets.admitted

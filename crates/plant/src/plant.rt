@@ -84,6 +84,7 @@ impl Plant {
 
     /// Returns the operator that lists this modem, if one does: at most one does. Takes no memory.
     pub fn operator_of(&self, modem: Modem) -> Option<Op>
+        // The holder of the modem: the first operator that lists it, of whom a valid plant has at most one.
         ensures { result ≡ holder self.now.rows modem }
     {
         self.places.get(&modem).copied()

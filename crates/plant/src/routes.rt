@@ -28,6 +28,7 @@ pub trait Routing: Drop {
     /// Returns the operator that lists this modem, if one does.
     fn place_of(&mut self, modem: Modem) -> Option<Op>
         ensures value { result ≡ holder (plant_of self.old).rows modem }
+        // Nothing changes that contracts see.
         ensures same { self.new ≡ self.old };
 }
 
@@ -73,6 +74,7 @@ impl Routes {
     /// is compared first: the cache's order does not change then.
     #[inline(always)]
     pub fn place_of(&mut self, modem: Modem) -> Option<Op>
+        // The operator that the plant gives, also if memory ran out and the address is not cached.
         ensures value { result ≡ holder self.old.rows modem }
         ensures plant { self.new ≡ self.old }
     {

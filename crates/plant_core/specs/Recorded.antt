@@ -38,8 +38,8 @@ recorded_view live histories changes = record {
   gathering = recorded_gathering live changes;
 }
 
--- the record belongs to the live core: there is a history for each operator, the live core has the books without them and the
--- last of the slice changes, each frame to come has the same slices in both, and all slices are valid
+-- the record belongs to the live core: there is a history for each operator, the live core has the books without them and the last of the
+-- slice changes, each frame to come has the same slices in both, and all slices are valid; the type `RecordedCore` keeps it
 pub record IsRecordOf (live : CoreView) (histories : List (List Entry)) (changes : List SliceChange) : Type 0 where
   pub one_each : length histories ≡ length live.books
   pub books_are : map forgotten (with_histories live.books histories) ≡ live.books

@@ -9,7 +9,7 @@ use Rattle.run_model.specs.IsStateAfter.{frames_of}
 abbrev pub frames_in : List Entry → List (ℕ × ElementsFields)
 frames_in entries = frames_of (flat_map (λ entry. entry.outputs) entries)
 
--- the frames from a place of the history on
+-- the frames of a history from a place on
 abbrev pub waiting_in : List Entry → ℕ → List (ℕ × ElementsFields)
 waiting_in history place = frames_in (drop place history)
 

@@ -78,6 +78,7 @@ impl PlantCore {
     ) -> Result<PlantCore, CoreOpenFault>
         ensures ok { IfOk result (λ core. core_view core ≡ opened_core plant) }
         ensures reached { IfOk result (λ core. IsStateAfter plant [] [] (core_view core)) }
+        // Rankings are refused exactly if they are not one for each operator, of its policy.
         ensures mismatch { (result ≡ Err CoreOpenFault.RankingsMismatch)
             ↔ (map (λ ranking. ranking.policy) rankings.items ≢ map (λ row. row.policy) plant.rows) }
     {

@@ -32,6 +32,7 @@ impl PlantCore {
         ensures ok { OnOk result (Steps step (core_view self.old) (core_view self.new) outs.new.items) }
         ensures reached { OnOk result (LeadsOn (core_view self.old) (step ∷ []) outs.new.items (core_view self.new)) }
         ensures err { OnErr result (core_view self.new ≡ core_view self.old) }
+        // If the step is refused there are no outputs.
         ensures outs { OnErr result (outs.new.items ≡ []) }
         ensures fault { IsReported result (step_fault (core_view self.old) step) }
     {
@@ -45,7 +46,9 @@ impl PlantCore {
     /// Performs steps one after the other, up to the first that is refused, and returns their
     /// outputs in order. The core then is as after the steps before it.
     pub fn run(&mut self, alloc: Global, steps: &[Step]) -> Result<Vec<Out>, RunStop>
+        // All steps were done, and the core is what they lead to.
         ensures reached { IfOk result (λ outs. LeadsOn (core_view self.old) steps.now outs.items (core_view self.new)) }
+        // The core is as after the steps before the refused one.
         ensures stopped { IfErr result (λ stop. LeadsOn (core_view self.old) (take stop.at steps.now) stop.outs.items
             (core_view self.new)) }
         ensures within { IfErr result (λ stop. stop.at < length steps.now) }

@@ -21,6 +21,7 @@ IsMissing document key = (value_of_key document key ≡ None) × MustStand docum
 abbrev pub IsWrong : Members → Key → Type 0
 IsWrong document key = (d : Data) × (value_of_key document key ≡ Some d) × (¬ IsValueOfKey document key d)
 
+-- the key is missing, or what is under it is wrong
 abbrev pub IsAtFault : Members → Key → Type 0
 IsAtFault document key = IsMissing document key ⊎ IsWrong document key
 

@@ -24,6 +24,7 @@ abbrev pub items_or_none : Option Items → Items
 items_or_none None = no_items
 items_or_none (Some ds) = ds
 
+-- the items of the array that is there, if one is; else none
 abbrev pub items_in : Option Data → Items
 items_in None = no_items
 items_in (Some d) = items_or_none (as_array d)

@@ -37,9 +37,11 @@ abbrev pub in_turn : (ℕ → List Key) → ℕ → Items → List Key
 in_turn keys n no_items = []
 in_turn keys n (item d ds) = keys n ++ in_turn keys (suc n) ds
 
+-- a class's table and its keys
 abbrev pub class_keys : ℕ → List Key
 class_keys class = keys_at (place.Class class) class_fields
 
+-- a provisioned flow's table and its keys
 abbrev pub flow_keys : ℕ → ℕ → List Key
 flow_keys operator flow = keys_at (place.Flow operator flow) flow_fields
 

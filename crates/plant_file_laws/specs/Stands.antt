@@ -1,4 +1,6 @@
 -- Which keys of a plant file have to be there, and what may be under each (implementation-specific).
+-- This is written apart from the reader in `slice_table`, so a slip in one of the two is noticed: only the ranges and defaults of numbers
+-- are shared.
 use Rattle.std.specs.Prelude.{◌≡◌, ◌≢◌, ℕ, ◌+◌, ◌<◌, ◌≤◌, ◌⊎◌, pos, codes, IsTrue, IsSome, IsNone, List, length, Some, Ok}
 use Rattle.std.specs.Char.{is_ascii_alphanumeric}
 use Rattle.std.specs.List.{list_all}
@@ -24,6 +26,7 @@ use Rattle.plant_file_laws.specs.Held.{table_in, standing_at, value_of_key}
 
 -- ---- what may be under a key
 
+-- a number as a value of TOML
 abbrev pub number : ℕ → Data
 number n = integer (pos n)
 
@@ -63,6 +66,7 @@ IsHexadecimal bytes d = (text : List ℕ) × (d ≡ string text) × (decode_of t
 abbrev pub IsHead : Members → Data → Type 0
 IsHead document d = (frame : ℕ) × (value_of_key document (Entry place.Plant field.FrameMinislots) ≡ Some (number frame)) × IsNumber 0 frame d
 
+-- what may be under each key of the table `plant`
 abbrev pub OfPlant : Members → Field → Data → Type 0
 OfPlant document field.FrameMinislots d = IsNumberIn field.FrameMinislots d
 OfPlant document field.Head d = IsHead document d
@@ -94,6 +98,7 @@ abbrev pub IsClassEncoding : Data → Type 0
 IsClassEncoding d =
     (bytes : List ℕ) × (flow : FlowFields) × IsHexadecimal bytes d × (flow_of bytes ≡ Ok flow) × StatesParameters flow
 
+-- what may be under each key of a class
 abbrev pub OfClass : Members → ℕ → Field → Data → Type 0
 OfClass document class field.Name d = IsNewClassName document class d
 OfClass document class field.Encoding d = IsClassEncoding d
@@ -117,6 +122,7 @@ IsSliceValue document d =
 abbrev pub IsPolicy : Data → Type 0
 IsPolicy d = (d ≡ string (codes "strict")) ⊎ ((d ≡ string (codes "aged")) ⊎ (d ≡ string (codes "short")))
 
+-- the operator's policy is "aged"
 abbrev pub IsAged : Members → ℕ → Type 0
 IsAged document operator = value_of_key document (Entry (place.Operator operator) field.Policy) ≡ Some (string (codes "aged"))
 
@@ -124,6 +130,7 @@ IsAged document operator = value_of_key document (Entry (place.Operator operator
 abbrev pub AreModems : Data → Type 0
 AreModems d = (ds : Items) × (d ≡ array ds) × IsFrom 1 1024 (items_len ds) × AllItems (λ e. (modem : Modem) × IsAddress e modem) ds
 
+-- what may be under each key of an operator
 abbrev pub OfOperator : Members → ℕ → Field → Data → Type 0
 OfOperator document operator field.Name d = IsName document operator d
 OfOperator document operator field.Slice d = IsSliceValue document d
@@ -160,6 +167,7 @@ GivesSets document d =
     (consts : ConstsFields) × (bytes : List ℕ) × SaysConsts document consts × IsHexadecimal bytes d
     × IsSome (sets_of_encoding consts bytes)
 
+-- what may be under each key of a provisioned flow
 abbrev pub OfFlow : Members → ℕ → Field → Data → Type 0
 OfFlow document operator field.Modem d = IsOwnModem document operator d
 OfFlow document operator field.Encoding d = GivesSets document d
@@ -167,6 +175,7 @@ OfFlow document operator other d = ⊥
 
 -- ---- of any key
 
+-- which values each key may have: the table of docs/FORMATS.md, key by key
 abbrev pub IsValueOfKey : Members → Key → Data → Type 0
 IsValueOfKey document Classes d = IsArray 0 64 d
 IsValueOfKey document Operators d = IsArray 1 32 d

@@ -13,6 +13,7 @@ ghost use Rattle.plant_file_laws.specs.Faults.{IsOfTheFirstKey, IsOfAllKeys, Has
 /// States that a document is refused for a fault exactly where it is that of the first key that is
 /// invalid, or where no key is and it is the first fault of all of them together.
 pub fn fault_is_of_the_first_key()
+    // The fault of a key is `Missing` if it is not there, and `BadValue` if its value is not permitted.
     ensures { (document : Members) (fault : PlantFault) → (plant_of document ≡ Err fault)
         ↔ (IsOfTheFirstKey document fault ⊎ IsOfAllKeys document fault) }
 {}

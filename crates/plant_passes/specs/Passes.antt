@@ -46,6 +46,7 @@ seat_view cell known = record {
   ended_cell = known.ended_cell;
 }
 
+-- what contracts see of the pass at a seat
 abbrev pub pass_view : {S X : Type 0} → Seat S (Knowledge X) → PassView
 pass_view seat = seat_view seat.table_id seat.me.0
 
@@ -104,15 +105,15 @@ pub record LooksOn (before after : PassView) : Type 0 where
   pub own : after.made ≡ places after.number after.seen
   pub run : IsOwnRun after.origin (entries after.seen)
 
--- the same, and another pass or an earlier turn had closed the cell
+-- the pass has seen the history so far and made no entry, and another pass or an earlier turn had closed the cell
 abbrev pub FindsClosed : PassView → PassView → Type 0
 FindsClosed before after = LooksOn before after × (after.closed ≡ true) × (after.ended_cell ≡ before.ended_cell)
 
--- the same, and the cell is open
+-- the pass has seen the history so far and made no entry, and the cell is open
 abbrev pub FindsOpen : PassView → PassView → Type 0
 FindsOpen before after = LooksOn before after × (after.closed ≡ false) × (after.ended_cell ≡ before.ended_cell)
 
--- the same, and the pass closed the cell by a refused turn after the history that it then has seen
+-- the pass made no entry, and has closed the cell by a refused turn after the history that it then has seen
 abbrev pub EndsCell : PassView → PassView → Type 0
 EndsCell before after = LooksOn before after × (after.closed ≡ true) × (after.ended_cell ≡ true)
 

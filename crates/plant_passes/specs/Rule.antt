@@ -31,6 +31,7 @@ pub record Progress : Type 0 where
   pub opener_seat : ℕ
   pub not_given : ℕ
 
+-- the cell is not closed
 abbrev pub IsOpen : Progress → Type 0
 IsOpen now = now.serving ≢ closing_mark
 

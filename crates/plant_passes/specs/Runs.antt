@@ -6,7 +6,7 @@ use Rattle.operator_model.specs.Machine.{own_run}
 use Rattle.operator_model.specs.Replay.{BookView, AreTold, actions_of}
 use Rattle.plant_passes.specs.declared.view.Origin.{Origin}
 
--- what a book was opened with
+-- what a book was opened with: what all operators share, and its row
 abbrev pub origin_of : BookView → Origin
 origin_of b = record { consts = b.consts; row = b.row }
 
@@ -14,7 +14,7 @@ origin_of b = record { consts = b.consts; row = b.row }
 abbrev pub own_machine : Origin → Operator
 own_machine origin = operator origin.consts origin.row (opened_state origin.consts origin.row)
 
--- each entry was allowed at its place, and its outputs are the machine's
+-- the entries are those of the origin's own machine: each was allowed at its place, and its outputs are the machine's
 abbrev pub IsOwnRun : Origin → List Entry → Type 0
 IsOwnRun origin history = AreTold (own_machine origin) history
 

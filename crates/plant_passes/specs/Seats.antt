@@ -64,9 +64,11 @@ no_origin = record {
 }
 
 module _ {X : Type 0} where
+  -- what a seat knows
   abbrev pub knowledge : SeatNow X → Knowledge X
   knowledge now = now.0
 
+  -- the slots that a seat has taken out
   abbrev pub hand : SeatNow X → List (ℕ × CellSlot X)
   hand now = now.1
 

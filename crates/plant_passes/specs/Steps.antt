@@ -11,6 +11,7 @@ use Rattle.plant_passes.specs.Seats.{closing_mark, CellSlot, CellStep, SeatNow, 
 -- ---- a ticket is drawn
 
 module _ {X : Type 0} where
+  -- a seat that has drawn this ticket
   abbrev pub with_ticket : Knowledge X → ℕ → Knowledge X
   with_ticket known ticket = record known { ticket = Some ticket }
 
@@ -76,6 +77,7 @@ pub record FindsServing {X : Type 0} (serving : ℕ) (before after : SeatNow X) 
   pub other : serving ≢ closing_mark → (knowledge before).ticket ≢ Some serving → KeepsTicket before after
 
 module _ {X : Type 0} where
+  -- the seat sees the history so far, and finds whether it is its turn
   abbrev pub LooksAtServing : CellStep X → SeatNow X → ℕ → SeatNow X → Type 0
   LooksAtServing step before found after =
       SeesHistory (knowledge before) (knowledge after) × FindsServing found before after
@@ -105,6 +107,7 @@ module _ {X : Type 0} where
 
   -- ---- a turn ends with a refusal
 
+  -- a seat that has closed the cell by a refused turn: it has no ticket and no book any more
   abbrev pub after_closing : Knowledge X → Knowledge X
   after_closing known = record known { ticket = None; holds_book = false; closed = true; ended_cell = true }
 

@@ -38,6 +38,7 @@ impl PassedCell {
         ensures cell { IfOk result (λ r. ((cell_of r.0).passes ≡ passes)
             × ((cell_of r.0).origin ≡ origin_of (view_of book))) }
         ensures of { IfOk result (λ r. All (λ p. IsOfCell (cell_of r.0) (pass_of p)) r.1.items) }
+        // The passes have seen the book's history, and made nothing.
         ensures passes { IfOk result (λ r. map pass_of r.1.items
             ≡ first_passes (cell_of r.0).cell (cell_of r.0).origin (mark_entries 0 (view_of book).history) passes) }
     {
@@ -65,6 +66,7 @@ impl PassedCell {
         ensures looks { LooksOn (pass_of pass.old) (pass_of pass.new) }
         ensures ended_cell { (pass_of pass.new).ended_cell ≡ (pass_of pass.old).ended_cell }
         ensures copy { IfOk result (λ told. told ≡ action.now) }
+        // If memory ran out before the turn, the cell stays open.
         ensures err { IfErr result (RefusesBeforeTurn (pass_of pass.new)) }
         ensures mine { (stranger : Modem) → result ≢ Err (refusals.Book (faults.NotMine stranger)) }
         ensures not_spent { result ≢ Err (refusals.Book faults.FramesSpent) }
@@ -91,7 +93,11 @@ impl PassedCell {
     ) -> Result<Receipt, CellFault>
         requires of { IsOfCell (cell_of self.now) (pass_of pass.old) }
         ensures of { IsOfCell (cell_of self.now) (pass_of pass.new) }
+        // There is a history that begins with all that the pass had seen, is a run of the operator's own machine, and
+        // ends with this action and the receipt's outputs, at the receipt's index.
         ensures ok { IfOk result (λ r. ActsInTurn (pass_of pass.old) (actions.Arrive modem heard) r (pass_of pass.new)) }
+        // What the refusal leaves. Out of memory closes the cell by its own turn, or leaves it open. No clause excludes
+        // that `Closed` comes in place of another refusal: tests do.
         ensures err { IfErr result (λ fault. RefusesArrival (pass_of pass.old) fault (pass_of pass.new)) }
 
         // A stranger is refused first, and before a turn is drawn; whoever knows the cell closed is then reported so.
@@ -185,6 +191,7 @@ impl PassedCell {
         requires told { IsOfCell (cell_of self.now) (pass_of told.old) }
         requires teller { IsOfCell (cell_of self.now) (pass_of teller.old) }
         ensures of { IsOfCell (cell_of self.now) (pass_of told.new) × IsOfCell (cell_of self.now) (pass_of teller.new) }
+        // The pass has seen all that the other has.
         ensures told { OnOk result (HasMet (pass_of told.old) (pass_of teller.old) (pass_of told.new)) }
         ensures teller { pass_of teller.new ≡ pass_of teller.old }
         ensures never_refused { IsOk result }
@@ -199,8 +206,10 @@ impl PassedCell {
     /// Returns the book, where every pass of the cell is handed back. Takes no memory.
     pub fn close(self, mut passes: Vec<Pass>) -> Option<Book>
         requires of { All (λ p. IsOfCell (cell_of self) (pass_of p)) passes.items }
+        // The longest history that a pass has seen, which begins with what each has seen.
         ensures some { IfSome result (λ book. (origin_of (view_of book) ≡ (cell_of self).origin)
             × IsLongest (map pass_of passes.items) (view_of book).history) }
+        // None exactly if a pass is missing.
         ensures none { IsNone result ↔ (vec_len passes < (cell_of self).passes) }
     {
         let PassedCell {

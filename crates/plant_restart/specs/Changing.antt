@@ -32,6 +32,7 @@ pub record IsChangeRefused (old : CoreView) (plant : PlantFields) (why : Restart
   pub shared : KeepsConsts old.plant.consts plant.consts
   pub is : IsRestartFault plant frame (states_by_name old) why
 
+-- what each refusal of a change says: the constants differ, the old core does not rest, or the operators do not start so
 abbrev pub IsChangeFault : CoreView → PlantFields → ChangeFault → Type 0
 IsChangeFault old plant ConstantsDiffer = ¬ KeepsConsts old.plant.consts plant.consts
 IsChangeFault old plant (Unfinished why) = KeepsConsts old.plant.consts plant.consts × IsRestFault old why

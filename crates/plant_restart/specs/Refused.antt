@@ -9,6 +9,7 @@ use Rattle.operator_book.specs.RowFaults.{row_faults}
 use Rattle.plant_restart.specs.declared.refusing.RefusedState.{RefusedState}
 use Rattle.plant_restart.specs.ByName.{state_under}
 
+-- this fault of the state of the operator at this place
 abbrev pub refused_state : ℕ → StateFault → RefusedState
 refused_state op why = record { op = op; why = why }
 
@@ -22,6 +23,6 @@ abbrev pub refused_from : ConstsFields → List (List ℕ × OperatorState) → 
 refused_from consts states op [] = []
 refused_from consts states op (row ∷ rows) = refused_under consts op row (state_under states row.name) ++ refused_from consts states (op + 1) rows
 
--- those of all rows of a plant
+-- for each row of a plant, the faults that the state under its name has (`row_faults`), each with the place of the row
 abbrev pub refused_states : PlantFields → List (List ℕ × OperatorState) → List RefusedState
 refused_states plant states = refused_from plant.consts states 0 plant.rows

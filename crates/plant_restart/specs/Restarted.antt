@@ -32,6 +32,7 @@ pub record IsWrongState (consts : ConstsFields) (row : RowFields) (state : Opera
   pub first_fault : state_fault consts row state ≡ Some why
   pub stands_not : ¬ IsStateUnder consts row state
 
+-- what a fault says of the state of the operator at this place; out of memory says nothing of it
 abbrev pub IsFaultOfState : ConstsFields → ℕ → RowFields → OperatorState → RestartFault → Type 0
 IsFaultOfState consts op row state (State at why) = (at ≡ op) × IsWrongState consts row state why
 IsFaultOfState consts op row state (Core why) = ⊥
@@ -49,24 +50,26 @@ pub record IsRefusedState (consts : ConstsFields) (rows : List RowFields) (state
   pub row_is : slice_get rows op ≡ Some row
   pub wrong : IsWrongUnder consts states row why
 
--- what a fault says of the operator of a row, and of all operators by themselves
+-- what a fault says of the state under the name of a row's operator; out of memory says nothing of it
 abbrev pub IsRowFault : ConstsFields → List (List ℕ × OperatorState) → ℕ → RowFields → RestartFault → Type 0
 IsRowFault consts states op row (State at why) = (at ≡ op) × IsWrongUnder consts states row why
 IsRowFault consts states op row (Core why) = ⊥
 IsRowFault consts states op row NoMemory = ⊤
 
+-- what a fault says of the states of the operators of these rows; out of memory says nothing of them
 abbrev pub IsRowsFault : ConstsFields → List (List ℕ × OperatorState) → List RowFields → RestartFault → Type 0
 IsRowsFault consts states rows (State op why) = IsRefusedState consts rows states op why
 IsRowsFault consts states rows (Core why) = ⊥
 IsRowsFault consts states rows NoMemory = ⊤
 
--- what a fault says
+-- what each refusal of a restart says
 abbrev pub IsRestartFault : PlantFields → ℕ → List (List ℕ × OperatorState) → RestartFault → Type 0
 IsRestartFault plant frame states (State op why) = IsRefusedState plant.consts plant.rows states op why
 IsRestartFault plant frame states (Core why) = IsResumeFault plant frame (operators_by_name plant frame states) why × (why ≢ resume.NoMemory)
 IsRestartFault plant frame states NoMemory = ⊤
 
--- each state under an operator's name is one of its row, and the operators go together: all are at the frame, which is not before the plant's first one, their next slices wait for one frame, and their slices are valid
+-- each state under an operator's name is one of its row, and the operators go together: all are at the frame, which is not before the
+-- plant's first one, their next slices wait for one frame, and their slices are valid
 pub record CanRestart (plant : PlantFields) (frame : ℕ) (states : List (List ℕ × OperatorState)) : Type 0 where
   pub stand : AtEachOperator plant (λ op row. IfSome (state_under states row.name) (λ state. IsStateUnder plant.consts row state))
   pub go_together : GoTogether frame (operators_by_name plant frame states)
@@ -76,6 +79,7 @@ pub record CanRestart (plant : PlantFields) (frame : ℕ) (states : List (List �
 
 -- ---- why a snapshot is not restored
 
+-- the names under which states are given
 abbrev pub names_of : List (List ℕ × OperatorState) → List (List ℕ)
 names_of states = map (λ named. named.0) states
 
@@ -87,6 +91,7 @@ HasNoRow rows name = All (λ row. row.name ≢ name) rows
 abbrev pub HaveRows : List RowFields → List (List ℕ) → Type 0
 HaveRows rows names = All (λ name. ¬ HasNoRow rows name) names
 
+-- what each refusal of a restore says: a saved operator has no row, or the operators do not start in their states
 abbrev pub IsRestoreFault : PlantFields → ℕ → List (List ℕ × OperatorState) → RestoreFault → Type 0
 IsRestoreFault plant frame states (UnknownOperator name) = Contains (names_of states) name × HasNoRow plant.rows name
 IsRestoreFault plant frame states (Restart why) = HaveRows plant.rows (names_of states) × IsRestartFault plant frame states why

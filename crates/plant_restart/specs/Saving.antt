@@ -33,7 +33,7 @@ pub record IsCoreSnapshot (live : CoreView) (text : List ℕ) (saved : Snapshot)
   pub rests : Rests live saved.frame
   pub states_are : states_of saved ≡ states_by_name live
 
--- what a fault says
+-- what each refusal of a snapshot says
 abbrev pub IsSaveFault : CoreView → SaveFault → Type 0
 IsSaveFault live (Unfinished why) = IsRestFault live why
 IsSaveFault live NoMemory = ⊤

@@ -21,7 +21,10 @@ use std::alloc::Global;
 ///
 /// Fails in the order of `ChangeFault` (implementation-specific).
 pub fn change(alloc: Global, core: &LiveCore, plant: Plant) -> Result<LiveCore, ChangeFault>
+    // Whatever run led to the old core, the new one is a change of its plant, of which `changes_are_not_noticed`
+    // speaks.
     ensures ok { IfOk result (λ new. IsChangeOf (live_view core.now) plant (live_view new)) }
+    // This fault holds. No clause says which one of several, or that it is one of `refused_states`.
     ensures fault { IfErr result (IsChangeFault (live_view core.now) plant) }
 
     // Where the core rests, and the operators can start in their states under the new plant, the only fault is out of memory.

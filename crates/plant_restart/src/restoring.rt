@@ -47,8 +47,11 @@ fn check_names(rows: &[OperatorRow], operators: &[SavedOperator]) -> Result<(), 
 /// Fails with a saved operator that the plant does not have, else with a `RestartFault`. No clause says which one of several
 /// (implementation-specific).
 pub fn restore(alloc: Global, plant: Plant, saved: &Snapshot) -> Result<LiveCore, RestoreFault>
+    // Each operator is in the state saved under its name, or is opened before that frame.
     ensures ok { IfOk result (λ core. IsRestarted plant saved.now.frame (states_of saved.now) (live_view core)) }
     ensures names { OnOk result (HaveRows plant.rows (names_of (states_of saved.now))) }
+    // This fault holds: a saved operator has no row, a state is not one of its row, or the operators do not go
+    // together.
     ensures fault { IfErr result (IsRestoreFault plant saved.now.frame (states_of saved.now)) }
 
     // Where each saved operator has a row, and the operators can start in their states, the only fault is out of memory.

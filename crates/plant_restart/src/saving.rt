@@ -39,6 +39,7 @@ pub(crate) fn states_to_save(
 /// Fails with the first operator that does not rest, as `RestFault` names it, or if memory runs out.
 pub fn save(alloc: Global, core: &LiveCore, plant_text: Bytes) -> Result<Snapshot, SaveFault>
     ensures ok { IfOk result (IsCoreSnapshot (live_view core.now) plant_text) }
+    // This operator does not rest, or memory ran out.
     ensures fault { IfErr result (IsSaveFault (live_view core.now)) }
 
     // Memory is asked for where the core rests, and there the only fault is out of memory.

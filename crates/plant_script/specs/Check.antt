@@ -15,9 +15,11 @@ use Rattle.plant_script.specs.One.{Answer, is_readable}
 
 -- ---- the line of an invalid plant
 
+-- a text and a line feed
 abbrev pub text_line : List ℕ → List ℕ
 text_line text = text ++ 10 ∷ []
 
+-- the names of two operators, and a line feed
 abbrev pub two_names : List ℕ → List ℕ → List ℕ
 two_names a b = a ++ (codes " " ++ text_line b)
 
@@ -37,10 +39,12 @@ fault_text NoMemory = []
 
 -- ---- the whole
 
+-- what `check` answers to a script: `ok`, or its first invalid line with status 4
 abbrev pub answer_to_steps : Result (List LineStep) ℕ → Answer
 answer_to_steps (Ok steps) = record { status = 0; text = codes "ok" ++ 10 ∷ [] }
 answer_to_steps (Err number) = record { status = 4; text = codes "fault: line " ++ (decimal number ++ 10 ∷ []) }
 
+-- what `check` answers to a plant file: that of its script, or the plant's fault with status 3
 abbrev pub answer_to_plant : Result PlantFields PlantFault → List ℕ → Answer
 answer_to_plant (Ok plant) script = answer_to_steps (steps_of plant script)
 answer_to_plant (Err fault) script = record { status = 3; text = codes "fault: plant " ++ fault_text fault }

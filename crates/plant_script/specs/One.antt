@@ -23,6 +23,7 @@ use Rattle.plant_script.specs.OperatorA.{row_a, consts_a}
 abbrev pub sent_actions : List (List ℕ) → List Action
 sent_actions messages = flat_map (λ message. Arrive first_modem (heards.Message message) ∷ Work ∷ []) messages
 
+-- what the built-in operator's machine outputs for these messages, from its opening on
 abbrev pub outputs_of : List (List ℕ) → List Output
 outputs_of messages = (own_run (operator consts_a row_a (opened_state consts_a row_a)) (sent_actions messages)).outputs
 
@@ -34,6 +35,7 @@ line_of (Reply modem bytes) = encode_upper bytes ++ 10 ∷ []
 line_of (Silent modem cause) = codes "S " ++ (cause_name cause ++ 10 ∷ [])
 line_of (Frame number elements) = []
 
+-- the lines of outputs, in order
 abbrev pub text_of_outputs : List Output → List ℕ
 text_of_outputs outputs = flat_map line_of outputs
 
@@ -48,10 +50,12 @@ pub record Answer : Type 0 where
 abbrev pub is_readable : List ℕ → Bool
 is_readable input = nat_le (length input) 1048576 && is_utf8 input
 
+-- what `one` answers to messages, or to an invalid line with status 4
 abbrev pub answer_to : Result (List (List ℕ)) ℕ → Answer
 answer_to (Ok messages) = record { status = 0; text = text_of_outputs (outputs_of messages) }
 answer_to (Err number) = record { status = 4; text = codes "fault: line " ++ (decimal number ++ 10 ∷ []) }
 
+-- what `one` writes for an input, and its exit status
 unfoldable pub answer_of : List ℕ → Answer
 answer_of input =
     if is_readable input then answer_to (messages_of (lines_of input))

@@ -51,7 +51,7 @@ pub record IsScriptRun (plant : PlantFields) (lines : List LineStep) (say : List
   pub ends : EndsBy core (slice_get lines at) status last
   pub text_is : text ≡ say (steps_without_numbers (take at lines)) outs ++ last
 
--- So many steps are done, as in `IsRunOf`, and what is written is the capture of just these steps, each with its own outputs: whole,
+-- So many steps are done, as in `IsScriptRun`, and what is written is the capture of just these steps, each with its own outputs: whole,
 -- with no line after it where a step is refused.
 pub record IsCapturedRunOf (plant : PlantFields) (lines : List LineStep) (status : ℕ) (text : List ℕ) : Type 0 where
   pub at : ℕ

@@ -81,6 +81,7 @@ AnswersFront (Err fault) script status text = Is (answer_to_plant (Err fault) sc
 abbrev pub AnswersServe : List ℕ → ℕ → List ℕ → Type 0
 AnswersServe input status text = AnswersFront (text_plant (parse_document (plant_text input))) (script_text input) status text
 
+-- what each command writes for an input, and with which status
 abbrev pub AnswersWith : Order → List ℕ → ℕ → List ℕ → Type 0
 AnswersWith one input status text = Is (answer_of input) status text
 AnswersWith check input status text = Is (check_of input) status text

@@ -322,6 +322,7 @@ fn end_program<H: Threads + Wait + Sync, W: Write>(
 ) -> Status
     ensures written { status_code result ≢ 6 → MatchResult reached
         (λ progress. Completes progress (status_code result) (W.contents writer.old) (W.contents writer.new)) (λ error. ⊥) }
+    // What has ended is left as it is, with its status.
     ensures ended { MatchResult reached
         (λ progress. IsLeftEnded progress (status_code result) (W.contents writer.old) (W.contents writer.new)) (λ error. ⊤) }
 {
@@ -394,7 +395,7 @@ pub fn run_program<'a, H: Threads + Wait + Sync, R: BufRead, W: Write>(
     reader: &mut R,
     writer: &mut W,
 ) -> u8
-    // Where no write has failed, what is written answers the words and what is read.
+    // For every status but 6, what is written answers the words and what is read, as `AnswersWords` says.
     ensures answered { result ≢ 6 → AnswersWords (texts words.entry.now) (R.remaining reader.old) result
         (λ text. Appends (W.contents writer.old) (W.contents writer.new) text) }
     // Nothing is read for words that are wrong or ask for help.

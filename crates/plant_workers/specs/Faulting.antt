@@ -41,7 +41,7 @@ pub record IsToldAt (all : List Step) (at : ℕ) (books : List BookView) (fault 
   pub step_is : slice_get all at ≡ Some (steps.Reslice from rows)
   pub told : IsResliceTold fault (reslice_fault from books rows)
 
--- the fault is the one of the `Reslice` at this place, by the books that the steps before it make of the plant
+-- the core's fault of the slice change at this place, by the books that the steps before it make of the plant
 pub record IsResliceFault (plant : PlantFields) (all : List Step) (at : ℕ) (fault : ResliceFault) : Type 0 where
   pub books : List BookView
   pub one_each : length books ≡ length plant.rows
@@ -67,6 +67,7 @@ abbrev pub IsOfWalk : PlantFields → List Step → RunFault → Type 0
 IsOfWalk plant all (Core fault) = IsFirstUnserved plant all fault
 IsOfWalk plant all fault = ⊥
 
--- a fault of a run: the first step that does not find what it asks for; or, where each does, one of those
+-- a fault of a run on threads: the first step that does not find what it needs; or, if each step does, a fault of a book or of the
+-- assembly, of `settle` or `compare`, or of a slice change
 abbrev pub IsFault : PlantFields → List Step → RunFault → Type 0
 IsFault plant all fault = IsOfWalk plant all fault ⊎ (IsServable plant all × IsRunFault plant all fault)

@@ -54,7 +54,7 @@ IsLeastOf refused count None =
     (i : ℕ) (other : Option EarlyEnd) → i < count → slice_get refused i ≡ Some other → own_turn other ≡ None
 IsLeastOf refused count (Some turn) = EndsLeast refused count turn
 
--- the turn that the least operator refused for itself; none where none did
+-- of the refused turns that of the least operator, which refused it for itself and was not stopped for another's sake; none where none did
 abbrev pub IsLeastTurn : List (Option EarlyEnd) → Option (ℕ × CellFault) → Type 0
 IsLeastTurn refused turn = IsLeastOf refused (length refused) turn
 

@@ -102,7 +102,9 @@ impl OperatorCell {
         heard: Heard,
     ) -> Result<Receipt, CellFault>
         ensures action { IfOk result (λ receipt. receipt.action ≡ actions.Arrive modem heard) }
+        // The receipt is not made up. That it is of this cell's book is known only after `settle`.
         ensures some_book { IfOk result (IsOfSomeBook (actions.Arrive modem heard)) }
+        // The refusals that the action can have. No clause says that a refusal has its cause.
         ensures fault { IfErr result (IsOfBook (actions.Arrive modem heard)) }
     {
         self.turn().act(rt, alloc, Action::Arrive { modem, heard })
@@ -132,6 +134,7 @@ impl OperatorCell {
         rt: &R,
         alloc: Global,
     ) -> Result<Option<(u32, Elements)>, AllocError>
+        // The frame is of some book's history. No clause says that it is one that waits.
         ensures { IfOk result (λ taken. IfSome taken IsFrameOfSomeBook) }
     {
         self.turn().collect(rt, alloc)

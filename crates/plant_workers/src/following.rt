@@ -38,6 +38,7 @@ pub(crate) fn fault_of_reslice(
 ) -> RunFault
     requires { IsToldAt steps.now at (map cell_book helds.now) fault }
     ensures of_run { IsRunFault plant.now steps.now result }
+    // The change is reported as itself, or as `Strayed` if the books have strayed before.
     ensures refused { (refusal : ResliceFault) → fault ≡ CoreFault.Reslice refusal
         → length (map cell_book helds.now) ≡ length plant.now.rows
         → IsOfReslice plant.now steps.now at (map cell_book helds.now) refusal result }

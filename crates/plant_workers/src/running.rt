@@ -140,6 +140,7 @@ pub fn run_workers_on<R: Threads + Wait + Sync, G: Gate<R> + Sync>(
     stacks: &[usize],
 ) -> Result<Settled, RunFault>
     requires ranked { map policy_of rankings.items ≡ map (λ row. row.policy) plant.rows }
+    // This is the clause of `run_workers`. No clause speaks of the size of a stack.
     ensures ok { IfOk result (λ s.
         IsOutcome plant steps.items (map view_of s.books.items) s.receipts.items s.maps.items) }
     ensures walked { OnOk result (IsServable plant steps.items) }
@@ -171,12 +172,17 @@ pub fn run_workers<R: Threads + Wait + Sync, G: Gate<R> + Sync>(
     gate: &G,
 ) -> Result<Settled, RunFault>
     requires ranked { map policy_of rankings.items ≡ map (λ row. row.policy) plant.rows }
+    // The run is an outcome of these steps, so `non_interference` applies to it.
     ensures ok { IfOk result (λ s.
         IsOutcome plant steps.items (map view_of s.books.items) s.receipts.items s.maps.items) }
+    // Each step finds what it needs.
     ensures walked { OnOk result (IsServable plant steps.items) }
+    // Otherwise the first step that does not is reported, even without memory.
     ensures walk { (fault : CoreFault) → IsFirstUnserved plant steps.items fault → result ≡ Err (Core fault) }
+    // So is a Tick past the last frame number, before the first `Reslice`.
     ensures spent { (place : ℕ) → IsServable plant steps.items
         → IsFirstSpent plant (before_reslice steps.items) place → result ≡ Err (Core (Book FramesSpent)) }
+    // Which faults there can be. Of `Strayed`, `Short` and `MapStrayed` it says nothing more.
     ensures err { IfErr result (IsFault plant steps.items) }
 {
     run_workers_on(rt, alloc, plant, rankings, steps, gate, &[])

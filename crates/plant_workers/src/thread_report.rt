@@ -151,6 +151,7 @@ fn end_without_turn(thread_reports: &[ThreadReport]) -> Option<RunFault>
 /// Returns why the threads ended before their last jobs: the fault of the least operator that refused a turn for itself, else
 /// that of the assembly.
 pub(crate) fn first_fault(thread_reports: &[ThreadReport]) -> Option<RunFault>
+    // The fault of the least operator that refused a turn for itself, else the first refusal of the assembly.
     ensures value { IsEndOfRun (map (λ thread_report. thread_report.refused) thread_reports.now) result }
     ensures of_run { IfSome result (λ fault. (plant : PlantFields) (steps : List Step) → IsRunFault plant steps fault) }
 {

@@ -31,10 +31,12 @@ abbrev pub IsRunAnswer : List (List ℕ) → Option (List ℕ) → ℕ → Optio
 IsRunAnswer words read status old new =
     IfSome read (λ input. MatchBool (is_snapshot_head input) (IsResumeAnswer read status old new) (IsProgramAnswer words read status old new))
 
+-- the command is `run`
 abbrev pub is_run : Asked → Bool
 is_run (order run) = true
 is_run _ = false
 
+-- the answer to a command without an option: of `run` also to a snapshot, of any other to its words
 abbrev pub IsCommandAnswer : Asked → List (List ℕ) → Option (List ℕ) → ℕ → Option (List ℕ) → Option (List ℕ) → Type 0
 IsCommandAnswer asked words read status old new =
     MatchBool (is_run asked) (IsRunAnswer words read status old new) (IsWordAnswer asked words read status old new)

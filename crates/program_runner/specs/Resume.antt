@@ -18,10 +18,11 @@ use Rattle.snapshot_format.specs.declared.fault.Wrong.TheVariants.{Version}
 abbrev pub WritesHelp : ℕ → Option (List ℕ) → Option (List ℕ) → Type 0
 WritesHelp status old new = (status ≡ 0) × ((text : List ℕ) × Appends old new text)
 
+-- the line of a saved state that is refused
 abbrev pub state_line : List ℕ
 state_line = codes "fault: state" ++ 10 ∷ []
 
--- the status and the line of a service that does not begin
+-- the exit status of a service that does not begin, by its fault
 abbrev pub begin_status : BeginFault → ℕ
 begin_status NotText = 6
 begin_status (InvalidSnapshot number wrong) = 3
@@ -29,6 +30,7 @@ begin_status (InvalidPlant fault) = 3
 begin_status (NotRestored why) = 3
 begin_status NoMemory = 5
 
+-- the line of a service that does not begin, by its fault
 abbrev pub begin_line : BeginFault → List ℕ
 begin_line NotText = io_line
 begin_line (InvalidSnapshot number wrong) = codes "fault: snapshot " ++ (decimal number ++ 10 ∷ [])
@@ -49,7 +51,7 @@ ResumeEnds text lines status old new =
     ((status ≡ 0) × IsResumedService text lines old new)
     ⊎ ((fault : BeginFault) × IsBeginFault text fault × (status ≡ begin_status fault) × Appends old new (begin_line fault))
 
--- status 6 is for what could not be read or written
+-- what the command `resume` writes for an input; status 6 is for what could not be read or written
 abbrev pub IsResumeAnswer : Option (List ℕ) → ℕ → Option (List ℕ) → Option (List ℕ) → Type 0
 IsResumeAnswer read status old new = status ≢ 6 → IfSome read (λ input. ResumeEnds (front_text input) (lines_after input) status old new)
 
@@ -59,7 +61,7 @@ IsResumeAnswer read status old new = status ≢ 6 → IfSome read (λ input. Res
 abbrev pub no_snapshot : BeginFault
 no_snapshot = InvalidSnapshot 1 Version
 
--- a snapshot is answered as by `resume`, and any other input is refused
+-- what the command `restore` writes for an input: a snapshot is answered as by `resume`, and any other input is refused
 abbrev pub IsRestoreAnswer : Option (List ℕ) → ℕ → Option (List ℕ) → Option (List ℕ) → Type 0
 IsRestoreAnswer read status old new =
     status ≢ 6 → IfSome read (λ input. MatchBool (is_snapshot_head input) (ResumeEnds (front_text input) (lines_after input) status old new) (RefusesToBegin no_snapshot status old new))
@@ -78,5 +80,6 @@ SnapshotEnds text lines status old new =
     ⊎ (((status ≡ 5) × EndsUnsaved text lines saving.NoMemory memory_line old new)
     ⊎ ((fault : BeginFault) × IsBeginFault text fault × (status ≡ begin_status fault) × Appends old new (begin_line fault))))
 
+-- what the command `snapshot` writes for an input; status 6 is for what could not be read or written
 abbrev pub IsSnapshotAnswer : Option (List ℕ) → ℕ → Option (List ℕ) → Option (List ℕ) → Type 0
 IsSnapshotAnswer read status old new = status ≢ 6 → IfSome read (λ input. SnapshotEnds (front_text input) (lines_after input) status old new)

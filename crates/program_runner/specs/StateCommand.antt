@@ -22,7 +22,7 @@ use Rattle.program_runner.specs.declared.state_command.FaultKind.TheVariants.{Pl
 
 -- ---- what a fault is
 
--- of a journal
+-- the kind of a fault of a journal, which decides its status and its line
 abbrev pub journal_kind : DurableFault → FaultKind
 journal_kind durable.NoJournal = State
 journal_kind (durable.State states.NoMemory) = Memory
@@ -32,12 +32,12 @@ journal_kind (durable.Line lines.TooManyLines) = Io
 journal_kind durable.Disk = Io
 journal_kind durable.Full = Io
 
--- of a read or a write that failed
+-- the kind of a read or a write that failed
 abbrev pub stream_kind : ErrorKind → FaultKind
 stream_kind OutOfMemory = Memory
 stream_kind _ = Io
 
--- of a service that does not begin, or ends before its input does
+-- the kind of a fault of a service that does not begin, or ends before its input does
 abbrev pub state_kind : StateServiceFault → FaultKind
 state_kind service.NotText = Io
 state_kind (service.InvalidPlant fault) = Plant fault
@@ -47,7 +47,7 @@ state_kind (service.NotChanged why refused) = State
 state_kind (service.Stream error) = stream_kind (error_kind error)
 state_kind service.NoMemory = Memory
 
--- of a folder whose journal is not opened
+-- the kind of a fault of a folder whose journal is not opened
 abbrev pub opening_kind : JournalOpenFault → FaultKind
 opening_kind openings.NotAFolder = Io
 opening_kind (openings.Io part error) = Io
@@ -70,7 +70,7 @@ StateServiceEnds bytes read status old new =
     ((status ≡ 0) × IfSome read (λ input. (content : Option JournalContent) × IsStateService bytes (plant_text input) (script_text input) content old new))
     ⊎ ((fault : StateServiceFault) × (mid : Option (List ℕ)) × WritesFault (state_kind fault) status mid new)
 
--- the journal of the folder has some bytes; or it is not opened
+-- all lines are answered from the journal of the folder, or a fault ends the service; or the journal is not opened
 abbrev pub StateFolderEnds : Option (List ℕ) → ℕ → Option (List ℕ) → Option (List ℕ) → Type 0
 StateFolderEnds read status old new =
     ((bytes : List ℕ) × StateServiceEnds bytes read status old new) ⊎ ((fault : JournalOpenFault) × WritesFault (opening_kind fault) status old new)

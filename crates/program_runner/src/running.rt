@@ -156,19 +156,24 @@ pub fn run_with_options<'a, H: Files + Threads + Wait + Sync, R: BufRead, W: Wri
     reasons: &mut E,
     ending: Ending,
 ) -> u8
-    // Without an option it writes what `run_program` writes, but where `run` begins with a snapshot.
+    // Without an option it writes what `run_program` writes, but where `run` begins with a snapshot. With options, what
+    // it does is only tested, except what `serve --state` guarantees.
     ensures named { (o : Order) → NamesOrder (texts words.entry.now) o → IsAskedAnswer (order o) (R.remaining reader.old) result
         (W.contents writer.old) (W.contents writer.new) }
+    // `resume`, `restore` and `snapshot` write what `resumed_service` guarantees, or the status and the line of the
+    // fault.
     ensures served { (s : ServiceWord) → NamesService (texts words.entry.now) s → IsAskedAnswer (service s) (R.remaining reader.old) result
         (W.contents writer.old) (W.contents writer.new) }
     // Nothing is read for words that are wrong or ask for help or for the version.
     ensures unread_if_wrong { AreRefused (texts words.entry.now) → reader.new ≡ reader.old }
     ensures unread_for_help { AsksHelp (texts words.entry.now) → reader.new ≡ reader.old }
     ensures unread_for_version { AsksVersion (texts words.entry.now) → reader.new ≡ reader.old }
-    // With 5 memory ran out.
+    // Wrong arguments have status 2, unless memory ran out (5) or a write failed (6).
     ensures refused { AreRefused (texts words.entry.now) → asks_json words.entry.now ≡ false → result ≢ 5 → result ≢ 6
         → (result ≡ 2) × Appends (W.contents writer.old) (W.contents writer.new) words_line }
+    // Help is some text with status 0.
     ensures helped { AsksHelp (texts words.entry.now) → result ≢ 5 → result ≢ 6 → WritesHelp result (W.contents writer.old) (W.contents writer.new) }
+    // `--version` alone writes the version with status 0.
     ensures version { AsksVersion (texts words.entry.now) → result ≢ 5 → result ≢ 6
         → (result ≡ 0) × Appends (W.contents writer.old) (W.contents writer.new) version_text }
 {

@@ -39,22 +39,26 @@ pub record EndsAtRest (first : InService) (process : IsProcess first) : Type 0 w
 abbrev pub next_service : (first : InService) (process : IsProcess first) → EndsAtRest first process → InService
 next_service first process end = resumed_service end.live.plant (snapshot_at (after_answers first process.served.answers).file end.live end.frame)
 
--- a process, and after it others with so many restarts
+-- a process, and after it others with so many restarts: each but the last ends with a core at rest, and the next one goes on from its
+-- snapshot
 abbrev pub AreProcesses : ℕ → InService → Type 0
 AreProcesses zero first = IsProcess first
 AreProcesses (suc restarts) first = (process : IsProcess first) × (end : EndsAtRest first process) × AreProcesses restarts (next_service first process end)
 
 -- ---- the periods of all of them
 
+-- the first period of all processes
 abbrev pub first_of_all : (restarts : ℕ) (first : InService) → AreProcesses restarts first → RunSoFar
 first_of_all zero first process = first_period first.run process.served.answers
 first_of_all (suc restarts) first all = first_period first.run all.0.served.answers
 
+-- the periods after it, of all processes in order
 abbrev pub later_of_all : (restarts : ℕ) (first : InService) → AreProcesses restarts first → List RunSoFar
 later_of_all zero first process = later_periods first.run process.served.answers
 later_of_all (suc restarts) first all =
     later_periods first.run all.0.served.answers ++ first_of_all restarts (next_service first all.0 all.1) all.2 ∷ later_of_all restarts (next_service first all.0 all.1) all.2
 
+-- the periods of all processes, in order
 abbrev pub all_periods : (restarts : ℕ) (first : InService) → AreProcesses restarts first → List RunSoFar
 all_periods restarts first all = first_of_all restarts first all ∷ later_of_all restarts first all
 

@@ -69,6 +69,7 @@ pub record FitsTypes (state : OperatorState) : Type 0 where
   pub responses : AllByRecursion IsSavedEntry state.kept
   pub messages : AllByRecursion IsSavedArrival state.inbox
 
+-- each book of a core is in a state that its types can hold
 abbrev pub HaveTypedStates : CoreView → Type 0
 HaveTypedStates live = (i : ℕ) (book : BookView) → slice_get live.books i ≡ Some book → FitsTypes book.state
 
@@ -80,7 +81,7 @@ pub record IsOfItsModems (row : RowFields) (state : OperatorState) : Type 0 wher
   pub responses : All (λ entry. IsListedIn row entry.modem) state.kept
   pub messages : All (λ arrival. IsListedIn row arrival.modem) state.inbox
 
--- it is so where a run starts
+-- where a run starts, all that an operator's machine has is of modems that its row lists
 abbrev pub StartsOfItsModems : RunSoFar → Type 0
 StartsOfItsModems run = AtEachOperator run.plant (λ i row. IsOfItsModems row (run.start.state row))
 
@@ -150,6 +151,7 @@ pub record IsRestorable (plant : PlantFields) (saved : Snapshot) : Type 0 where
   pub have_rows : HaveRows plant.rows (names_of (states_of saved))
   pub can : CanRestart plant saved.frame (states_of saved)
 
+-- the states that the line `K` was answered with can be restored
 abbrev pub SavedStatesAreRestored : Type 0
 SavedStatesAreRestored = (old : InService) (live : CoreView) (frame : ℕ) → IsReadyToSave old live frame → HaveTypedStates live → StartsOfItsModems old.run
     → IsRestorable live.plant (snapshot_at old.file live frame)

@@ -27,7 +27,7 @@ is_snapshot_head text = bytes_eq (take 18 text) (codes "melfjits-snapshot ")
 abbrev pub front_text : List ℕ → List ℕ
 front_text input = if is_snapshot_head (plant_text input) then plant_text input ++ (codes "---" ++ 10 ∷ plant_text (script_text input)) else plant_text input
 
--- the lines after it
+-- the lines of an input after the text before them
 abbrev pub lines_after : List ℕ → List ℕ
 lines_after input = if is_snapshot_head (plant_text input) then script_text (script_text input) else script_text input
 
@@ -98,6 +98,8 @@ pub record IsNotRestored (text : List ℕ) (why : RestoreFault) : Type 0 where
   pub begins : IsBeginning text plant saved
   pub refused : IsRestoringFault plant saved (NotRestored why)
 
+-- what each fault says of the text before the lines: it says no plant, or the plant does not start in the saved states; out of memory says
+-- nothing of it
 abbrev pub IsBeginFault : List ℕ → BeginFault → Type 0
 IsBeginFault text NotText = IsTextFault text NotText
 IsBeginFault text (InvalidSnapshot number wrong) = IsTextFault text (InvalidSnapshot number wrong)

@@ -56,7 +56,7 @@ begins_plant line = bytes_eq line (codes "P")
 
 -- ---- a line of a script
 
--- it is answered, and the run goes on
+-- a line of a script is answered, and the run goes on
 pub record IsLineAnswer (old : InService) (number : ℕ) (line : List ℕ) (answer : ItemAnswer) : Type 0 where
   pub live : CoreView
   pub answered : LineRun
@@ -76,7 +76,7 @@ pub record IsLineAnswer (old : InService) (number : ℕ) (line : List ℕ) (answ
 abbrev pub change_text : ℕ → List ℕ
 change_text frame = codes "P frame " ++ (decimal frame ++ 10 ∷ [])
 
--- the lines after this one begin with a plant file, and the plant is changed to its plant
+-- the line `P`, where the plant is changed: the lines after it begin with a plant file, and the plant is changed to its plant
 pub record IsChangeAnswer (old : InService) (line : List ℕ) (lines : List (List ℕ)) (answer : ItemAnswer) : Type 0 where
   pub live : CoreView
   pub begins : begins_plant line ≡ true
@@ -89,7 +89,7 @@ pub record IsChangeAnswer (old : InService) (line : List ℕ) (lines : List (Lis
   pub file_is : answer.next.file ≡ file_text lines
   pub text_is : answer.text ≡ change_text answer.next.run.start.frame
 
--- the plant is not changed, for this reason
+-- the line `P`, where the plant is not changed, for this reason
 pub record IsRefusedChange (old : InService) (number : ℕ) (line : List ℕ) (lines : List (List ℕ)) (answer : ItemAnswer) : Type 0 where
   pub live : CoreView
   pub leads : IsRunSoFarOf old.run live
@@ -105,7 +105,7 @@ pub record IsRefusedChange (old : InService) (number : ℕ) (line : List ℕ) (l
 abbrev pub begun_from : PlantFields → Snapshot → RunSoFar
 begun_from plant saved = record { plant = plant; start = start_by_name plant saved.frame (states_of saved); steps = []; outs = [] }
 
--- the line requests a number for the next frame, which gets it: the same plant goes on from its snapshot under that number
+-- the line `N`, where the next frame gets the number: the same plant goes on from its snapshot under that number
 pub record IsFrameAnswer (old : InService) (line : List ℕ) (answer : ItemAnswer) : Type 0 where
   pub live : CoreView
   pub leads : IsRunSoFarOf old.run live
@@ -122,7 +122,7 @@ pub record IsFrameAnswer (old : InService) (line : List ℕ) (answer : ItemAnswe
   pub leads_on : IsRunSoFarOf answer.next.run after
   pub text_is : answer.text ≡ frame_text other.frame
 
--- the frame does not get the number, for this reason
+-- the line `N`, where the next frame does not get the number, for this reason
 pub record IsRefusedFrame (old : InService) (number : ℕ) (line : List ℕ) (answer : ItemAnswer) : Type 0 where
   pub live : CoreView
   pub leads : IsRunSoFarOf old.run live
@@ -152,7 +152,7 @@ SnapshotIsAnswered file live number text =
     ⊎ (((text ≡ end_text number NoMemory) × ((frame : ℕ) × Rests live frame))
     ⊎ ((text ≡ end_text number AtFault) × ((frame : ℕ) → Rests live frame → ⊥)))
 
--- a line requests a snapshot, and is answered by it
+-- the line `K` is answered by a snapshot, or by why there is none
 pub record IsSnapshotOf (old : InService) (number : ℕ) (line : List ℕ) (answer : ItemAnswer) : Type 0 where
   pub live : CoreView
   pub leads : IsRunSoFarOf old.run live
@@ -183,11 +183,12 @@ AreItemAnswers old number (line ∷ lines) [] = ⊥
 AreItemAnswers old number (line ∷ lines) (answer ∷ more) =
     IsItemAnswer old number line lines answer × AreItemAnswers answer.next (number + answer.lines) (drop answer.lines (line ∷ lines)) more
 
--- what goes on after them
+-- what goes on after all items
 abbrev pub after_items : InService → List ItemAnswer → InService
 after_items old [] = old
 after_items old (answer ∷ more) = after_items answer.next more
 
+-- the answers to all items, in order
 abbrev pub texts_of : List ItemAnswer → List ℕ
 texts_of answers = flat_map (λ answer. answer.text) answers
 
@@ -204,6 +205,7 @@ abbrev pub first_period : RunSoFar → List ItemAnswer → RunSoFar
 first_period run [] = run
 first_period run (answer ∷ more) = if answer.changes then run else first_period answer.next.run more
 
+-- the runs after the first change of plant or of frame numbers, in order
 abbrev pub later_periods : RunSoFar → List ItemAnswer → List RunSoFar
 later_periods run [] = []
 later_periods run (answer ∷ more) = if answer.changes then first_period answer.next.run more ∷ later_periods answer.next.run more else later_periods answer.next.run more

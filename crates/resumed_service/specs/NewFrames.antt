@@ -87,8 +87,9 @@ IsStartRefusal plant frame states BeforeFirstFrame = ⊥
 IsStartRefusal plant frame states (NotRestored why) = IsNotStarted plant frame states why
 IsStartRefusal plant frame states NoMemory = ⊤
 
--- what a fault says of a core, with the text of its plant file, and of a line. Each is stated where none before it in the order of the
--- faults is there, so of those but `NoMemory` one alone is there. Memory is asked for where the core rests.
+-- what each fault says of why the next frame of a core, with the text of its plant file, keeps its number at this line. Each is stated
+-- where none before it in the order of the faults is there, so of those but `NoMemory` one alone is there. Memory is asked for where the
+-- core rests.
 abbrev pub IsNewFrameFault : List ℕ → CoreView → List ℕ → NewFrameFault → Type 0
 IsNewFrameFault file live line NoNumber = (to : ℕ) → NamesFrame line to → ⊥
 IsNewFrameFault file live line (Unfinished why) = ((to : ℕ) × NamesFrame line to) × IsRestFault live why
@@ -108,6 +109,7 @@ frame_refusal_outcome BeforeFirstFrame = outcomes.AtFault
 frame_refusal_outcome (NotRestored why) = outcomes.AtFault
 frame_refusal_outcome NoMemory = outcomes.NoMemory
 
+-- the answer to a line `N` whose number the next frame does not get
 abbrev pub frame_refusal_text : ℕ → NewFrameFault → List ℕ
 frame_refusal_text number fault = end_text number (frame_refusal_outcome fault)
 

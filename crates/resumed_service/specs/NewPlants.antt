@@ -47,7 +47,7 @@ pub record IsRefusedPlant (live : CoreView) (lines : List (List ℕ)) (why : Cha
   pub is_file : IsFileOf lines plant
   pub refused : IsNotChanged live plant why
 
--- what a fault says of a core and of these lines
+-- what each fault says of why the plant of a core is not changed to that of these lines
 abbrev pub IsNewPlantFault : CoreView → List (List ℕ) → NewPlantFault → Type 0
 IsNewPlantFault live lines NotEnded = IsNewFileFault lines NotEnded
 IsNewPlantFault live lines TooLong = IsNewFileFault lines TooLong
@@ -67,5 +67,6 @@ refusal_outcome (InvalidPlant fault) = outcomes.AtFault
 refusal_outcome (NotChanged why) = outcomes.AtFault
 refusal_outcome NoMemory = outcomes.NoMemory
 
+-- the answer to a line `P` to whose plant file the plant is not changed
 abbrev pub refusal_text : ℕ → NewPlantFault → List ℕ
 refusal_text number fault = end_text number (refusal_outcome fault)

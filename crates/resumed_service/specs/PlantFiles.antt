@@ -28,7 +28,7 @@ abbrev pub file_lines : List (List ℕ) → List (List ℕ)
 file_lines [] = []
 file_lines (line ∷ lines) = if is_dashes line then [] else line ∷ file_lines lines
 
--- there is such a line
+-- there is a line of three dashes, which ends the file
 abbrev pub is_ended : List (List ℕ) → Bool
 is_ended [] = false
 is_ended (line ∷ lines) = if is_dashes line then true else is_ended lines
@@ -42,6 +42,7 @@ lines_taken (line ∷ lines) = if is_dashes line then 1 else 1 + lines_taken lin
 abbrev pub text_of_lines : List (List ℕ) → List ℕ
 text_of_lines lines = flat_map (λ line. line ++ 10 ∷ []) lines
 
+-- the text of the plant file: each of its lines with its line feed
 abbrev pub file_text : List (List ℕ) → List ℕ
 file_text lines = text_of_lines (file_lines lines)
 
@@ -53,11 +54,11 @@ most_bytes = 1048576
 abbrev pub IsWhole : List (List ℕ) → Type 0
 IsWhole lines = (is_ended lines ≡ true) × (length (file_text lines) ≤ most_bytes)
 
--- and it is text
+-- the file is ended, not too long, and text
 abbrev pub IsPlantFileText : List (List ℕ) → Type 0
 IsPlantFileText lines = IsWhole lines × (is_utf8 (file_text lines) ≡ true)
 
--- these lines begin with a plant file of this plant
+-- these lines begin with a plant file of this plant: it is ended, not too long, and text
 pub record IsFileOf (lines : List (List ℕ)) (plant : PlantFields) : Type 0 where
   pub is_text : IsPlantFileText lines
   pub says : text_plant (parse_document (file_text lines)) ≡ Ok plant

@@ -17,7 +17,7 @@ resumed_service plant saved = record {
   file = saved.plant;
 }
 
--- the lines are answered, one after the other, from where the plant begins
+-- the lines are answered, one after the other, from `resumed_service`, where each operator goes on in its saved state
 pub record IsResumedService (text lines : List ℕ) (old new : Option (List ℕ)) : Type 0 where
   pub plant : PlantFields
   pub saved : Snapshot
@@ -29,5 +29,6 @@ abbrev pub ServiceEnds : List ℕ → List ℕ → Option (List ℕ) → Option 
 ServiceEnds text lines old new Served = IsResumedService text lines old new
 ServiceEnds text lines old new (NotBegun fault) = IsBeginFault text fault × (new ≡ old)
 
+-- if the input could be read, its lines are answered, or the service does not begin for a fault of it
 abbrev pub EndsInput : Option (List ℕ) → Option (List ℕ) → Option (List ℕ) → ServiceEnd → Type 0
 EndsInput read old new end = IfSome read (λ input. ServiceEnds (front_text input) (lines_after input) old new end)

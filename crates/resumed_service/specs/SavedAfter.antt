@@ -38,5 +38,7 @@ SnapshotServiceEnds text lines a0 a1 old new (Unfinished why operator) = IsSnaps
 SnapshotServiceEnds text lines a0 a1 old new NoMemory = IsSnapshotAfter text lines a0 a1 old new NoMemory
 SnapshotServiceEnds text lines a0 a1 old new (NotBegun fault) = IsBeginFault text fault × (a1 ≡ a0) × (new ≡ old)
 
+-- if the input could be read, its lines are performed and the snapshot after them is written, or the service does not begin for a fault of
+-- it
 abbrev pub EndsWithSnapshot : Option (List ℕ) → Option (List ℕ) → Option (List ℕ) → Option (List ℕ) → Option (List ℕ) → SnapshotEnd → Type 0
 EndsWithSnapshot read a0 a1 old new end = IfSome read (λ input. SnapshotServiceEnds (front_text input) (lines_after input) a0 a1 old new end)

@@ -55,6 +55,7 @@ pub(crate) fn answer_refusal<W: Write, N: RefusalNotes>(
 /// Returns the reason for which the plant is not changed.
 #[tactic(auto, using(crate::proofs::RefusalLemmas::not_changed, crate::proofs::RefusalLemmas::out_of_memory))]
 fn refusal_of(why: ChangeFault) -> NewPlantFault
+    // `change` runs out of memory only if the core rests and the constants are kept.
     ensures { (live : CoreView) (plant : PlantFields) → IsChangeFault live plant why → IsChangeRefusal live plant result }
 {
     match why {

@@ -27,6 +27,7 @@ pub fn saved_core(alloc: Global, core: &LiveCore, file: &Bytes) -> Result<Snapsh
     ensures fault { (why : RestFault) → result ≡ Err (save_faults.Unfinished why) → IsRestFault (live_view core.now) why }
     ensures none { (why : RestFault) → result ≡ Err (save_faults.Unfinished why)
         → (frame : ℕ) → Rests (live_view core.now) frame → ⊥ }
+    // Memory runs out only if the core rests.
     ensures memory { result ≡ Err save_faults.NoMemory → (frame : ℕ) × Rests (live_view core.now) frame }
 {
     // A core that does not rest is reported as such, also without memory.

@@ -91,6 +91,7 @@ pub fn renumbered_core(
     ensures valid { IfOk result (λ other. IsPlant other.plant) }
     ensures names { IfOk result (λ other. NamesFrame line.now other.saved.frame) }
     ensures ok { IfOk result (λ other. IsCoreRenumbered file.now (live_view core.now) other.saved.frame other.saved) }
+    // This fault holds, and those before it in the order do not.
     ensures fault { IfErr result (IsNewFrameFault file.now (live_view core.now) line.now) }
 {
     let Some(to) = named_frame(line) else {

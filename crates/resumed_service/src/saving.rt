@@ -65,6 +65,8 @@ pub fn snapshot_after<R: BufRead, A: Write, W: Write, N: RefusalNotes>(
     writer: &mut W,
     notes: &mut N,
 ) -> io::Result<SnapshotEnd>
+    // The lines have the answers of `resume`, and the snapshot is that of the core after the last one. If it does not
+    // rest, the reason and the operator's name are returned.
     ensures { IfOk result (λ end. EndsWithSnapshot (R.remaining reader.old) (A.contents answers.old) (A.contents answers.new)
         (W.contents writer.old) (W.contents writer.new) end) }
 {

@@ -234,6 +234,8 @@ pub fn resume<R: BufRead, W: Write, N: RefusalNotes>(
     writer: &mut W,
     notes: &mut N,
 ) -> io::Result<ServiceEnd>
+    // The service runs, or it does not begin and the fault holds. This is if no read and no write fails. No clause says
+    // which reasons `notes` gets, or which texts before the lines are too long.
     ensures { IfOk result (λ end. EndsInput (R.remaining reader.old) (W.contents writer.old) (W.contents writer.new) end) }
 {
     let begun = match read_beginning(alloc, reader)? {

@@ -33,6 +33,7 @@ pub record IsOutcome (plant : PlantFields) (steps : List Step) (books : List Boo
 
 -- ---- what the steps are asked for
 
+-- the step is a tick of this operator
 abbrev pub is_tick_of : ℕ → Step → Bool
 is_tick_of i (steps.Arrive modem heard) = false
 is_tick_of i (steps.Work op) = false

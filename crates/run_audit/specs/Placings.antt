@@ -40,8 +40,8 @@ abbrev pub map_if_made : Option MapBytes → List MapBytes
 map_if_made None = []
 map_if_made (Some made) = made ∷ []
 
--- one after the other, these placings lead from one gathering to another and give these MAPs: no part is refused, each
--- slice change may be given, and each finds the gathering as its type keeps it
+-- one after the other, these placings lead from one assembly to another and give these MAPs: no part is refused, each slice change may be
+-- given, and each finds what is gathered as its type keeps it; the type `Assembly` keeps it, from a new assembly of its plant on
 abbrev pub HaveMade : Gathering → List Placing → List MapBytes → Gathering → Type 0
 HaveMade g [] maps after = (maps ≡ []) × (after ≡ g)
 HaveMade g (Put op frame part ∷ later) maps after =

@@ -157,6 +157,7 @@ fn put_kept(
         (record { plant = plant; gathering = gather.new; placings = placings.new.items; maps = maps.new.items })) }
     ensures fault { (fault : GatherFault) → fault ≢ NoMemory
         → (result ≡ Err fault) ↔ (put_fault gather.old op frame elements ≡ Some fault) }
+    // Once the copy is made, no refusal is reported as out of memory.
     ensures memory { result ≡ Err NoMemory → put_fault gather.old op frame elements ≡ None }
     ensures gather { OnErr result (gather.new ≡ gather.old) }
     ensures placings { OnErr result (placings.new.items ≡ placings.old.items) }
@@ -207,6 +208,8 @@ impl Assembly {
         elements: Elements,
     ) -> Result<(), GatherFault>
         ensures ok { OnOk result (HasPut op frame elements self.old self.new) }
+        // Each refusal is one of the assembly. The part is copied first, so memory may run out where the assembly would
+        // refuse it.
         ensures fault { (fault : GatherFault) → fault ≢ NoMemory → result ≡ Err fault
             → put_fault self.old.gathering op frame elements ≡ Some fault }
         ensures err { OnErr result (self.new ≡ self.old) }
@@ -232,6 +235,7 @@ impl Assembly {
         rows: &[SliceRow],
     ) -> Result<bool, AllocError>
         ensures given { result ≡ Ok true → HasResliced from rows.now self.old self.new }
+        // Slices are refused exactly if they may not be given, even without memory.
         ensures refused { (result ≡ Ok false) ↔ (MayReslice self.old.gathering from (map slice_of rows.now) → ⊥) }
         ensures memory { OnErr result (MayReslice self.old.gathering from (map slice_of rows.now)) }
         ensures same { result ≡ Ok false → self.new ≡ self.old }

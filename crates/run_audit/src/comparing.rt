@@ -76,6 +76,8 @@ pub fn compare(
     requires merged { AreMerged (map view_of settled.books.items) settled.receipts.items }
     requires by_callers { All AreByCallers settled.receipts.items }
     requires ticked { AreTicked plant.now steps.now }
+    // Each history has exactly its own steps as actions, merged of the receipts of its four callers. The outputs and
+    // MAPs are those of a run of these steps, so `non_interference` applies.
     ensures ok { IfOk result (λ s.
         IsOutcome plant.now steps.now (map view_of s.books.items) s.receipts.items s.maps.items) }
     ensures books { IfOk result (λ s. s.books ≡ settled.books) }
@@ -83,6 +85,7 @@ pub fn compare(
     ensures maps { IfOk result (λ s. s.maps.items ≡ assembly.maps) }
     ensures put { OnOk result ((assembly.plant ≡ plant.now)
         × ArePut steps.now (map view_of settled.books.items) assembly.placings) }
+    // Otherwise exactly the first fault.
     ensures err { IfErr result (IsFound plant.now steps.now (map view_of settled.books.items) assembly) }
 
     // What is found decides what is reported: where a history strays, it is reported; else where the assembly does.

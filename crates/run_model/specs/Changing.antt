@@ -56,7 +56,8 @@ AreChanges first (next ∷ more) =
     IsTraceFrom first.plant first.start first.steps first.outs
     × IsPlantChange first (record next { steps = []; outs = [] }) × AreChanges next more
 
--- an operator keeps what it is provisioned with through all of them: what all operators share, and its row, at these places
+-- an operator keeps what it is provisioned with through all of them: what all operators share, and its row, at these places; so no class is
+-- added, and none gets another place in the table
 abbrev pub KeepsProvisioning : ConstsFields → RowFields → List RunSoFar → List ℕ → Type 0
 KeepsProvisioning consts row [] [] = ⊤
 KeepsProvisioning consts row [] (place ∷ places) = ⊥
@@ -64,6 +65,7 @@ KeepsProvisioning consts row (since ∷ more) [] = ⊥
 KeepsProvisioning consts row (since ∷ more) (place ∷ places) =
     (since.plant.consts ≡ consts) × (slice_get since.plant.rows place ≡ Some row) × KeepsProvisioning consts row more places
 
+-- the runs as periods of the operator that is at these places
 abbrev pub periods : List RunSoFar → List ℕ → List Period
 periods [] places = []
 periods (since ∷ more) [] = []

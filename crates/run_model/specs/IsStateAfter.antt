@@ -24,12 +24,13 @@ pub record CoreView : Type 0 where
   pub queues : List (List (ℕ × ElementsFields))
   pub gathering : Gathering
 
--- the frames of an operator, each with its number
+-- the frame of an output with its number, if the output is one
 abbrev pub frame_with_number : Output → Option (ℕ × ElementsFields)
 frame_with_number (Reply modem bytes) = None
 frame_with_number (Silent modem cause) = None
 frame_with_number (Frame number elements) = Some (number, elements)
 
+-- the frames of these outputs, each with its number
 abbrev pub frames_of : List Output → List (ℕ × ElementsFields)
 frames_of outputs = filter_map frame_with_number outputs
 
@@ -51,8 +52,8 @@ pub record AreFramesFrom (plant : PlantFields) (start : Start) (steps : List Ste
   pub waiting_are : waiting ≡ drop (collects_of i steps) (frames_of (isolated_run_from plant.consts start row i steps).outputs)
   pub put_are : put ≡ map (λ frame. frame.1) (drop made (take (collects_of i steps) (frames_of (isolated_run_from plant.consts start row i steps).outputs)))
 
--- what is gathered after the run: it is gathered for the plant, the slices of its start and its slice changes, the next MAP is the one after those that were made, and no
--- more frames of an operator were collected than it output
+-- what is gathered after the run: it is gathered for the plant, the slices of its start and its slice changes, the next MAP is the one
+-- after those that were made, and no more frames of an operator were collected than it output
 pub record IsGatheredFrom (plant : PlantFields) (start : Start) (steps : List Step) (outs : List Out) (gathering : Gathering) : Type 0 where
   pub channel_is : gathering.channel ≡ plant.consts.channel
   pub quotas_are : gathering.quotas ≡ map quota_of plant.rows
@@ -62,6 +63,8 @@ pub record IsGatheredFrom (plant : PlantFields) (start : Start) (steps : List St
   pub next_is : gathering.next ≡ start.frame + length (maps_in outs)
   pub collected : AtEachOperator plant (λ i row. collects_of i steps ≤ length (frames_of (isolated_run_from plant.consts start row i steps).outputs))
 
+-- what a core is after a run from a start: the run is `IsTraceFrom` and `OrderedFrom` the start, each operator's book is that of its own
+-- machine run alone, its frames that were not collected wait, and the others are in MAPs or gathered
 pub record IsStateAfterFrom (plant : PlantFields) (start : Start) (steps : List Step) (outs : List Out) (core : CoreView) : Type 0 where
   pub at_one_frame : StandAtOneFrame plant start
   pub plant_is : core.plant ≡ plant
@@ -76,8 +79,11 @@ pub record IsStateAfterFrom (plant : PlantFields) (start : Start) (steps : List 
 
 -- ---- a run from the opened plant
 
+-- an operator's book after the steps of a run from the opened plant
 abbrev pub IsBookAfter : PlantFields → List Step → ℕ → RowFields → BookView → Type 0
 IsBookAfter plant steps i row book = IsBookFrom plant (first_start plant) steps i row book
 
+-- what a core is after a run from the opened plant: the run is `IsTraceOf` and `Ordered`, and each operator's book, its waiting frames and
+-- those in the assembly are those of its own machine run alone
 abbrev pub IsStateAfter : PlantFields → List Step → List Out → CoreView → Type 0
 IsStateAfter plant steps outs core = IsStateAfterFrom plant (first_start plant) steps outs core

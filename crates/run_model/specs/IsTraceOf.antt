@@ -36,6 +36,7 @@ frame_if frame (Reply modem bytes) = None
 frame_if frame (Silent modem cause) = None
 frame_if frame (Frame number elements) = if number == frame then Some elements else None
 
+-- the elements of the frames of this number among these outputs
 abbrev pub elements_at_frame : ℕ → List Output → List ElementsFields
 elements_at_frame frame outputs = filter_map (frame_if frame) outputs
 
@@ -53,12 +54,13 @@ pub record IsMapFrom (plant : PlantFields) (start : Start) (steps : List Step) (
   pub parts_are : ArePartsFrom plant start steps made.frame parts
   pub map_is : IsMapOf plant.consts.channel made.frame (map quota_of plant.rows) (map (λ part. part.slice) parts) parts made.bytes
 
--- as many MAPs as each operator's frames were collected at least
+-- the least number of frames that were collected of any operator
 pub record IsLeast (plant : PlantFields) (steps : List Step) (count : ℕ) : Type 0 where
   pub at_most : (i : ℕ) → i < length plant.rows → count ≤ collects_of i steps
   pub one : (i : ℕ) × (i < length plant.rows) × (collects_of i steps ≡ count)
 
--- the MAPs are those of the frames from that of the start on, each once and in order, as many as were collected of each operator
+-- the MAPs are those of the frames from that of the start on, each once and in order, as many as the least number of frames that were
+-- collected of any operator
 pub record AreMapsFrom (plant : PlantFields) (start : Start) (steps : List Step) (made : List MapBytes) : Type 0 where
   pub frames : map (λ m. m.frame) made ≡ range_with_len start.frame (length made)
   pub count : IsLeast plant steps (length made)
@@ -78,15 +80,19 @@ pub record IsTraceFrom (plant : PlantFields) (start : Start) (steps : List Step)
 
 -- ---- a run from the opened plant
 
+-- these are the operators' parts of a frame of a run from the opened plant
 abbrev pub ArePartsAt : PlantFields → List Step → ℕ → List ElementsFields → Type 0
 ArePartsAt plant steps frame parts = ArePartsFrom plant (first_start plant) steps frame parts
 
+-- a MAP of a run from the opened plant
 abbrev pub IsMapIn : PlantFields → List Step → MapBytes → Type 0
 IsMapIn plant steps made = IsMapFrom plant (first_start plant) steps made
 
+-- the MAPs of a run from the opened plant
 abbrev pub AreMaps : PlantFields → List Step → List MapBytes → Type 0
 AreMaps plant steps made = AreMapsFrom plant (first_start plant) steps made
 
--- every operator starts opened
+-- the outputs are those of a run from the opened plant: each operator's are those of its own machine run alone on its own steps, the MAPs
+-- are those of the frames from the first on, and each output is a MAP or is under one of the operators
 abbrev pub IsTraceOf : PlantFields → List Step → List Out → Type 0
 IsTraceOf plant steps outs = IsTraceFrom plant (first_start plant) steps outs

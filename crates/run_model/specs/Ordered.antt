@@ -20,6 +20,7 @@ abbrev pub action_at : Option ℕ → Action → Option (ℕ × Action)
 action_at None action = None
 action_at (Some i) action = Some (i, action)
 
+-- the operator to which a step goes, and its action; none of a collection and of a slice change
 abbrev pub target : PlantFields → Step → Option (ℕ × Action)
 target plant (steps.Arrive modem heard) = action_at (holder plant.rows modem) (actions.Arrive modem heard)
 target plant (steps.Work op) = Some (op, actions.Work)
@@ -52,19 +53,24 @@ AreInOrderFrom plant start before [] all = all ≡ []
 AreInOrderFrom plant start before (step ∷ later) all =
     (now : List Out) × (rest : List Out) × (all ≡ now ++ rest) × IsToldFrom plant start before step (target plant step) now × AreInOrderFrom plant start (before ++ step ∷ []) later rest
 
+-- the outputs of a run from a start are one list for each step, joined in the order of the steps
 abbrev pub OrderedFrom : PlantFields → Start → List Step → List Out → Type 0
 OrderedFrom plant start all_steps all_outs = AreInOrderFrom plant start [] all_steps all_outs
 
 -- ---- a run from the opened plant
 
+-- these are the outputs of the action in the operator's own run from the opened plant
 abbrev pub AreOwn : PlantFields → List Step → ℕ → Action → List Out → Type 0
 AreOwn plant before i action now = AreOwnFrom plant (first_start plant) before i action now
 
+-- what one step output, after the steps before it of a run from the opened plant
 abbrev pub IsTold : PlantFields → List Step → Step → Option (ℕ × Action) → List Out → Type 0
 IsTold plant before step goal now = IsToldFrom plant (first_start plant) before step goal now
 
+-- the same of the steps that are left, after those before them
 abbrev pub AreInOrder : PlantFields → List Step → List Step → List Out → Type 0
 AreInOrder plant before later all = AreInOrderFrom plant (first_start plant) before later all
 
+-- the outputs of a run from the opened plant are one list for each step, joined in the order of the steps
 abbrev pub Ordered : PlantFields → List Step → List Out → Type 0
 Ordered plant all_steps all_outs = OrderedFrom plant (first_start plant) all_steps all_outs

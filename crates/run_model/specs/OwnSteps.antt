@@ -16,6 +16,7 @@ use Rattle.run_model.specs.declared.step.Out.TheVariants as outs
 
 -- ---- own steps
 
+-- an operator's own row of a slice change, as its action
 abbrev pub resliced_by : ℕ → Option SliceRow → Option Action
 resliced_by from None = None
 resliced_by from (Some row) = Some (actions.Reslice from row)
@@ -35,11 +36,12 @@ own_steps row i all = filter_map (action_of row i) all
 
 -- ---- answers
 
+-- the output, if it is under this operator
 abbrev pub output_under : ℕ → Out → Option Output
 output_under i (outs.Of op output) = if op == i then Some output else None
 output_under i (outs.Map made) = None
 
--- what is under an operator: its modems' replies, silent causes, and its frames
+-- the outputs under an operator: its modems' replies, drop reasons, and its frames
 abbrev pub answers_of : ℕ → List Out → List Output
 answers_of i all = filter_map (output_under i) all
 
@@ -49,6 +51,7 @@ outputs_under i outputs = map (λ output. outs.Of i output) outputs
 
 -- ---- MAPs
 
+-- the MAP, if the output is one
 abbrev pub map_in : Out → Option MapBytes
 map_in (outs.Of op output) = None
 map_in (outs.Map made) = Some made
@@ -57,6 +60,7 @@ map_in (outs.Map made) = Some made
 abbrev pub maps_in : List Out → List MapBytes
 maps_in all = filter_map map_in all
 
+-- the step collects a frame of this operator
 abbrev pub is_collect : ℕ → Step → Bool
 is_collect i (steps.Arrive modem heard) = false
 is_collect i (steps.Work op) = false
@@ -70,6 +74,7 @@ collects_of i all = count_by (is_collect i) all
 
 -- ---- slice changes
 
+-- the slice of a row of a slice change
 abbrev pub slice_of : SliceRow → Minislots
 slice_of row = record { start = row.start; length = row.length }
 

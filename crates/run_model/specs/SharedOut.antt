@@ -24,5 +24,6 @@ pub record IsSharedOutFrom (plant : PlantFields) (start : Start) (steps : List S
 
 -- ---- a run from the opened plant
 
+-- the same of a MAP of a run from the opened plant
 abbrev pub IsSharedOut : PlantFields → List Step → MapBytes → MapView → Type 0
 IsSharedOut plant steps made view = IsSharedOutFrom plant (first_start plant) steps made view

@@ -26,6 +26,7 @@ abbrev pub slice_else : Option Minislots → Minislots
 slice_else None = record { start = 0; length = 0 }
 slice_else (Some slice) = slice
 
+-- an operator's own slice of a slice change that waits
 abbrev pub own_of : ℕ → Reslicing → SliceFrom
 own_of i r = record { from = r.from; slice = slice_else (slice_get r.slicing i) }
 

@@ -32,6 +32,7 @@ pub record Acts (i : ℕ) (action : Action) (old new : CoreView) (now : List Out
   }
   pub now_is : now ≡ outputs_under i (own_step (operator_of_book book) action).outputs
 
+-- the output of a MAP, where one is made
 abbrev pub told_map : Option MapBytes → List Out
 told_map None = []
 told_map (Some made) = outs.Map made ∷ []
@@ -48,11 +49,11 @@ pub record Collects (i : ℕ) (old new : CoreView) (now : List Out) : Type 0 whe
   pub new_is : new ≡ record old { queues = slice_set old.queues i waiting; gathering = after_put old.gathering i part }
   pub now_is : now ≡ told_map made
 
--- no two rows have a minislot in common
+-- no two rows have a minislot in common, as a slice change requires
 abbrev pub HaveSlicesApart : List SliceRow → Type 0
 HaveSlicesApart rows = AllPairs (λ a b. slices_overlap (slice_of a) (slice_of b) ≡ false) rows
 
--- no book refuses its row
+-- no book refuses its row, as a slice change requires
 abbrev pub NoneRefuses : ℕ → List BookView → List SliceRow → Type 0
 NoneRefuses from books rows = AtEachPlace rows books (λ i row book. unfit_from (operator_of_book book) from row ≡ None)
 
@@ -68,7 +69,8 @@ pub record Reslices (from : ℕ) (rows : List SliceRow) (old new : CoreView) (no
   pub gathering_is : new.gathering ≡ gathering_after_reslice old.gathering from (map slice_of rows)
   pub now_is : now ≡ []
 
--- an Arrive goes to the operator whose row holds the modem, each other step to the operator that it names
+-- what one step makes of a core, and its outputs: an Arrive goes to the operator whose row holds the modem, each other step to the operator
+-- that it names, and a slice change to all
 abbrev pub Steps : Step → CoreView → CoreView → List Out → Type 0
 Steps (steps.Arrive modem heard) old new now = (i : ℕ) × (holder old.plant.rows modem ≡ Some i) × Acts i (actions.Arrive modem heard) old new now
 Steps (steps.Work op) old new now = Acts op actions.Work old new now

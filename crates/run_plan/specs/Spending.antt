@@ -31,6 +31,7 @@ pub record IsFirstSpent (plant : PlantFields) (all : List Step) (place : ℕ) : 
 
 -- ---- before new slices are given
 
+-- the step is a slice change
 abbrev pub is_reslice : Step → Bool
 is_reslice (steps.Arrive modem heard) = false
 is_reslice (steps.Work op) = false

@@ -27,7 +27,7 @@ pub record IsTurn (plant : PlantFields) (before : List Step) (step : Step) (turn
       → IsDueAt (own_steps row op before) (collects_of op before) step turn
   pub none : waiting_operator plant step ≡ None → turn ≡ 0
 
--- one turn for each of the steps
+-- a turn for each of the steps: its place among its operator's own actions, for a Collect the place after its Tick
 pub record AreTurns (plant : PlantFields) (all : List Step) (turns : List ℕ) : Type 0 where
   pub one_each : length turns ≡ length all
   pub each : (at : ℕ) (step : Step) (turn : ℕ) → slice_get all at ≡ Some step → slice_get turns at ≡ Some turn

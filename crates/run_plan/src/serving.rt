@@ -79,8 +79,10 @@ fn walk(plant: &Plant, waiting: &mut [usize], steps: &[Step]) -> Option<CoreFaul
 /// operator that it names is not there, or a Collect has no Tick of its operator before it whose frame is not collected
 /// yet. Takes no memory, and time in proportion to the steps.
 pub fn first_unserved(plant: &Plant, steps: &[Step]) -> Option<CoreFault>
+    // None exactly if each step finds its modem, its operator or a frame to collect.
     ensures served { (result ≡ None) ↔ IsServable plant.now steps.now }
     ensures ticked { IfNone result (AreTicked plant.now steps.now) }
+    // Otherwise exactly the fault of the first step that does not.
     ensures first { (fault : CoreFault) → (result ≡ Some fault) ↔ IsFirstUnserved plant.now steps.now fault }
 {
     let operators = plant.rows().len();

@@ -30,9 +30,13 @@ pub fn settle(
 ) -> Result<Settled, RunFault>
     requires { vec_len books ≡ vec_len receipts }
     ensures same { IfOk result (λ s. (s.books ≡ books) × (s.receipts ≡ receipts) × (s.maps ≡ maps)) }
+    // Each history is the merge of its callers' receipts, and each MAP gives every operator the frame of its own
+    // history.
     ensures ok { OnOk result (IsSettled (map view_of books.items) receipts.items maps.items) }
+    // Otherwise the first fault in the stated order, by operator and index.
     ensures fault { IfErr result (λ fault. fault ≢ NoMemory
         → IsFirstFault (map view_of books.items) receipts.items maps.items fault) }
+    // A fault comes only of what is not settled. `MapStrayed` needs memory to be found.
     ensures not_settled { IfErr result (λ fault. fault ≢ NoMemory
         → ¬ IsSettled (map view_of books.items) receipts.items maps.items) }
 

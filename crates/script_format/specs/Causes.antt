@@ -3,6 +3,7 @@ use Rattle.std.specs.Prelude.{ℕ, List, codes}
 use Rattle.operator_model.specs.declared.output.Cause.{Cause}
 use Rattle.operator_model.specs.declared.output.Cause.TheVariants.{InboxFull, Idle, Empty, NotOurs, Short, TidInUse, UnknownAck, NoSuchSid, NotRequesting}
 
+-- how a drop reason is written in a line `S`
 abbrev pub cause_name : Cause → List ℕ
 cause_name InboxFull = codes "InboxFull"
 cause_name Idle = codes "Idle"

@@ -11,6 +11,7 @@ use Rattle.script_format.specs.declared.fields.FieldFault.TheVariants.{Invalid, 
 
 -- ---- what is read, or the first thing wrong with the line
 
+-- what is read of a field, or the error of its line
 abbrev pub FieldResult : Type 0 → Type 0
 FieldResult A = Result A FieldError
 
@@ -24,6 +25,7 @@ abbrev pub behind : {A : Type 0} → List A → FieldResult (List A) → FieldRe
 behind before (Ok more) = Ok (before ++ more)
 behind before (Err error) = Err error
 
+-- what is read, or this error where there is nothing
 abbrev pub required_field : {A : Type 0} → FieldError → Option A → FieldResult A
 required_field error None = Err error
 required_field error (Some x) = Ok x
@@ -58,6 +60,7 @@ of_digits field name digits text number = if nat_le (length text) digits then Ok
 abbrev pub number_in : ℕ → NumberName → ℕ → ℕ → List ℕ → FieldResult ℕ
 number_in field name digits limit text = required_field (Number field name limit) (decimal_in limit text) >>= of_digits field name digits text
 
+-- a number of 16 bits in the field of this number
 abbrev pub short_in : ℕ → NumberName → List ℕ → FieldResult ℕ
 short_in field name text = number_in field name 5 65535 text
 
@@ -65,5 +68,6 @@ short_in field name text = number_in field name 5 65535 text
 abbrev pub message_bytes : List ℕ → Option (List ℕ)
 message_bytes text = if length text == 0 then None else message_in text
 
+-- the bytes of a message in a field
 abbrev pub bytes_in : List ℕ → FieldResult (List ℕ)
 bytes_in text = required_field Hexadecimal (message_bytes text)

@@ -11,8 +11,10 @@ abbrev pub before_bar : Bool → List ℕ → ℕ
 before_bar begins [] = 0
 before_bar begins (b ∷ bytes) = if begins && is_bar (b ∷ bytes) then 0 else 1 + before_bar (b == 10) bytes
 
+-- the plant file of an input: all before the first line `---`
 unfoldable pub plant_text : List ℕ → List ℕ
 plant_text input = take (before_bar true input) input
 
+-- the script of an input: all after the first line `---`
 unfoldable pub script_text : List ℕ → List ℕ
 script_text input = drop (before_bar true input + 4) input

@@ -24,10 +24,12 @@ use Rattle.script_format.specs.Fields.{FieldResult, required_field, two_of, thre
 
 -- ---- names
 
+-- a modem with the operator that lists it, or that no operator does
 abbrev pub sender_of : Modem → Option ℕ → FieldResult Sender
 sender_of modem None = Err (UnknownModem modem)
 sender_of modem (Some op) = Ok (record { modem = modem; op = op })
 
+-- the sender of an address as it was read
 abbrev pub sender_at : List RowFields → Result (List ℕ) FromHexError → FieldResult Sender
 sender_at rows (Ok address) = sender_of (record { 0 = address }) (holder rows (record { 0 = address }))
 sender_at rows (Err fault) = Err Address
@@ -36,6 +38,7 @@ sender_at rows (Err fault) = Err Address
 unfoldable pub sender_in : PlantFields → List ℕ → FieldResult Sender
 sender_in plant field = sender_at plant.rows (decode_sized field 6)
 
+-- the operator of the row has this name
 abbrev pub is_named : List ℕ → RowFields → Bool
 is_named name row = bytes_eq row.name name
 
@@ -127,7 +130,7 @@ steps_in plant number (word ∷ fields) =
     if bytes_eq word (codes "Z") then resliced_steps plant number fields else
     Err UnknownCommand
 
--- an empty line says nothing
+-- the steps that one line says, or that it is invalid; an empty line says none
 unfoldable pub line_steps : PlantFields → ℕ → List ℕ → FieldResult (List LineStep)
 line_steps plant number line = if length line == 0 then Ok [] else steps_in plant number (line_fields line)
 
@@ -141,7 +144,7 @@ steps_after plant number steps (line ∷ lines) = elim (line_steps plant number 
   | Err fault ↦ Err number
 ]
 
--- lines are counted from 1
+-- the steps of all lines of a script, each with its line's number, or the number of the first invalid line; lines are counted from 1
 unfoldable pub steps_of : PlantFields → List ℕ → Result (List LineStep) ℕ
 steps_of plant script = steps_after plant 1 [] (lines_of script)
 

@@ -48,15 +48,18 @@ span_text span = decimal span.sid ++ (codes "/" ++ (decimal (iuc_number span.iuc
 abbrev pub pending_text : ℕ → List ℕ
 pending_text sid = decimal sid ++ codes "/P"
 
+-- the elements of a line `F`: the spans, and then the grants pending
 abbrev pub elements_text : ElementsFields → List ℕ
 elements_text elements = flat_map (λ span. after_space (span_text span)) elements.spans ++ flat_map (λ sid. after_space (pending_text sid)) elements.pending
 
 -- ---- outputs
 
+-- the name of an operator; empty where the plant has no such operator
 abbrev pub operator_name : Option RowFields → List ℕ
 operator_name None = []
 operator_name (Some row) = row.name
 
+-- the address of a modem; `-` where a drop reason is of none
 abbrev pub sender_text : Option Modem → List ℕ
 sender_text None = codes "-"
 sender_text (Some modem) = address modem
@@ -76,12 +79,13 @@ abbrev pub out_line : PlantFields → Out → List ℕ
 out_line plant (outs.Of op output) = output_line (operator_name (slice_get plant.rows op)) output
 out_line plant (outs.Map made) = map_line made
 
--- all lines, in the order of the outputs
+-- the lines of outputs, in their order
 abbrev pub outs_text : PlantFields → List Out → List ℕ
 outs_text plant told = flat_map (out_line plant) told
 
 -- ---- an operator's own steps
 
+-- what a modem sent, as a line `M` or `Q`
 abbrev pub heard_line : Modem → Heard → List ℕ
 heard_line modem (Message bytes) = codes "M " ++ (address modem ++ (codes " " ++ (message_text bytes ++ 10 ∷ [])))
 heard_line modem (Request sid minislots) = codes "Q " ++ (address modem ++ (codes " " ++ (decimal sid ++ (codes " " ++ (decimal minislots ++ 10 ∷ [])))))
@@ -94,6 +98,7 @@ action_line actions.Tick = codes "T" ++ 10 ∷ []
 action_line (actions.Reslice from row) =
     codes "Z " ++ (decimal from ++ (codes " " ++ (decimal row.start ++ (codes "/" ++ (decimal row.length ++ (codes "/" ++ (decimal row.budget ++ 10 ∷ [])))))))
 
+-- the lines of actions, in order
 abbrev pub actions_text : List Action → List ℕ
 actions_text actions = flat_map action_line actions
 

@@ -424,8 +424,10 @@ pub fn put_line<'a, P: Routing>(
     fields: &mut Vec<&'a [u8]>,
     steps: &mut Vec<LineStep>,
 ) -> Result<(), FieldFault>
+    // The steps are added exactly if the line says them. Otherwise the fault is the first thing wrong, from the left.
     ensures said { Gives field_cause (λ _. steps.new.items) result (behind steps.old.items (line_steps (P.plant_of routes.old) number line.now)) }
     ensures same { routes.new ≡ routes.old }
+    // An invalid line adds no step.
     ensures unsaid { (error : FieldError) → result ≡ Err (Invalid error) → steps.new.items ≡ steps.old.items }
 {
     if line.is_empty() {
@@ -467,7 +469,9 @@ pub fn steps_of(
     routes: &mut Routes,
     script: &[u8],
 ) -> Result<Vec<LineStep>, LineFault>
+    // The steps of all lines, each with its line's number, otherwise the number of the first invalid line.
     ensures value { GivesSteps result (steps_of routes.old script.now) }
+    // What arrives is placed at the operator that lists its modem.
     ensures placed { IfOk result (λ steps. ArePlaced routes.old steps.items) }
     ensures same { routes.new ≡ routes.old }
 {

@@ -91,6 +91,7 @@ fn write_elements<W: Write>(writer: &mut W, elements: &Elements) -> io::Result<(
 
 /// Writes the name of an operator.
 pub fn write_name<W: Write>(writer: &mut W, plant: &Plant, op: Op) -> io::Result<()>
+    // Exactly the name is written.
     ensures { OnOk result (Appends (W.contents writer.old) (W.contents writer.new) (operator_name (slice_get plant.now.rows op))) }
 {
     match plant.rows().get(op) {
@@ -156,6 +157,7 @@ pub fn write_output<W: Write>(
     op: Op,
     output: &Output,
 ) -> io::Result<()>
+    // Exactly the line of this output is written.
     ensures { OnOk result (Appends (W.contents writer.old) (W.contents writer.new)
         (output_line (operator_name (slice_get plant.now.rows op)) output.now)) }
 {
@@ -247,6 +249,7 @@ fn write_action<W: Write>(writer: &mut W, action: &Action) -> io::Result<()>
 
 /// Writes the lines of the actions of a history.
 pub fn write_actions<W: Write>(writer: &mut W, history: &[Entry]) -> io::Result<()>
+    // Exactly the lines of these actions are written.
     ensures { OnOk result (Appends (W.contents writer.old) (W.contents writer.new) (actions_text (actions_of history.now))) }
 {
     for entry in history {

@@ -19,6 +19,7 @@ wanted_before claims c = sum_by (λ d. d.left) (filter (λ d. goes_before d c) c
 abbrev pub granted_share : ℕ → List Claim → Claim → ℕ
 granted_share room claims c = min c.left (room - wanted_before claims c)
 
+-- the award of a claim: its base, and what it is granted beyond it
 abbrev pub award_of : ℕ → List Claim → Claim → Award
 award_of room claims c = record {
   sfid = c.sfid;
@@ -32,6 +33,7 @@ award_of room claims c = record {
 abbrev pub awards_of : Policy → AtFields → List Flowing → List Award
 awards_of policy at flows = map (award_of (room_of at flows) (claims_of policy at flows)) (claims_of policy at flows)
 
--- what a flow is granted
+-- what a flow is granted, as a closed sum: its base, plus the lesser of what is left of its backlog after the base, and of the room less
+-- what the flows before it want beyond their bases
 abbrev pub grant_of : Policy → AtFields → List Flowing → Flowing → ℕ
 grant_of policy at flows f = (award_of (room_of at flows) (claims_of policy at flows) (claim_of policy at f)).grant

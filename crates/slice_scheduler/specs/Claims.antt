@@ -13,10 +13,11 @@ use Rattle.slice_scheduler.specs.Due.{due_minislots}
 abbrev pub facts_of : AtFields → Flowing → RankFacts
 facts_of at f = record { priority = f.set.priority; age = min 255 (at.frame - f.since); backlog = f.backlog }
 
--- the minislots of the backlog that the reserved rate covers
+-- the base of a flow: the minislots of its backlog that the reserved rate covers
 abbrev pub base_of : AtFields → Flowing → ℕ
 base_of at f = min f.backlog (reserve_of f.set.min_reserved_rate at.units)
 
+-- what a flow claims: its rank, its base, and what is left of its backlog after the base
 abbrev pub claim_of : Policy → AtFields → Flowing → Claim
 claim_of policy at f = record {
   sfid = f.sfid;
@@ -26,6 +27,7 @@ claim_of policy at f = record {
   left = f.backlog - base_of at f;
 }
 
+-- the claim of each flow, in the flows' order
 abbrev pub claims_of : Policy → AtFields → List Flowing → List Claim
 claims_of policy at flows = map (claim_of policy at) flows
 
@@ -33,6 +35,6 @@ claims_of policy at flows = map (claim_of policy at) flows
 abbrev pub taken_of : AtFields → Flowing → ℕ
 taken_of at f = due_minislots at f + base_of at f
 
--- the minislots of the slice that are shared
+-- what is left of the slice after due grants and bases: the minislots that are shared
 abbrev pub room_of : AtFields → List Flowing → ℕ
 room_of at flows = at.slice.length - sum_by (taken_of at) flows

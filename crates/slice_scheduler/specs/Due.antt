@@ -33,6 +33,7 @@ minislots_when_due NonRealTimePolling set units = 1
 minislots_when_due RealTimePolling set units = 1
 minislots_when_due UnsolicitedGrant set units = set.grants_per_interval * minislots_of set.grant_size units
 
+-- the minislots that a flow is granted in this frame whatever it asks: none where it is not due
 abbrev pub due_minislots : AtFields → Flowing → ℕ
 due_minislots at f = if is_due at f then minislots_when_due f.set.scheduling f.set at.units else 0
 
@@ -48,5 +49,6 @@ pieces_when_due RealTimePolling at f = record { sid = f.sid; iuc = Request; len 
 pieces_when_due UnsolicitedGrant at f = replicate f.set.grants_per_interval
     (record { sid = f.sid; iuc = iuc_of at (minislots_of f.set.grant_size at.units); len = minislots_of f.set.grant_size at.units })
 
+-- the same minislots as grants
 abbrev pub due_pieces : AtFields → Flowing → List Piece
 due_pieces at f = if is_due at f then pieces_when_due f.set.scheduling at f else []

@@ -1,7 +1,7 @@
 -- The minislots that are one operator's (implementation-specific).
 use Rattle.std.specs.Prelude.{ℕ, ◌+◌, ◌≤◌, ◌&&◌, nat_lt, Bool}
 
--- so many minislots from this one on
+-- a slice: so many minislots from this one on
 pub record Minislots : Type 0 where
   pub start : ℕ
   pub length : ℕ

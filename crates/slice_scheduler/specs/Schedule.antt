@@ -38,6 +38,7 @@ abbrev pub spans_from : ℕ → List Piece → List Span
 spans_from start [] = []
 spans_from start (piece ∷ pieces) = record { sid = piece.sid; iuc = piece.iuc; start = start; len = piece.len } ∷ spans_from (start + piece.len) pieces
 
+-- the minislots of these grants
 abbrev pub minislots_in : List Piece → ℕ
 minislots_in pieces = sum_by (λ piece. piece.len) pieces
 
@@ -49,6 +50,7 @@ spans_of policy at flows = spans_from at.slice.start (pieces_of policy at flows 
 abbrev pub pending_of : Policy → AtFields → List Flowing → List ℕ
 pending_of policy at flows = map (λ a. a.sid) (filter (λ a. nat_lt a.grant a.backlog) (by_rank (awards_of policy at flows)))
 
+-- the elements that the schedule of a frame gives an operator: its slice, its spans and its grants pending
 abbrev pub elements_of : Policy → AtFields → List Flowing → ElementsFields
 elements_of policy at flows = record { slice = at.slice; spans = spans_of policy at flows; pending = pending_of policy at flows }
 

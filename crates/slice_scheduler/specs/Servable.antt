@@ -16,7 +16,7 @@ Ascends key (x ∷ xs) = AllByRecursion (λ y. key x < key y) xs × Ascends key 
 abbrev pub SfidsAscend : List Flowing → Type 0
 SfidsAscend flows = Ascends (λ f. f.sfid) flows
 
--- the flow is not of a later frame
+-- neither the frame from which the flow's intervals count nor that since which its backlog waits is after this frame
 pub record IsPast (frame : ℕ) (f : Flowing) : Type 0 where
   pub start : f.start ≤ frame
   pub since : f.since ≤ frame
@@ -25,7 +25,7 @@ pub record IsPast (frame : ℕ) (f : Flowing) : Type 0 where
 abbrev pub IsOfItsKind : Flowing → Type 0
 IsOfItsKind f = IsOfKind f.set.scheduling f.set
 
--- a flow with unsolicited grants asks for nothing next to them
+-- a flow with unsolicited grants has an empty backlog
 abbrev pub AsksWhereItMay : Flowing → Type 0
 AsksWhereItMay f = f.set.scheduling ≡ UnsolicitedGrant → f.backlog ≡ 0
 
@@ -33,7 +33,7 @@ AsksWhereItMay f = f.set.scheduling ≡ UnsolicitedGrant → f.backlog ≡ 0
 abbrev pub need_at : AtFields → Flowing → ℕ
 need_at at f = (need_of f.set at.units).minislots
 
--- those of all flows
+-- the minislots that the parameter sets of all flows need of each frame
 abbrev pub total_need : AtFields → List Flowing → ℕ
 total_need at flows = sum_by (need_at at) flows
 

@@ -8,6 +8,6 @@ abbrev pub Tiles : ℕ → ℕ → List Span → Type 0
 Tiles start end [] = start ≡ end
 Tiles start end (span ∷ others) = (span.start ≡ start) × (0 < span.len) × Tiles (start + span.len) end others
 
--- the spans tile the slice
+-- the spans are the minislots of the slice, each in exactly one; the type `Elements` keeps it
 pub record IsTiled (elements : ElementsFields) : Type 0 where
   pub tiles : Tiles elements.slice.start (elements.slice.start + elements.slice.length) elements.spans

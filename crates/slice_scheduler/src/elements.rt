@@ -108,6 +108,7 @@ impl Elements {
 
     /// Returns equal elements, in the memory of others that nobody needs any more, if there are any.
     pub fn copy_in(&self, alloc: Global, spent: Option<Elements>) -> Result<Elements, AllocError>
+        // What an Ok holds does not depend on the memory of the others.
         ensures { IfOk result (λ elements. elements ≡ self.now) }
     {
         match spent {

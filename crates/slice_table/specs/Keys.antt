@@ -8,6 +8,7 @@ use Rattle.slice_table.specs.declared.plant_key.Place.TheVariants as place
 use Rattle.slice_table.specs.declared.plant_key.Key.{Key}
 use Rattle.slice_table.specs.declared.plant_key.Key.TheVariants as key
 
+-- how each key is written
 unfoldable pub field_text : Field → List ℕ
 field_text field.FrameMinislots = codes "frame_minislots"
 field_text field.Head = codes "head"

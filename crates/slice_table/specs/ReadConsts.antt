@@ -25,12 +25,14 @@ use Rattle.slice_table.specs.Tree.{PlantResult, each, items_len, required_value,
 
 -- ---- the table `plant`
 
+-- the length of a frame in microseconds, and the bytes of a minislot
 unfoldable pub units_at : Members → PlantResult UnitSizes
 units_at ms = do
   frame_us ← number_of_key place.Plant field.FrameUs ms
   bytes_per_minislot ← number_of_key place.Plant field.BytesPerMinislot ms
   Ok (record { frame_us = frame_us; bytes_per_minislot = bytes_per_minislot })
 
+-- the ranging and the data backoffs, each with its start and its end (6.4.4)
 unfoldable pub backoffs_at : Members → PlantResult Backoffs
 backoffs_at ms = do
   ranging_start ← number_of_key place.Plant field.RangingStart ms
@@ -39,6 +41,7 @@ backoffs_at ms = do
   data_end ← number_of_key place.Plant field.DataEnd ms
   Ok (record { ranging_start = ranging_start; ranging_end = ranging_end; data_start = data_start; data_end = data_end })
 
+-- the timers of responses, in ticks: `ack_wait`, `resends` and `hold`
 unfoldable pub timers_at : Members → PlantResult Waits
 timers_at ms = do
   ack_wait ← number_of_key place.Plant field.AckWait ms
@@ -46,6 +49,7 @@ timers_at ms = do
   hold ← number_of_key place.Plant field.Hold ms
   Ok (record { ack_wait = ack_wait; resends = resends; hold = hold })
 
+-- the keys of the table `plant`, in their order
 unfoldable pub plant_keys_at : Members → PlantResult PlantKeys
 plant_keys_at ms = do
   frame_minislots ← number_of_key place.Plant field.FrameMinislots ms
@@ -93,6 +97,7 @@ abbrev pub parameters_in : Key → Result FlowFields FlowFault → PlantResult F
 parameters_in key (Ok flow) = checked_value key (states_parameters flow) flow
 parameters_in key (Err fault) = Err (BadValue key)
 
+-- the encoding of the class at a place
 unfoldable pub class_encoding_at : Place → Members → PlantResult FlowFields
 class_encoding_at place ms = do
   bytes ← bytes_at place field.Encoding ms
@@ -120,6 +125,7 @@ classes_if (Some d) = classes_in d
 
 -- ---- what all operators share
 
+-- the keys of the table `plant`, and the classes
 abbrev pub with_classes : PlantKeys → List Class → ConstsFields
 with_classes keys classes = record {
   channel = keys.channel;
@@ -129,6 +135,7 @@ with_classes keys classes = record {
   classes = classes;
 }
 
+-- what all operators share: the table `plant` first, then the classes
 unfoldable pub consts_of : Members → PlantResult ConstsFields
 consts_of ms = do
   keys ← plant_keys_of ms

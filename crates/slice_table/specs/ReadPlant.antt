@@ -9,14 +9,14 @@ use Rattle.slice_table.specs.ReadConsts.{consts_of}
 use Rattle.slice_table.specs.ReadRows.{rows_of}
 use Rattle.slice_table.specs.Checks.{rows_fault, unless}
 
--- the keys in their order, and then all of them together
+-- the plant of a document, or its first fault: the keys are judged in their order, and then all of them together
 unfoldable pub plant_of : Members → PlantResult PlantFields
 plant_of ms = do
   consts ← consts_of ms
   rows ← rows_of consts ms
   unless (rows_fault consts rows) (record { consts = consts; rows = rows })
 
--- of a text that is not TOML there is no tree
+-- the plant of a text, or its first fault; of a text that is not TOML there is no document
 abbrev pub text_plant : Option Members → PlantResult PlantFields
 text_plant None = Err NotToml
 text_plant (Some ms) = plant_of ms

@@ -41,6 +41,7 @@ name_at rows place ms = do
 unfoldable pub fits_frame : ConstsFields → ℕ → ℕ → Bool
 fits_frame consts start length = (nat_le consts.channel.head start && nat_le 1 length) && nat_le (start + length) consts.channel.frame_minislots
 
+-- the slice of an operator: its first minislot and how many there are
 unfoldable pub slice_at : ConstsFields → Place → Members → PlantResult Minislots
 slice_at consts place ms = do
   pair ← pair_at place field.Slice ms
@@ -50,6 +51,7 @@ slice_at consts place ms = do
 unfoldable pub is_range : Bounds → ℕ → ℕ → Bool
 is_range range first last = (nat_le range.low first && nat_le first last) && nat_le last range.high
 
+-- a range of identifiers: its first and its last number
 unfoldable pub range_at : Place → Field → Members → PlantResult Numbers
 range_at place field ms = do
   pair ← pair_at place field ms
@@ -61,6 +63,7 @@ aged_at place ms = do
   step ← number_of_key place field.Step ms
   Ok (Aged step)
 
+-- the policy of this name: "strict", "aged" or "short"
 unfoldable pub policy_named : List ℕ → Place → Members → PlantResult Policy
 policy_named text place ms =
     if bytes_eq text (codes "strict") then Ok Strict else
@@ -68,6 +71,7 @@ policy_named text place ms =
     if bytes_eq text (codes "short") then Ok Short else
     Err (BadValue (Entry place field.Policy))
 
+-- the policy of an operator
 unfoldable pub policy_at : Place → Members → PlantResult Policy
 policy_at place ms = do
   text ← text_at place field.Policy ms
@@ -77,6 +81,7 @@ policy_at place ms = do
 abbrev pub modem_read : Place → List Modem → Data → PlantResult Modem
 modem_read place done d = modem_of (Entry place field.Modems) d
 
+-- the modems of an operator
 unfoldable pub modems_at : Place → Members → PlantResult (List Modem)
 modems_at place ms = do
   ds ← array_at place field.Modems ms
@@ -99,6 +104,7 @@ has_sets consts p = is_some (sets_of_encoding consts p.encoding)
 abbrev pub HaveSets : ConstsFields → List Provision → Type 0
 HaveSets consts ps = All (λ p. IsSome (sets_of_encoding consts p.encoding)) ps
 
+-- a provisioned flow: its modem and its encoding
 unfoldable pub provision_at : ConstsFields → List Modem → Place → Members → PlantResult Provision
 provision_at consts modems place ms = do
   modem ← own_modem_at modems place ms
@@ -111,6 +117,7 @@ provision_read consts operator modems done d = do
   table ← table_of (place.Flow operator (length done)) d
   provision_at consts modems (place.Flow operator (length done)) table
 
+-- the provisioned flows of an array, in order
 unfoldable pub provisions_in : ConstsFields → ℕ → List Modem → Data → PlantResult (List Provision)
 provisions_in consts operator modems d = do
   ds ← expected_value (Entry (place.Operator operator) field.Flow) (as_array d)
@@ -123,6 +130,7 @@ provisions_if consts operator modems (Some d) = provisions_in consts operator mo
 
 -- ---- an operator, and all of them
 
+-- an operator: its keys in their order
 unfoldable pub row_at : ConstsFields → List RowFields → ℕ → Members → PlantResult RowFields
 row_at consts rows operator ms = do
   name ← name_at rows (place.Operator operator) ms

@@ -60,16 +60,19 @@ SayInTurn {A} Says done (item d ds) xs = (x : A) × Says done d x × SayInTurn S
 
 -- ---- the table `plant`
 
+-- the length of a frame in microseconds, and the bytes of a minislot
 pub record SaysUnits (ms : Members) (units : UnitSizes) : Type 0 where
   pub frame_us : SaysNumberIn ms field.FrameUs units.frame_us
   pub bytes_per_minislot : SaysNumberIn ms field.BytesPerMinislot units.bytes_per_minislot
 
+-- the ranging and the data backoffs, each with its start and its end (6.4.4)
 pub record SaysBackoffs (ms : Members) (backoffs : Backoffs) : Type 0 where
   pub ranging_start : SaysNumberIn ms field.RangingStart backoffs.ranging_start
   pub ranging_end : SaysNumberIn ms field.RangingEnd backoffs.ranging_end
   pub data_start : SaysNumberIn ms field.DataStart backoffs.data_start
   pub data_end : SaysNumberIn ms field.DataEnd backoffs.data_end
 
+-- the timers of responses, in ticks
 pub record SaysTimers (ms : Members) (timers : Waits) : Type 0 where
   pub ack_wait : SaysNumberIn ms field.AckWait timers.ack_wait
   pub resends : SaysNumberIn ms field.Resends timers.resends
@@ -104,6 +107,7 @@ pub record SaysParameters (ms : Members) (flow : FlowFields) : Type 0 where
   pub stated : flow_of bytes ≡ Ok flow
   pub parameters : StatesParameters flow
 
+-- a class: its name and what it states
 pub record SaysClass (before : List Class) (d : Data) (class : Class) : Type 0 where
   pub ms : Members
   pub is : d ≡ table ms
@@ -130,7 +134,7 @@ pub record SaysName (before : List RowFields) (ms : Members) (name : List ℕ) :
   pub valid : IsOperatorName name
   pub new : All (λ row. row.name ≢ name) before
 
--- its minislots: at least one, after the head and within the frame
+-- the slice of an operator: at least one minislot, after the head and within the frame
 pub record SaysSlice (consts : ConstsFields) (ms : Members) (slice : Minislots) : Type 0 where
   pub held : at_field field.Slice ms ≡ Some (two slice.start slice.length)
   pub behind_head : consts.channel.head ≤ slice.start
@@ -173,7 +177,7 @@ abbrev pub SaysProvisions : ConstsFields → List Modem → Members → List Pro
 SaysProvisions consts modems ms ps = ((at_field field.Flow ms ≡ None) × ([] ≡ ps))
     ⊎ ((ds : Items) × (at_field field.Flow ms ≡ Some (array ds)) × SayInTurn (λ before. SaysProvision consts modems) [] ds ps)
 
--- an operator next to those before it
+-- the keys of an operator say this row, next to those before it
 pub record SaysRow (consts : ConstsFields) (before : List RowFields) (d : Data) (row : RowFields) : Type 0 where
   pub ms : Members
   pub is : d ≡ table ms
@@ -199,7 +203,7 @@ pub record SaysRows (consts : ConstsFields) (document : Members) (rows : List Ro
 
 -- ---- the plant
 
--- a document says a plant: its keys do, and together they are a valid one
+-- a document says a plant: its keys say this plant, in no order of reading, and together they are valid
 pub record SaysPlant (document : Members) (plant : PlantFields) : Type 0 where
   pub consts : SaysConsts document plant.consts
   pub rows : SaysRows plant.consts document plant.rows

@@ -17,6 +17,7 @@ use Rattle.slice_table.specs.Ranges.{range_of, default_of}
 
 -- ---- a value, or the first fault
 
+-- a value, or the first fault of a plant file
 abbrev pub PlantResult : Type 0 → Type 0
 PlantResult A = Result A PlantFault
 
@@ -30,6 +31,7 @@ abbrev pub each : {A : Type 0} → (List A → Data → PlantResult A) → List 
 each read done no_items = Ok done
 each read done (item d ds) = read done d >>= λ x. each read (done ++ x ∷ []) ds
 
+-- how many items an array has
 abbrev pub items_len : Items → ℕ
 items_len no_items = 0
 items_len (item d ds) = suc (items_len ds)
@@ -52,9 +54,11 @@ checked_value key passes x = if passes then Ok x else Err (BadValue key)
 
 -- ---- values
 
+-- what is under a key
 abbrev pub at_field : Field → Members → Option Data
 at_field field ms = get_member (field_text field) ms
 
+-- a number that is not negative
 abbrev pub natural : Data → Option ℕ
 natural (integer (pos n)) = Some n
 natural d = None
@@ -65,6 +69,7 @@ number_of key low high d = do
   n ← expected_value key (natural d)
   checked_value key (nat_le low n && nat_le n high) n
 
+-- the number under a key, from low to high
 unfoldable pub number_at : Place → Field → ℕ → ℕ → Members → PlantResult ℕ
 number_at place field low high ms = do
   d ← required_value (Entry place field) (at_field field ms)
@@ -79,12 +84,13 @@ number_if key range default (Some d) = number_of key range.low range.high d
 unfoldable pub number_of_key : Place → Field → Members → PlantResult ℕ
 number_of_key place field ms = number_if (Entry place field) (range_of field) (default_of field) (at_field field ms)
 
--- two numbers
+-- two numbers, if both are there
 abbrev pub both : Option ℕ → Option ℕ → Option (ℕ × ℕ)
 both (Some a) (Some b) = Some (a, b)
 both (Some a) None = None
 both None b = None
 
+-- the two numbers of an array of two
 abbrev pub pair_in : Items → Option (ℕ × ℕ)
 pair_in (item a (item b no_items)) = both (natural a) (natural b)
 pair_in ds = None
@@ -95,6 +101,7 @@ array_at place field ms = do
   d ← required_value (Entry place field) (at_field field ms)
   expected_value (Entry place field) (as_array d)
 
+-- the two numbers under a key
 unfoldable pub pair_at : Place → Field → Members → PlantResult (ℕ × ℕ)
 pair_at place field ms = do
   ds ← array_at place field ms
@@ -111,6 +118,7 @@ abbrev pub bytes_if_decoded : Result (List ℕ) FromHexError → Option (List �
 bytes_if_decoded (Ok bytes) = Some bytes
 bytes_if_decoded (Err e) = None
 
+-- the bytes under a key, a text of hexadecimal digits
 unfoldable pub bytes_at : Place → Field → Members → PlantResult (List ℕ)
 bytes_at place field ms = do
   text ← text_at place field ms
@@ -121,11 +129,13 @@ abbrev pub modem_in : Result (List ℕ) FromHexError → Option Modem
 modem_in (Ok bytes) = Some (record { 0 = bytes })
 modem_in (Err e) = None
 
+-- an address in hexadecimal, as a modem
 unfoldable pub modem_of : Key → Data → PlantResult Modem
 modem_of key d = do
   text ← expected_value key (as_str d)
   expected_value key (modem_in (decode_sized text 6))
 
+-- the modem under a key
 unfoldable pub modem_at : Place → Field → Members → PlantResult Modem
 modem_at place field ms = do
   d ← required_value (Entry place field) (at_field field ms)

@@ -99,8 +99,9 @@ pub fn read_plant(alloc: Global, text: &str) -> Result<Plant, PlantFault>
     // A plant that the text says is read, unless memory runs out.
     ensures only { (document : Members) (plant : PlantFields) → parse_document text.now ≡ Some document
         → SaysPlant document plant → Gives plant_cause (λ p. p) result (Ok plant) }
-    // Which fault it is.
+    // Otherwise the first fault of the text, in the stated order.
     ensures exact { Gives plant_cause (λ plant. plant) result (text_plant (parse_document text.now)) }
+    // What is read is a valid plant.
     ensures valid { IfOk result IsPlant }
 {
     plant_of_text(alloc, text)

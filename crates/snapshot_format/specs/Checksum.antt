@@ -6,6 +6,7 @@ abbrev pub adler_after : ℕ → ℕ → List ℕ → ℕ
 adler_after low high [] = high * 65536 + low
 adler_after low high (b ∷ bytes) = adler_after ((low + b) % 65521) ((high + (low + b) % 65521) % 65521) bytes
 
+-- the Adler-32 checksum of bytes
 unfoldable pub adler_32 : List ℕ → ℕ
 adler_32 bytes = adler_after 1 0 bytes
 

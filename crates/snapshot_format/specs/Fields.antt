@@ -29,10 +29,12 @@ take_presence end bytes =
 
 -- ---- a field and the byte that ends it
 
+-- the bytes before a place, and those after the byte at it; where there is no place, the text is cut
 abbrev pub field_until : Option ℕ → List ℕ → Taken (List ℕ)
 field_until None bytes = stop_at Cut bytes
 field_until (Some place) bytes = Ok (take place bytes, drop (place + 1) bytes)
 
+-- a field: the bytes up to the first byte `end`, which ends it
 unfoldable pub take_field : ℕ → List ℕ → Taken (List ℕ)
 take_field end bytes = field_until (position (λ b. b == end) bytes) bytes
 
@@ -49,17 +51,21 @@ digits_after most number (d ∷ digits) =
 abbrev pub parse_number : ℕ → List ℕ → Result ℕ Wrong
 parse_number most field = if length field == 0 then Err Shape else digits_after most 0 field
 
+-- a field that is a decimal number, at most `most`
 unfoldable pub take_number : ℕ → ℕ → List ℕ → Taken ℕ
 take_number most end bytes = take_field end bytes >>= λ field. place_result (parse_number most field.0) bytes field.1
 
 -- ---- names, addresses and bytes
 
+-- an operator's name
 abbrev pub parse_name : List ℕ → Result (List ℕ) Wrong
 parse_name field = if is_operator_name field then Ok field else Err Shape
 
+-- a field that is an operator's name
 unfoldable pub take_name : ℕ → List ℕ → Taken (List ℕ)
 take_name end bytes = take_field end bytes >>= λ field. place_result (parse_name field.0) bytes field.1
 
+-- an address that was read, as a modem
 abbrev pub address_of : Result (List ℕ) FromHexError → Result Modem Wrong
 address_of (Ok address) = Ok (record { 0 = address })
 address_of (Err fault) = Err Shape
@@ -68,6 +74,7 @@ address_of (Err fault) = Err Shape
 unfoldable pub take_modem : ℕ → List ℕ → Taken Modem
 take_modem end bytes = take_field end bytes >>= λ field. place_result (address_of (decode_sized field.0 6)) bytes field.1
 
+-- bytes that were read in hexadecimal
 abbrev pub decode_result : Result (List ℕ) FromHexError → Result (List ℕ) Wrong
 decode_result (Ok bytes) = Ok bytes
 decode_result (Err fault) = Err Shape
@@ -76,5 +83,6 @@ decode_result (Err fault) = Err Shape
 abbrev pub parse_bytes : List ℕ → Result (List ℕ) Wrong
 parse_bytes field = if bytes_eq field (codes "-") then Ok [] else decode_result (decode_of field)
 
+-- a field of bytes in hexadecimal
 unfoldable pub take_bytes : ℕ → List ℕ → Taken (List ℕ)
 take_bytes end bytes = take_field end bytes >>= λ field. place_result (parse_bytes field.0) bytes field.1

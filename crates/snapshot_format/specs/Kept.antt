@@ -23,20 +23,26 @@ pub record AreKeptSets (sets : SetsFields) : Type 0 where
   pub active : IfSome sets.active IsParameterSet
   pub nested : AreNested sets
 
+-- the sets that wait keep what their types keep
 abbrev pub IsKeptPending : Pending → Type 0
 IsKeptPending pending = AreKeptSets pending.sets
 
+-- the sets of a flow and those that wait keep what their types keep
 pub record IsKeptFlow (saved : SavedFlow) : Type 0 where
   pub sets : AreKeptSets saved.flow.sets
   pub pending : IfSome saved.flow.pending IsKeptPending
 
+-- the time of a cached response has not ended, and where it is held no retransmission is left
 pub record IsKeptEntry (entry : KeptEntry) : Type 0 where
   pub ticking : HasTicks entry
   pub held : IsHeldUnsent entry
 
+-- the slice of a share that waits has a minislot and is within the most minislots of a frame
 abbrev pub IsKeptNext : NextShare → Type 0
 IsKeptNext next = IsSlice next.share.slice
 
+-- what the machine's types keep of an operator: its name, its slices, its flows in ascending order, and one cached response for each
+-- transaction
 pub record IsKeptOperator (saved : SavedOperator) : Type 0 where
   pub name : IsOperatorName saved.name
   pub slice : IsSlice saved.share.slice
@@ -46,6 +52,7 @@ pub record IsKeptOperator (saved : SavedOperator) : Type 0 where
   pub kept : AllByRecursion IsKeptEntry saved.kept
   pub one_each : AllFollow entry_follows [] saved.kept
 
+-- what holds of whatever is read: each operator is one that the machine's types can hold, and no two have one name
 pub record IsKeptSnapshot (saved : Snapshot) : Type 0 where
   pub operators : AllByRecursion IsKeptOperator saved.operators
   pub own_names : AllFollow operator_follows [] saved.operators

@@ -25,6 +25,7 @@ use Rattle.snapshot_format.specs.Sets.{take_sets}
 
 -- ---- a flow
 
+-- the SID of a flow, if it has one
 unfoldable pub take_sid : List ℕ → Taken (Option ℕ)
 take_sid bytes = do
   presence ← take_presence 32 bytes
@@ -37,6 +38,7 @@ take_waiting bytes = do
   sets ← take_sets new.1
   Ok (record { sets = sets.0; sid_is_new = new.0 == 1 }, sets.1)
 
+-- the sets that wait, if some do
 unfoldable pub take_pending : List ℕ → Taken (Option Pending)
 take_pending bytes = do
   presence ← take_presence 32 bytes
@@ -62,6 +64,7 @@ take_flow bytes = do
     since.1,
   )
 
+-- the SFID is greater than that of the flow before it, if there is one
 abbrev pub can_follow : Option SavedFlow → ℕ → Bool
 can_follow None sfid = true
 can_follow (Some last) sfid = nat_lt last.sfid sfid
@@ -70,11 +73,13 @@ can_follow (Some last) sfid = nat_lt last.sfid sfid
 abbrev pub flow_follows : List SavedFlow → SavedFlow → Bool
 flow_follows before flow = can_follow (slice_get before (length before - 1)) flow.sfid
 
+-- so many flows
 unfoldable pub take_flows : ℕ → List ℕ → Taken (List SavedFlow)
 take_flows count bytes = take_items take_flow flow_follows count [] bytes
 
 -- ---- a cached response
 
+-- the kind of a transaction: `dsa`, `dsc` or `dsd`
 abbrev pub kind_in : List ℕ → Result Kind Wrong
 kind_in field =
     if bytes_eq field (codes "dsa") then Ok Dsa else
@@ -82,15 +87,18 @@ kind_in field =
     if bytes_eq field (codes "dsd") then Ok Dsd else
     Err Shape
 
+-- a field that is the kind of a transaction
 unfoldable pub take_kind : List ℕ → Taken Kind
 take_kind bytes = take_field 32 bytes >>= λ field. place_result (kind_in field.0) bytes field.1
 
+-- the state of a cached response: `waiting` or `held`
 abbrev pub state_in : List ℕ → Result ResponseState Wrong
 state_in field =
     if bytes_eq field (codes "waiting") then Ok Waiting else
     if bytes_eq field (codes "held") then Ok Held else
     Err Shape
 
+-- a field that is the state of a cached response
 unfoldable pub take_state : List ℕ → Taken ResponseState
 take_state bytes = take_field 32 bytes >>= λ field. place_result (state_in field.0) bytes field.1
 
@@ -98,6 +106,7 @@ take_state bytes = take_field 32 bytes >>= λ field. place_result (state_in fiel
 abbrev pub is_timed : KeptEntry → Bool
 is_timed entry = nat_le 1 entry.ticks_left && (is_waiting entry || entry.resends_left == 0)
 
+-- a cached response, if its timer is valid
 abbrev pub checked_entry : KeptEntry → Result KeptEntry Wrong
 checked_entry entry = if is_timed entry then Ok entry else Err Range
 
@@ -128,6 +137,7 @@ take_entry bytes = do
 abbrev pub entry_follows : List KeptEntry → KeptEntry → Bool
 entry_follows before entry = not (list_any (is_of entry.modem entry.tid) before)
 
+-- so many cached responses
 unfoldable pub take_entries : ℕ → List ℕ → Taken (List KeptEntry)
 take_entries count bytes = take_items take_entry entry_follows count [] bytes
 
@@ -148,6 +158,7 @@ take_request bytes = do
   minislots ← take_number 65535 10 sid.1
   Ok (record { modem = modem.0; heard = Request sid.0 minislots.0 }, minislots.1)
 
+-- a message or a bandwidth request in the inbox
 unfoldable pub take_arrival : List ℕ → Taken Arrival
 take_arrival bytes =
     if bytes_eq (take 8 bytes) (codes "message ") then take_message (drop 8 bytes)
@@ -157,11 +168,13 @@ take_arrival bytes =
 abbrev pub arrival_follows : List Arrival → Arrival → Bool
 arrival_follows before arrival = true
 
+-- so many messages and bandwidth requests in the inbox
 unfoldable pub take_arrivals : ℕ → List ℕ → Taken (List Arrival)
 take_arrivals count bytes = take_items take_arrival arrival_follows count [] bytes
 
 -- ---- slices and budgets
 
+-- a slice and a budget, if the slice is one that a frame can have
 abbrev pub checked_share : ℕ → ℕ → ℕ → Result Share Wrong
 checked_share start length budget =
     if nat_le 1 length && nat_le (start + length) 4096 then Ok (record { slice = record { start = start; length = length }; budget = budget }) else Err Range
@@ -178,6 +191,7 @@ take_share bytes = do
 unfoldable pub take_slice : List ℕ → Taken Share
 take_slice bytes = take_literal (codes "slice ") bytes >>= λ rest. take_share rest
 
+-- `from start length budget`
 unfoldable pub take_next_share : List ℕ → Taken NextShare
 take_next_share bytes = do
   from ← take_number 4294967295 32 bytes
@@ -203,6 +217,7 @@ take_head bytes = do
   inbox ← take_number 65535 10 kept.1
   Ok (record { name = name.0; flows = flows.0; kept = kept.0; inbox = inbox.0 }, inbox.1)
 
+-- an operator: its head, its shares, its flows, its cached responses and its inbox
 unfoldable pub take_operator : List ℕ → Taken SavedOperator
 take_operator bytes = do
   head ← take_head bytes
@@ -217,5 +232,6 @@ take_operator bytes = do
 abbrev pub operator_follows : List SavedOperator → SavedOperator → Bool
 operator_follows before operator = not (list_any (λ other. bytes_eq other.name operator.name) before)
 
+-- so many operators
 unfoldable pub take_operators : ℕ → List ℕ → Taken (List SavedOperator)
 take_operators count bytes = take_items take_operator operator_follows count [] bytes

@@ -52,9 +52,11 @@ pub record AreSets (sets : SetsFields) : Type 0 where
   pub active : IfSome sets.active IsSet
   pub nested : AreNested sets
 
+-- sets that wait are within one another
 abbrev pub IsPending : Pending → Type 0
 IsPending pending = AreSets pending.sets
 
+-- each number of a saved flow fits its type, and its sets are within one another
 pub record IsSavedFlow (saved : SavedFlow) : Type 0 where
   pub sfid : saved.sfid < 2 ^ 32
   pub modem : IsModem saved.flow.modem
@@ -65,6 +67,7 @@ pub record IsSavedFlow (saved : SavedFlow) : Type 0 where
   pub backlog : saved.flow.backlog < 2 ^ 16
   pub since : saved.flow.since < 2 ^ 32
 
+-- each number of a cached response fits its type, its time has not ended, and where it is held no retransmission is left
 pub record IsSavedEntry (entry : KeptEntry) : Type 0 where
   pub modem : IsModem entry.modem
   pub tid : entry.tid < 2 ^ 16
@@ -75,22 +78,28 @@ pub record IsSavedEntry (entry : KeptEntry) : Type 0 where
   pub ticking : HasTicks entry
   pub held : IsHeldUnsent entry
 
+-- what a modem sent: bytes, or a SID and a number of minislots of 16 bits each
 abbrev pub IsHeard : Heard → Type 0
 IsHeard (Message bytes) = IsBytes bytes
 IsHeard (Request sid minislots) = (sid < 2 ^ 16) × (minislots < 2 ^ 16)
 
+-- an entry of the inbox: of a modem with an address of six bytes
 pub record IsSavedArrival (arrival : Arrival) : Type 0 where
   pub modem : IsModem arrival.modem
   pub heard : IsHeard arrival.heard
 
+-- the slice is one that a frame can have, and the budget has 16 bits
 pub record IsSavedShare (share : Share) : Type 0 where
   pub slice : IsSlice share.slice
   pub budget : share.budget < 2 ^ 16
 
+-- a share that waits: its frame number has 32 bits
 pub record IsSavedNext (next : NextShare) : Type 0 where
   pub from : next.from < 2 ^ 32
   pub share : IsSavedShare next.share
 
+-- what the types of a machine keep of an operator: its counts have 16 bits, its flows ascend by SFID, and each transaction has one cached
+-- response
 pub record IsSavedOperator (saved : SavedOperator) : Type 0 where
   pub name : IsOperatorName saved.name
   pub share : IsSavedShare saved.share
@@ -104,7 +113,7 @@ pub record IsSavedOperator (saved : SavedOperator) : Type 0 where
   pub one_each : AllFollow entry_follows [] saved.kept
   pub inbox : AllByRecursion IsSavedArrival saved.inbox
 
--- what the types keep, and numbers of lines and operators that the format can state
+-- the values that a snapshot can state: what the types keep, and numbers of lines and operators that the format has room for
 pub record IsSnapshot (saved : Snapshot) : Type 0 where
   pub plant : length saved.plant < 2 ^ 32
   pub frame : saved.frame < 2 ^ 32

@@ -15,6 +15,7 @@ use Rattle.snapshot_format.specs.Fields.{take_number, take_presence}
 
 -- ---- one set
 
+-- a kind of scheduling, if its number has one
 abbrev pub scheduling_in : Option Scheduling → Result Scheduling Wrong
 scheduling_in None = Err Range
 scheduling_in (Some scheduling) = Ok scheduling
@@ -68,6 +69,7 @@ has_no_grants set = set.grant_size == 0 && set.grant_interval == 0 && set.grant_
 abbrev pub has_grants : ParamFields → Bool
 has_grants set = set.min_reserved_rate == 0 && nat_le 1 set.grant_size && nat_le 1 set.grants_per_interval && nat_le set.grants_per_interval 127
 
+-- what the kind of scheduling does not keep is 0, and its grants are in range
 abbrev pub is_of_kind : Scheduling → ParamFields → Bool
 is_of_kind BestEffort set = has_no_polls set && has_no_grants set
 is_of_kind NonRealTimePolling set = has_no_grants set
@@ -78,12 +80,15 @@ is_of_kind UnsolicitedGrant set = has_no_polls set && has_grants set
 abbrev pub is_parameter_set : ParamFields → Bool
 is_parameter_set set = nat_le set.priority 7 && is_of_kind set.scheduling set
 
+-- the parameters, if they are those of a parameter set
 abbrev pub checked_set : ParamFields → Result ParamFields Wrong
 checked_set set = if is_parameter_set set then Ok set else Err Parameters
 
+-- a parameter set
 unfoldable pub take_set : List ℕ → Taken ParamFields
 take_set bytes = take_params bytes >>= λ set. place_result (checked_set set.0) bytes set.1
 
+-- a parameter set, if there is one
 unfoldable pub take_optional_set : List ℕ → Taken (Option ParamFields)
 take_optional_set bytes = do
   presence ← take_presence 32 bytes
@@ -95,14 +100,17 @@ take_optional_set bytes = do
 abbrev pub sets_under : Option ParamFields → SetsFields
 sets_under provisioned = record { provisioned = provisioned; admitted = None; active = None }
 
+-- the sets, unless one is refused as not within another
 abbrev pub within : Result SetsFields Refusal → Result SetsFields Wrong
 within (Ok sets) = Ok sets
 within (Err refusal) = Err NotWithin
 
+-- the sets with this one admitted, if there is one
 abbrev pub with_admitted : SetsFields → Option ParamFields → Result SetsFields Wrong
 with_admitted sets None = Ok sets
 with_admitted sets (Some set) = within (admit_of sets set)
 
+-- the sets with this one active, if there is one
 abbrev pub with_active : SetsFields → Option ParamFields → Result SetsFields Wrong
 with_active sets None = Ok sets
 with_active sets (Some set) = within (activate_of sets set)
@@ -111,6 +119,7 @@ with_active sets (Some set) = within (activate_of sets set)
 abbrev pub checked_sets : Option ParamFields → Option ParamFields → Option ParamFields → Result SetsFields Wrong
 checked_sets provisioned admitted active = with_admitted (sets_under provisioned) admitted >>= λ sets. with_active sets active
 
+-- the provisioned, the admitted and the active set, each within the one before
 unfoldable pub take_sets : List ℕ → Taken SetsFields
 take_sets bytes = do
   provisioned ← take_optional_set bytes

@@ -64,6 +64,7 @@ checked_end body bytes = take_end bytes >>= λ end.
 
 -- ---- the whole
 
+-- the snapshot that a text says, or where reading stops
 abbrev pub saved_of : List ℕ → Result Snapshot ReadStop
 saved_of text = take_body text >>= λ body. checked_end (take (length text - length body.1) text) body.1 >>= λ rest. Ok body.0
 
@@ -76,7 +77,7 @@ abbrev pub by_line : List ℕ → Result Snapshot ReadStop → Result Snapshot S
 by_line text (Ok saved) = Ok saved
 by_line text (Err stop) = Err (Line (line_number text stop.left) stop.wrong)
 
--- the snapshot that a text says, or the first line that is invalid
+-- the snapshot that a text says, or its first invalid line with that line's number
 abbrev pub snapshot_of : List ℕ → Result Snapshot SnapshotFault
 snapshot_of text = by_line text (saved_of text)
 

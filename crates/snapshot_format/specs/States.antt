@@ -27,9 +27,11 @@ states_of saved = map (λ operator. (operator.name, state_of saved.frame operato
 
 -- ---- what is saved of a state
 
+-- the flow of an SFID, as it is saved
 abbrev pub saved_flow : ℕ × Flow → SavedFlow
 saved_flow entry = record { sfid = entry.0; flow = entry.1 }
 
+-- the state of an operator's machine, as it is saved under the operator's name; the frame number is the snapshot's
 abbrev pub saved_state : List ℕ → OperatorState → SavedOperator
 saved_state name state = record {
   name = name;

@@ -65,6 +65,7 @@ fn text_of_snapshot(alloc: Global, saved: &Snapshot) -> Result<Vec<u8>, AllocErr
 
 /// Writes a snapshot as text, in one write after its whole text is in memory.
 pub fn write_snapshot<W: Write>(alloc: Global, writer: &mut W, saved: &Snapshot) -> io::Result<()>
+    // The text of the snapshot is appended and nothing else, unless the writer fails or memory runs out.
     ensures { OnOk result (Appends (W.contents writer.old) (W.contents writer.new) (text_of_snapshot saved.now)) }
 {
     let text = text_of_snapshot(alloc, saved)?;
@@ -194,8 +195,11 @@ fn snapshot_of(alloc: Global, text: &[u8]) -> Result<Snapshot, SnapshotFault>
 /// Returns the snapshot that a text says, or the first of its lines that is invalid. The text of
 /// the plant file is not looked at.
 pub fn read_snapshot(alloc: Global, text: &[u8]) -> Result<Snapshot, SnapshotFault>
+    // What the text says, or its first invalid line with the reason. Memory is the fault only if an allocation fails.
     ensures exact { Gives snapshot_cause (λ saved. saved) result (snapshot_of text.now) }
+    // The text of a snapshot is read as it, if its values fit their types and keep what these keep.
     ensures read_back { (saved : Snapshot) → IsSnapshot saved → text.now ≡ text_of_snapshot saved → Gives snapshot_cause (λ saved. saved) result (Ok saved) }
+    // This is of any text. No clause says that the states are sound under the plant file: `restore` checks that.
     ensures kept { IfOk result (λ saved. IsKeptSnapshot saved) }
 {
     snapshot_of(alloc, text)

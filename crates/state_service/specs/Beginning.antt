@@ -35,7 +35,8 @@ pub record IsSavedWith (content : Option JournalContent) (file : List ℕ) : Typ
 abbrev pub IsChangedTo : List ℕ → CoreView → CoreView → Type 0
 IsChangedTo given led first = (plant : PlantFields) × (text_plant (parse_document given) ≡ Ok plant) × IsChangeOf led plant first
 
--- the plant stays if the given plant file is the one that was saved, and otherwise it is changed to that of the given one
+-- the plant stays if the given plant file has the same bytes as the one that was saved, and otherwise it is changed to that of the given
+-- one
 abbrev pub IsUnderFile : List ℕ → List ℕ → CoreView → CoreView → Type 0
 IsUnderFile saved given led first = (given ≡ saved → first ≡ led) × (given ≢ saved → IsChangedTo given led first)
 
@@ -87,7 +88,8 @@ pub record IsServiceOn (found : Option JournalContent) (file input : List ℕ) (
   pub serves : IsServiceSoFar found file Ended content input [] [] live now old new
   pub leads : LeadsHere content live now
 
--- a service that begins with a file of these bytes
+-- a service that begins with a file of these bytes: a journal is found in it, which leads to a core, which is then under the plant of the
+-- plant file, and the service goes on from there
 pub record IsStateService (bytes file input : List ℕ) (content : Option JournalContent) (old new : Option (List ℕ)) : Type 0 where
   pub found : Option JournalContent
   pub is_found : IsFoundIn bytes file found

@@ -64,6 +64,7 @@ pub record IsNumberDue (file : List ℕ) (live : CoreView) (line : List ℕ) (co
   pub kept : IsKeptSnapshot other count due.kept.snapshot due.kept.start.plant due.kept.start.saved
   pub answer_is : due.answer.items ≡ frame_text other.frame
 
+-- a command is performed: it requests a snapshot, or names a number that the next frame can get
 abbrev pub IsCommandDue : List ℕ → CoreView → List ℕ → ℕ → DueState → Type 0
 IsCommandDue file live line count due = IsSnapshotDue file live line count due ⊎ IsNumberDue file live line count due
 

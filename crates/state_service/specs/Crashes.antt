@@ -50,8 +50,8 @@ pub record HoldsTakenLines (found : Option JournalContent) (file : List ℕ) (fi
 
 -- ---- the journal of a service
 
--- how a service began: the journal that it found, with no fewer lines than these, its first core under its plant file, after so many lines, and
--- the bytes of its input, if they are known
+-- how a service began: the journal that it found, with no fewer lines than these, its first core under its plant file, after so many lines,
+-- and the bytes of its input, if they are known
 pub record ServiceOrigin : Type 0 where
   pub found : Option JournalContent
   pub least : ℕ

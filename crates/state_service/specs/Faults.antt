@@ -114,7 +114,7 @@ IsJournalFault bytes before now durable.Full = ⊤
 abbrev pub IsRefusedAt : List ℕ → List ℕ → ChangeFault → List RefusedState → Type 0
 IsRefusedAt bytes file why refused = (found : Option JournalContent) × IsFoundIn bytes file found × IsStartRefused found file why refused
 
--- a fault of a service that began with a file of these bytes, where the disk has failed so often before and now
+-- what each fault says of the input, of the file of these bytes and of the disk, which has failed so often before and now
 abbrev pub IsServiceFault : Option (List ℕ) → List ℕ → ℕ → ℕ → StateServiceFault → Type 0
 IsServiceFault known bytes before now NotText = IfSome known (λ input. IsUtf8 (plant_text input) → ⊥)
 IsServiceFault known bytes before now (InvalidPlant fault) = IfSome known (λ input. text_plant (parse_document (plant_text input)) ≡ Err fault)

@@ -46,10 +46,12 @@ IsKeptOf live file count (Some kept) = IsKeptState live file count kept.snapshot
 abbrev pub SaysDue : ℕ → DueState → Type 0
 SaysDue count due = SaysState due.kept.snapshot count due.kept.start.plant due.kept.start.saved
 
+-- a period ended with the input, or with a state that is to be saved and whose lines say what was read of them
 abbrev pub SaysAtEnd : ℕ → PeriodEnd → Type 0
 SaysAtEnd count Ended = ⊤
 SaysAtEnd count (Due due) = SaysDue count due
 
+-- the same, if the period has ended
 abbrev pub SaysAtEndIfAny : ℕ → Option PeriodEnd → Type 0
 SaysAtEndIfAny count None = ⊤
 SaysAtEndIfAny count (Some end) = SaysAtEnd count end
@@ -59,6 +61,7 @@ abbrev pub LeadsAtEnd : PeriodEnd → Option JournalContent → CoreView → ℕ
 LeadsAtEnd Ended content live count = LeadsHere content live count
 LeadsAtEnd (Due due) content live count = ⊤
 
+-- the journal leads to the core, unless the period has ended with a state that is to be saved
 abbrev pub LeadsUnlessDue : Option PeriodEnd → Option JournalContent → CoreView → ℕ → Type 0
 LeadsUnlessDue None content live count = LeadsHere content live count
 LeadsUnlessDue (Some end) content live count = LeadsAtEnd end content live count

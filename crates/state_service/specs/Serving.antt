@@ -18,6 +18,7 @@ use Rattle.state_service.specs.Taking.{AreTakenSoFar, AreAllTaken}
 
 -- ---- what a service has done
 
+-- what a service has done at one time, by its kind
 pub data Event : Type 0 where
   -- lines are done, none of which is a command, and this text answers them
   Done : (lines : List (List ℕ)) (text : List ℕ) → Event
@@ -104,7 +105,7 @@ pub record IsAtLine (line : List ℕ) (file : List ℕ) (first : CoreView) (coun
   pub taken : AreTakenSoFar input rest (lines_done events ++ line ∷ []) part
   pub written : Appends old new (text_told events)
 
--- all lines of the input are done and answered
+-- the lines of the events are all lines of the input, and what is written is their answers
 pub record HasServed (file : List ℕ) (first : CoreView) (count : ℕ) (input : List ℕ) (live : CoreView) (now : ℕ) (old new : Option (List ℕ)) : Type 0 where
   pub events : List Event
   pub lead : LeadOn file first count events live
@@ -146,6 +147,7 @@ abbrev pub IsRestFrame : CoreView → Option ℕ → Type 0
 IsRestFrame live (Some frame) = Rests live frame
 IsRestFrame live None = (frame : ℕ) → Rests live frame → ⊥
 
+-- the frame of the first line: none where the core does not rest
 abbrev pub rest_text : Option ℕ → List ℕ
 rest_text None = []
 rest_text (Some frame) = codes " frame " ++ decimal frame

@@ -6,7 +6,7 @@ use Rattle.state_service.specs.declared.reading.BatchEnd.{BatchEnd}
 use Rattle.state_service.specs.declared.reading.BatchEnd.TheVariants.{Open, Command, Ended}
 use Rattle.state_service.specs.Commands.{is_command}
 
--- what is kept of a line: of one that is too long so many bytes that it stays too long
+-- what is kept of a line: of one that is too long 4,097 bytes, so that it stays too long
 abbrev pub kept_line : List ℕ → List ℕ
 kept_line line = take 4097 line
 
@@ -36,7 +36,7 @@ pub record AreTakenToEnd (input rest : List ℕ) (taken : List (List ℕ)) (part
   pub no_part : part ≡ []
   pub all : AreAllTaken input taken
 
--- the one or the other
+-- lines are taken up to some byte of the input, or up to its end
 abbrev pub AreTakenSoFar : List ℕ → List ℕ → List (List ℕ) → List ℕ → Type 0
 AreTakenSoFar input rest taken part = AreTaken input rest taken part ⊎ AreTakenToEnd input rest taken part
 
@@ -57,7 +57,7 @@ abbrev pub line_if_any : Option (Vec ℕ Global) → List (List ℕ)
 line_if_any None = []
 line_if_any (Some line) = line.items ∷ []
 
--- it is a command
+-- the line is a command, if there is one
 abbrev pub IsCommandIfAny : Option (Vec ℕ Global) → Type 0
 IsCommandIfAny None = ⊤
 IsCommandIfAny (Some line) = is_command line.items ≡ true

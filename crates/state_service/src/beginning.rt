@@ -92,10 +92,11 @@ pub fn serve_state<D: Device, R: Read, W: Write, N: RefusalNotes>(
     // After a restart, what is read is what is on the disk.
     requires { Only (D.seen journal.old.device) (D.may_leave journal.old.device) }
 
-    // All lines of the input are in the journal, done and answered.
+    // All lines of the input are in the journal, done and answered, in batches one after the other. No clause says when
+    // a state is saved, except for a command.
     ensures served { OnOk result (IfSome (R.remaining reader.old) (λ input. IsStateService (D.seen journal.old.device) (plant_text input)
         (script_text input) (journal_content (D.seen journal.new.device)) (W.contents writer.old) (W.contents writer.new))) }
-    // The next process finds the journal as this one left it.
+    // The journal is at rest and on the disk, so the next process finds it as this one left it.
     ensures settled { OnOk result (IsJournalSettled D.seen D.may_leave journal.new.device journal.new.gate) }
 
     // A crash at any moment leaves the journal as it was, or one with a state and no fewer lines.
@@ -105,7 +106,8 @@ pub fn serve_state<D: Device, R: Read, W: Write, N: RefusalNotes>(
     ensures named { IfSome (R.remaining reader.old) (λ input. LeavesOnly D.moment D.left_since journal.old.device journal.new.device
         (λ c. IsLeftAt (D.seen journal.old.device) (plant_text input) (script_text input) (journal_content c))) }
 
-    // What a fault says.
+    // A fault of these comes only for its reason: `NotText`, `InvalidPlant`, `Disk`, `NoJournal`, `NotChanged`. No
+    // clause says which other fault is returned, and when.
     ensures fault { IfErr result (IsServiceFault (R.remaining reader.old) (D.seen journal.old.device) (D.faults journal.old.device)
         (D.faults journal.new.device)) }
 {

@@ -14,12 +14,15 @@ use Rattle.tlv24.specs.Tlv.{IsTlvList, IsFront, Begins, NoTlvBegins, spelled, fr
 
 -- Numbers in a value, the most significant byte first.
 
+-- a value of one byte
 abbrev pub byte : List ℕ → ℕ
 byte value = slice_index value 0
 
+-- a value of two bytes
 abbrev pub word : List ℕ → ℕ
 word value = from_be_bytes w16 value
 
+-- a value of four bytes
 abbrev pub long : List ℕ → ℕ
 long value = from_be_bytes w32 value
 
@@ -57,6 +60,7 @@ known_subtypes =
     (grant_jitter_subtype, (4, 4)) ∷
     (grants_per_interval_subtype, (1, 1)) ∷ []
 
+-- the least and the greatest length of a known subtype; none of any other
 abbrev pub lengths_of : ℕ → Option (ℕ × ℕ)
 lengths_of subtype = option_map (λ row. row.1) (find (λ row. row.0 == subtype) known_subtypes)
 
@@ -83,10 +87,11 @@ in_range subtype value =
 abbrev pub values_of : ℕ → List Tlv → List (List ℕ)
 values_of subtype tlvs = map (λ t. t.value) (filter (λ t. t.kind == subtype) tlvs)
 
+-- the first value that is under a subtype
 abbrev pub value_of : ℕ → List Tlv → Option (List ℕ)
 value_of subtype tlvs = slice_get (values_of subtype tlvs) 0
 
--- The fields that a list of TLVs states: other subtypes are skipped.
+-- The eighteen fields that a list of TLVs states, one for each known subtype: other subtypes are skipped.
 abbrev pub fields_of : List Tlv → FlowFields
 fields_of tlvs = record {
   reference = option_map word (value_of reference_subtype tlvs);
@@ -141,6 +146,7 @@ fault_with (Some lengths) before t =
     if is_some (value_of t.kind before) then Some (Twice t.kind) else
     if in_range t.kind t.value then None else Some (Range t.kind)
 
+-- the first thing wrong with a TLV after those before it, if there is one
 unfoldable pub fault_of : List Tlv → Tlv → Option TlvFault
 fault_of before t = fault_with (lengths_of t.kind) before t
 
@@ -150,7 +156,8 @@ GoesWrong before rest (Cut place) = (place ≡ length (spelled before)) × (0 < 
 GoesWrong before rest NoMemory = ⊥
 GoesWrong before rest fault = (t : Tlv) × (after : List ℕ) × Begins rest t after × (fault_of before t ≡ Some fault)
 
--- The first fault in the order of bytes: before it is a flow encoding, whose reference and SFID are reported with it.
+-- The first fault in the order of bytes: before it is a flow encoding, whose reference and SFID are reported with it. The fault is the cut,
+-- or the first of three that the next TLV has: its length, a repetition, its range.
 pub record IsFirstFlowFault (bytes : List ℕ) (e : FlowFault) : Type 0 where
   pub before : List Tlv
   pub rest : List ℕ
@@ -162,6 +169,7 @@ pub record IsFirstFlowFault (bytes : List ℕ) (e : FlowFault) : Type 0 where
 
 -- The same, read from left to right, for those who need it as a function.
 
+-- the fault with the reference and the SFID that the TLVs before it state
 abbrev pub fault_after : List Tlv → TlvFault → FlowFault
 fault_after before fault =
     record { fault = fault; reference = (fields_of before).reference; sfid = (fields_of before).sfid }
@@ -180,5 +188,6 @@ says_after before (t ∷ tlvs) cut =
 abbrev pub cut_in : List ℕ → List ℕ → Option ℕ
 cut_in bytes rest = if length rest == 0 then None else Some (length bytes - length rest)
 
+-- the fields that bytes state, or their first fault: the result of reading as a function, for the machine
 unfoldable pub flow_of : List ℕ → Result FlowFields FlowFault
 flow_of bytes = says_after [] (front_of bytes).tlvs (cut_in bytes (front_of bytes).rest)

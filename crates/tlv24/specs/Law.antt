@@ -8,7 +8,7 @@ use Rattle.tlv24.specs.Flow.{IsFlowEncoding, IsFirstFlowFault}
 abbrev pub AreBytes : List ℕ → Type 0
 AreBytes bytes = (place : ℕ) → slice_index bytes place < 256
 
--- an answer is what the bytes say, or their first fault
+-- a result of reading is what the bytes say, or their first fault
 abbrev pub IsRightAnswer : List ℕ → Result FlowFields FlowFault → Type 0
 IsRightAnswer bytes (Ok m) = IsFlowEncoding bytes m
 IsRightAnswer bytes (Err e) = IsFirstFlowFault bytes e

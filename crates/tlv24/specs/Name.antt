@@ -2,7 +2,7 @@
 use Rattle.std.specs.Prelude.{◌==◌, ℕ, ◌≤◌, not, IsTrue, List, length}
 use Rattle.std.specs.List.{list_all}
 
--- a class name: 1 to 15 bytes, none of them 0
+-- a class name: 1 to 15 bytes, none of them 0; the type `ClassName` keeps it
 pub record IsClassName (name : List ℕ) : Type 0 where
   pub some : 1 ≤ length name
   pub few : length name ≤ 15

@@ -25,7 +25,7 @@ abbrev pub under : ℕ → Option (List ℕ) → List Tlv
 under subtype None = []
 under subtype (Some value) = tlv subtype value ∷ []
 
--- the TLVs of the fields
+-- the fields that are present, each as a TLV, in ascending order of subtype
 abbrev pub tlvs_of : FlowFields → List Tlv
 tlvs_of m =
     under reference_subtype (option_map (to_be_bytes w16) m.reference) ++

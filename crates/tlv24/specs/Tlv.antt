@@ -3,6 +3,7 @@ use Rattle.std.specs.Prelude.{◌≡◌, ℕ, zero, suc, ◌<◌, List, [], ◌�
 use Rattle.std.specs.List.{flat_map, AllByRecursion}
 use Rattle.tlv24.specs.declared.tlv.Tlv.{Tlv}
 
+-- the TLV of this type and value
 abbrev pub tlv : ℕ → List ℕ → Tlv
 tlv kind value = record { kind = kind; value = value }
 
@@ -18,7 +19,7 @@ spelled_one t = t.kind ∷ length t.value ∷ t.value
 abbrev pub spelled : List Tlv → List ℕ
 spelled tlvs = flat_map spelled_one tlvs
 
--- the bytes are these TLVs and nothing else
+-- the bytes are these TLVs, each of at most 255 value bytes, and nothing else
 pub record IsTlvList (bytes : List ℕ) (tlvs : List Tlv) : Type 0 where
   pub short : AllByRecursion FitsLengthByte tlvs
   pub spelling : bytes ≡ spelled tlvs
@@ -28,6 +29,7 @@ pub record Begins (bytes : List ℕ) (t : Tlv) (rest : List ℕ) : Type 0 where
   pub short : FitsLengthByte t
   pub spelling : bytes ≡ spelled_one t ++ rest
 
+-- the bytes begin with no TLV
 abbrev pub NoTlvBegins : List ℕ → Type 0
 NoTlvBegins bytes = (t : Tlv) (rest : List ℕ) → Begins bytes t rest → ⊥
 

@@ -41,6 +41,7 @@ impl ShortBytes {
     #[inline(always)]
     pub fn from_slice(slice: &[u8]) -> Option<ShortBytes>
         ensures value { IfSome result (λ bytes. bytes ≡ slice.now) }
+        // None comes exactly for more than 30 bytes.
         ensures few { IsSome result ↔ (length slice.now ≤ 30) }
     {
         if slice.len() > FEW {
@@ -155,6 +156,7 @@ impl Bytes {
     #[inline(always)]
     pub fn from_slice(alloc: Global, slice: &[u8]) -> Result<Bytes, AllocError>
         ensures value { IfOk result (λ bytes. bytes ≡ slice.now) }
+        // At most 30 bytes cannot fail.
         ensures few { length slice.now ≤ 30 → IsOk result }
     {
         match ShortBytes::from_slice(slice) {
@@ -167,6 +169,7 @@ impl Bytes {
     #[inline(always)]
     pub fn copy(&self, alloc: Global) -> Result<Bytes, AllocError>
         ensures value { IfOk result (λ copy. copy ≡ self.now) }
+        // At most 30 bytes cannot fail.
         ensures few { length self.now ≤ 30 → IsOk result }
     {
         match &self.place {

@@ -206,7 +206,7 @@ pub fn read_flow(bytes: &[u8]) -> Result<FlowTlv, FlowFault>
     // What is read is what the bytes say, and what they say is read.
     ensures found { IfOk result (IsFlowEncoding bytes.now) }
     ensures only { (m : FlowFields) → IsFlowEncoding bytes.now m → result ≡ Ok m }
-    // Else the first fault.
+    // Otherwise the first fault in the order of the bytes, with the reference and the SFID read before it.
     ensures fault { IfErr result (IsFirstFlowFault bytes.now) }
     ensures exact { result ≡ flow_of bytes.now }
 {

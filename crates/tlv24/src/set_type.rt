@@ -45,6 +45,7 @@ impl SetType {
     pub fn from_number(number: u8) -> Option<SetType>
         ensures value { result ≡ set_type_of number }
         ensures found { IfSome result (λ set_type. set_type_number set_type ≡ number) }
+        // None comes only if no set type has this value.
         ensures every { (set_type : SetType) → set_type_number set_type ≡ number → result ≡ Some set_type }
     {
         match number {

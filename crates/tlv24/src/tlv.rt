@@ -84,7 +84,9 @@ impl Tlvs {
     /// Returns the TLVs that the bytes are, in order, or `Cut` if they are not a list of TLVs.
     pub fn split(alloc: Global, bytes: &[u8]) -> Result<Vec<Tlv>, TlvFault>
         ensures found { IfOk result (λ tlvs. IsTlvList bytes.now tlvs.items) }
+        // A list of TLVs is returned, unless memory runs out.
         ensures only { (tlvs : List Tlv) → IsTlvList bytes.now tlvs → TlvsAreRead result tlvs }
+        // Otherwise the place where the list is cut.
         ensures fault { IfErr result (IsSplitFault bytes.now) }
     {
         let mut tlvs = Vec::new(alloc);

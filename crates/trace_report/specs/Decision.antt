@@ -40,11 +40,12 @@ abbrev pub first_message : Operator → List Arrival → Option AtHand
 first_message op [] = None
 first_message op (first ∷ others) = message_heard op first.modem first.heard
 
+-- the message that an operator handles next: the first of its inbox, if it is a message
 abbrev pub message_at_hand : Option BookView → Option AtHand
 message_at_hand None = None
 message_at_hand (Some book) = first_message (operator book.consts book.row book.state) book.state.inbox
 
--- an operator that works handles the first of its inbox; no other step handles a message
+-- the message that a step of a core handles: an operator that works handles the first of its inbox, and no other step handles a message
 abbrev pub message_of_step : CoreView → Step → Option AtHand
 message_of_step core (steps.Work op) = message_at_hand (slice_get core.books op)
 message_of_step core (steps.Arrive modem heard) = None
@@ -54,6 +55,7 @@ message_of_step core (steps.Reslice from rows) = None
 
 -- ---- what decides it
 
+-- the message is an acknowledgement
 abbrev pub IsAck : Reading → Type 0
 IsAck reading = (kind : Kind) × (tid : ℕ) × (code : ℕ) × (reading ≡ Ok (messages.Ack kind tid code))
 
@@ -73,6 +75,6 @@ abbrev pub IsDecisionOf : Option AtHand → Option Decision → Type 0
 IsDecisionOf None decision = decision ≡ None
 IsDecisionOf (Some message) decision = DecidesReading message.op message.modem (message_of message.bytes) decision
 
--- this decides what the step will answer in this core
+-- this check, or nothing, decides what the step will answer in this core
 abbrev pub IsDecision : CoreView → Step → Option Decision → Type 0
 IsDecision core step decision = IsDecisionOf (message_of_step core step) decision

@@ -7,6 +7,7 @@ use Rattle.check_table.specs.declared.check.MessageCheck.TheVariants as message_
 use Rattle.trace_report.specs.declared.decision.Decision.{Decision}
 use Rattle.trace_report.specs.declared.decision.Decision.TheVariants as decisions
 
+-- the name of each check of a message
 abbrev pub message_check_name : MessageCheck → List ℕ
 message_check_name message_checks.Unread = codes "unread"
 message_check_name message_checks.OfCmts = codes "transaction of the CMTS"
@@ -15,6 +16,7 @@ message_check_name message_checks.KeptFull = codes "transactions full"
 message_check_name message_checks.Faulty = codes "faulty"
 message_check_name message_checks.Judged = codes "judged"
 
+-- the name of each check of a request
 abbrev pub check_name : Check → List ℕ
 check_name checks.UnknownClass = codes "unknown class"
 check_name checks.NoEncoding = codes "no encoding"
@@ -35,6 +37,7 @@ check_name checks.ElementsOver = codes "elements over"
 check_name checks.MinislotsOver = codes "minislots over"
 check_name checks.Accepted = codes "accepted"
 
+-- the name of the check that decides
 abbrev pub decision_name : Decision → List ℕ
 decision_name (decisions.Message check) = message_check_name check
 decision_name (decisions.Request check) = check_name check

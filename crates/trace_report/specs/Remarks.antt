@@ -27,6 +27,7 @@ pub record HasNoCheckLine (remark : List ℕ) : Type 0 where
 abbrev pub indented_line : List ℕ → List ℕ
 indented_line line = codes "    " ++ line
 
+-- words are lines, each indented by four spaces; maybe none at all
 pub record AreWords (words : List ℕ) : Type 0 where
   pub lines : List (List ℕ)
   pub words_are : words ≡ with_ends (map indented_line lines)

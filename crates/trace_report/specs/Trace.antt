@@ -27,7 +27,7 @@ use Rattle.trace_report.specs.Remarks.{HasNoCheckLine, AreWords, no_words_line}
 abbrev pub IsDecisionAfter : PlantFields → List Step → Step → Option Decision → Type 0
 IsDecisionAfter plant before step decision = (core : CoreView) × (told : List Out) × IsStateAfter plant before told core × IsDecision core step decision
 
--- each step, after those before it, has its decision
+-- each step has its decision, in a core that the steps before it lead to
 abbrev pub AreDecided : PlantFields → List Step → List Step → List (Option Decision) → Type 0
 AreDecided plant before [] [] = ⊤
 AreDecided plant before [] (decision ∷ more) = ⊥

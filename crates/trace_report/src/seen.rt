@@ -129,6 +129,8 @@ pub fn live_decision_of(
 
 /// Returns the same of a step of a core with histories, as `live_decision_of` does of a core without them.
 pub fn decision_of(alloc: Global, core: &PlantCore, step: &Step) -> Result<StepReport, AllocError>
+    // The check of the message, or of the request if none of the message before it holds; none if no message is
+    // handled. No clause says which numbers a check compares.
     ensures decision { IfOk result (λ seen. IsDecision (core_view core.now) step.now seen.decision) }
     // Only a step that the core does not refuse needs memory.
     ensures memory { OnErr result (step_fault (core_view core.now) step.now ≡ None) }

@@ -74,6 +74,9 @@ pub fn write_trace<W: Write>(
     writer: &mut W,
 ) -> io::Result<StepsEnd>
     requires opened { IsStateAfter (core_view core.old).plant [] [] (core_view core.old) }
+    // Each step that is done has its decision, by a core that the steps before it lead to. Lines are quoted before
+    // their steps; between quotes and decisions are only lines indented by four spaces, of which no clause says what
+    // they say.
     ensures { IfOk result (λ end. HasTraced (core_view core.old).plant script.now steps.items (core_view core.new) end
         (W.contents writer.old) (W.contents writer.new)) }
 {

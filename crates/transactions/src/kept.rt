@@ -79,6 +79,7 @@ impl Kept {
         sfid: u32,
         waits: bool,
     ) -> Result<(), KeptFault>
+        // The entry is added after the others.
         ensures ok { OnOk result (self.new
             ≡ record self.old {
               entries = self.old.entries
@@ -88,6 +89,7 @@ impl Kept {
             × IsNone (find (is_of modem tid) self.old.entries)) }
 
         ensures full { (result ≡ Err KeptFault.Full) ↔ (length self.old.entries ≡ self.old.capacity) }
+        // Refused so exactly if there is room, and an entry of this modem and transaction ID exists.
         ensures live { (result ≡ Err KeptFault.Live)
             ↔ ((length self.old.entries < self.old.capacity) × IsSome (find (is_of modem tid) self.old.entries)) }
         ensures err { OnErr result (self.new ≡ self.old) }
@@ -117,6 +119,7 @@ impl Kept {
     )
         requires room { length self.old.entries < self.old.capacity }
         requires free { IsNone (find (is_of modem tid) self.old.entries) }
+        // The entry that `begin` adds is added.
         ensures { self.new ≡ record self.old {
           entries = self.old.entries ++ begun_entry self.old.waits modem tid kind reply sfid waits ∷ [];
         } }
@@ -187,7 +190,9 @@ impl Kept {
             ≡ record self.old { entries = kept_after self.old.waits self.old.entries }) }
         ensures resend { IfOk result (λ told. told.resend ≡ resent_in self.old.entries) }
         ensures given_up { IfOk result (λ told. told.given_up ≡ given_up_in self.old.entries) }
+        // If there is nothing to retransmit or abandon, it succeeds.
         ensures quiet { resent_in self.old.entries ≡ [] → given_up_in self.old.entries ≡ [] → IsOk result }
+        // If memory runs out nothing changes.
         ensures err { OnErr result (self.new ≡ self.old) }
     {
         let ticked = self.due(alloc)?;
