@@ -30,7 +30,8 @@ pub record IsSavedText (channel : OpenChannel) (text : List ℕ) : Type 0 where
 
 -- the number of a call that saves: 1, out of memory, says nothing of the channel; 0 or 3 only where it rests, else why it does not
 abbrev pub IsSaveCode : ℕ → CoreView → Type 0
-IsSaveCode code live = (code ≡ 1) ⊎ (((frame : ℕ) × Rests live frame × ((code ≡ 0) ⊎ (code ≡ 3))) ⊎ ((why : RestFault) × IsRestFault live why × (code ≡ rest_code why)))
+IsSaveCode code live = (code ≡ 1)
+    ⊎ (((frame : ℕ) × Rests live frame × ((code ≡ 0) ⊎ (code ≡ 3))) ⊎ ((why : RestFault) × IsRestFault live why × (code ≡ rest_code why)))
 
 -- 0: the text is at the beginning of the buffer. 3: it is longer than the buffer. Of any number but 0 the buffer is as it was
 pub record SaveEnds (code size : ℕ) (before after : List ℕ) (channel : OpenChannel) : Type 0 where
@@ -78,7 +79,8 @@ IsReopenedFrom text channel = (saved : Snapshot) × (snapshot_of text ≡ Ok sav
 
 -- the number by which a snapshot is not restored: that of the first fault of its plant file, or why the plant does not start in the states
 abbrev pub IsRefusedCode : ℕ → Snapshot → PlantResult PlantFields → Type 0
-IsRefusedCode code saved (Ok plant) = (code ≡ 1) ⊎ ((why : RestoreFault) × IsRestoreFault plant saved.frame (states_of saved) why × (code ≡ restore_code why))
+IsRefusedCode code saved (Ok plant) = (code ≡ 1)
+    ⊎ ((why : RestoreFault) × IsRestoreFault plant saved.frame (states_of saved) why × (code ≡ restore_code why))
 IsRefusedCode code saved (Err fault) = (code ≡ plant_code fault) ⊎ (code ≡ 1)
 
 abbrev pub IsRestoreCode : ℕ → Snapshot → Type 0

@@ -344,7 +344,7 @@ module _ {at after : ℕ → Option Flow} {places active : List (ℕ × ℕ)} {r
     changed_told units moved told flow old =
         ap (λ (m : Moved). m.activity) (same_Some moved (record { had = flow.sid; has = (change flow).sid; activity = activity_of (change flow); committed = committed_of units (change flow) }) (told ∙ ap (told_of units change) old))
 
-    -- nothing is told only of a place without a flow
+    -- what returns nothing has found no flow at the place
     pub told_as_before : (units : UnitSizes) → None ≡ told_of units change (at place) → IsFlowRows after places active room
     told_as_before units told = by (at place) refl old_is
       where
@@ -352,7 +352,7 @@ module _ {at after : ℕ → Option Flow} {places active : List (ℕ × ℕ)} {r
         by None old some = absurd (cc)
         by (Some flow) old some = absurd (none-some (record { had = flow.sid; has = (change flow).sid; activity = activity_of (change flow); committed = committed_of units (change flow) }) (told ∙ ap (told_of units change) old))
 
--- what is told of a flow that is not there, and what becomes of it
+-- a flow that is not there: what changes it changes nothing
 pub absent_changed : {at : ℕ → Option Flow} {places : List (ℕ × ℕ)} (placed : ArePlaced at places) (sfid : ℕ) (change : Flow → Flow) → place_at sfid places ≡ None
     → flows_by at places ≡ change_at sfid change (flows_by at places)
 absent_changed {at} {places} placed sfid change is = sym (ap (change_if sfid change (flows_by at places)) (placed_none placed sfid is))

@@ -1,5 +1,6 @@
 -- What the flows of one operator keep inside: the index by SID, and the rows of the ledger (implementation-specific).
-use Rattle.std.specs.Prelude.{◌≡◌, ◌≢◌, ℕ, ◌≤◌, ◌↔◌, Bool, false, cond, List, length, map, filter, filter_map, is_some, IsSome, Option, Some, None, option_map}
+use Rattle.std.specs.Prelude.{◌≡◌, ◌≢◌, ℕ, ◌≤◌, ◌↔◌, Bool, false, cond, List, length, map, filter, filter_map}
+use Rattle.std.specs.Prelude.{is_some, IsSome, Option, Some, None, option_map}
 use Rattle.std.specs.Global.{Box}
 use Rattle.std.specs.List.Sorted.{IsStrictlySortedBy}
 use Rattle.std.specs.Ordering.{nat_cmp}

@@ -114,7 +114,7 @@ impl FlowRows {
         self.flows.reserve(1)?;
         let (activity, sid) = (flow.activity(), flow.sid);
         let free = self.flows.vacant_key();
-        match grow(&mut self.places, by_sid, (sfid, free), sid)? {
+        match grow(&mut self.places, by_sid, sfid, free, sid)? {
             Some(place) => {
                 let had = replace_at(&mut self.flows, place, flow);
                 mark(&mut self.active, sfid, place, activity);
@@ -217,16 +217,16 @@ impl FlowRows {
 fn grow(
     places: &mut BTreeMap<u32, usize>,
     by_sid: &mut BTreeMap<u16, u32>,
-    new: (u32, usize),
+    sfid: u32,
+    place: usize,
     sid: Option<u16>,
 ) -> Result<Option<usize>, AllocError>
-    ensures had { IfOk result (λ had. had ≡ place_at new.0 places.old.entries) }
-    ensures places { IfOk result (λ had. places.new.entries ≡ with_place new.0 new.1 had places.old.entries) }
-    ensures index { OnOk result (by_sid.new.entries ≡ with_sid_of sid new.0 by_sid.old.entries) }
+    ensures had { IfOk result (λ had. had ≡ place_at sfid places.old.entries) }
+    ensures places { IfOk result (λ had. places.new.entries ≡ with_place sfid place had places.old.entries) }
+    ensures index { OnOk result (by_sid.new.entries ≡ with_sid_of sid sfid by_sid.old.entries) }
     ensures err { OnErr result ((places.new.entries ≡ places.old.entries)
         × (by_sid.new.entries ≡ by_sid.old.entries)) }
 {
-    let (sfid, place) = new;
     match places.entry(sfid)? {
         Entry::Vacant(entry) => {
             list(by_sid, sid, sfid)?;

@@ -8,7 +8,8 @@ use Rattle.operator_model.specs.Sound.{IsSound}
 use Rattle.operator_model.specs.Replay.{BookView}
 use Rattle.operator_book.specs.declared.live.Machine.{Machine}
 use Rattle.live_core.specs.declared.resume_fault.ResumeFault.{ResumeFault}
-use Rattle.live_core.specs.declared.resume_fault.ResumeFault.TheVariants.{NotAtFrame, SliceChangesDiffer, BeforeFirstFrame, InvalidSlice, InvalidNextSlice, NoMemory}
+use Rattle.live_core.specs.declared.resume_fault.ResumeFault.TheVariants.{NotAtFrame, SliceChangesDiffer, BeforeFirstFrame}
+use Rattle.live_core.specs.declared.resume_fault.ResumeFault.TheVariants.{InvalidSlice, InvalidNextSlice, NoMemory}
 use Rattle.live_core.specs.DeskView.{book_of}
 use Rattle.live_core.specs.Resumed.{later_of, waits_from}
 

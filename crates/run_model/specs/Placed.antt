@@ -9,4 +9,5 @@ use Rattle.run_model.specs.declared.step.Step.TheVariants.{Arrive}
 
 -- where something arrives and a place is stated, it is that of the operator that lists the modem
 abbrev pub IsPlaced : PlantFields → Step → Option ℕ → Type 0
-IsPlaced plant step place = (op : ℕ) (modem : Modem) (heard : Heard) → place ≡ Some op → step ≡ Arrive modem heard → holder plant.rows modem ≡ Some op
+IsPlaced plant step place = (op : ℕ) (modem : Modem) (heard : Heard) → place ≡ Some op → step ≡ Arrive modem heard
+    → holder plant.rows modem ≡ Some op

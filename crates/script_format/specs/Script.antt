@@ -1,5 +1,6 @@
 -- The lines of a script, and the steps that they say (implementation-specific).
-use Rattle.std.specs.Prelude.{◌==◌, ℕ, ◌+◌, Bool, List, [], ◌∷◌, ◌++◌, All, length, map, Option, Some, None, Result, Ok, Err, if◌then◌else◌, codes}
+use Rattle.std.specs.Prelude.{◌==◌, ℕ, ◌+◌, Bool, List, [], ◌∷◌, ◌++◌, All, length, map, Option, Some, None}
+use Rattle.std.specs.Prelude.{Result, Ok, Err, if◌then◌else◌, codes}
 use Rattle.std.specs.List.{position_from}
 use Rattle.std.specs.Str.{bytes_eq}
 use Rattle.hex.specs.Hex.{decode_sized}
@@ -51,7 +52,8 @@ operator_in plant field = required_field UnknownOperator (position_from (is_name
 -- something is received of a modem, and its operator handles it
 abbrev pub heard_steps : ℕ → Sender → Heard → List LineStep
 heard_steps number sender heard =
-    record { number = number; step = Arrive sender.modem heard; place = Some sender.op } ∷ record { number = number; step = Work sender.op; place = None } ∷ []
+    record { number = number; step = Arrive sender.modem heard; place = Some sender.op }
+    ∷ record { number = number; step = Work sender.op; place = None } ∷ []
 
 -- `M address message`
 unfoldable pub message_steps : PlantFields → ℕ → List (List ℕ) → FieldResult (List LineStep)
