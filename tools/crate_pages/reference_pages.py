@@ -29,7 +29,7 @@ FOLDER = "docs/reference"
 PART, TESTS = "# Part:", "Tests"
 ABOUT = """\
 One page for each crate, with what it makes public, its definitions and its edits that must fail. [ARCHITECTURE](../ARCHITECTURE.md) says how
-the crates depend on each other, [MODEL](../MODEL.md) in which order to read the definitions, and [THEOREM](../THEOREM.md) what is proved.
+the crates depend on each other, and [THEOREM](../THEOREM.md) what is proved and how to read the definitions.
 
 - A heading links to its source.
 - `requires` is what a caller has to keep, and `ensures` what is proved of the call. `ghost` is what contracts see of a type (`Value`, `view`),

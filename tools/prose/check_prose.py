@@ -9,13 +9,12 @@ Prints a line for each finding, and exits with 1 if there is one.
 It finds
 
     word      a word that we do not use (tools/prose/words.py has them, each with what to write instead)
-    sentence  a sentence of more than 35 words; in README.md of more than 30; in docs/ARCHITECTURE.md, docs/MODEL.md and docs/THEOREM.md
-              of more than 25
+    sentence  a sentence of more than 35 words; in README.md of more than 30; in docs/ARCHITECTURE.md and docs/THEOREM.md of more than 25
     line      a line of more than 100 columns
     cell      a table cell of more than 12 words
     link      a relative link to a file or a heading that does not exist
     file      the name of a file of the repository that does not exist
-    name      in docs/ARCHITECTURE.md, docs/MODEL.md and docs/THEOREM.md, a name in code font that no source of a crate has
+    name      in docs/ARCHITECTURE.md and docs/THEOREM.md, a name in code font that no source of a crate has
 
 Code spans, code blocks and quoted text may have any words. Tables and code may have any width, also a line that is one code span. Names of
 files are looked for everywhere. In the pages of docs/reference, words and sentences are not checked: they are those of comments in the

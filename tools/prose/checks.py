@@ -10,14 +10,14 @@ from .words import crossed_out
 MOST_COLUMNS, MOST_WORDS_OF_CELL = 100, 12
 MOST_WORDS = 35
 # The documents that have another limit of words in a sentence.
-MOST_WORDS_OF = {"README.md": 30, "docs/ARCHITECTURE.md": 25, "docs/MODEL.md": 25, "docs/THEOREM.md": 25}
+MOST_WORDS_OF = {"README.md": 30, "docs/ARCHITECTURE.md": 25, "docs/THEOREM.md": 25}
 END_OF_SENTENCE = re.compile(r"(?<=[.!?])[\"')*]*\s+(?=[\"'(*]*[A-Z\d" + CODE + COMMAND + "])")
 # The folder of the pages that tools/reference_pages writes. Their words and sentences are those of comments in the sources.
 GENERATED = "docs/reference/"
 # A line that is one code span, perhaps as an item of a list: nothing of it can go to the next line.
 CODE_LINE = re.compile(r"\s*(?:[-*] )?`[^`]*`")
 # The documents that name definitions, functions and clauses, and the code spans that do so.
-NAMING = ("docs/ARCHITECTURE.md", "docs/MODEL.md", "docs/THEOREM.md")
+NAMING = ("docs/ARCHITECTURE.md", "docs/THEOREM.md")
 NAMES = re.compile(r"[A-Za-z_]\w*(?:(?:::| )\w+)*")
 # A path of the repository, from its root, and a document named alone.
 PATH = re.compile(r"(?<![\w./-])(?:\./)?((?:docs|tools|crates|examples|tests|\.ci)/[\w./*-]*[\w*])")

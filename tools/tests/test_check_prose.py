@@ -54,7 +54,7 @@ class Findings(unittest.TestCase):
         self.assertEqual(self.found("One.\nWord\n" + "word\n" * 34 + "word. Two.\n"), [("sentence", 1)])
         self.assertEqual(self.found("word\n" * 30 + "word.\n", "README.md"), [("sentence", 1)])
         self.assertEqual(self.found("word\n" * 29 + "word.\n", "README.md"), [])
-        for name in ("docs/ARCHITECTURE.md", "docs/MODEL.md", "docs/THEOREM.md"):
+        for name in ("docs/ARCHITECTURE.md", "docs/THEOREM.md"):
             self.assertEqual(self.found("word\n" * 25 + "word.\n", name), [("sentence", 1)])
             self.assertEqual(self.found("word\n" * 24 + "word.\n", name), [])
 
@@ -94,7 +94,7 @@ class Findings(unittest.TestCase):
         (self.root / "crates/low/specs").mkdir()
         (self.root / "crates/low/specs/Row.antt").write_text("pub record IsRow (row : Row) : Type 0")
         text = "`low`, `open_cell`, `IsRow row`, `Row.antt`, `a.b`, `fault: gone`.\n"
-        self.assertEqual(self.found(text + "\n`IsRow gone`\n", "docs/MODEL.md"), [("name", 3)])
+        self.assertEqual(self.found(text + "\n`IsRow gone`\n", "docs/ARCHITECTURE.md"), [("name", 3)])
         self.assertEqual(self.found("# Rows\n\n`Cell::gone`\n", "docs/THEOREM.md"), [("name", 3), ("name", 3)])
         self.assertEqual(self.found("`IsGone`\n"), [])
 

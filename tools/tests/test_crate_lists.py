@@ -22,10 +22,6 @@ PAGE = """# Page
 old
 <!-- end -->
 
-## low
-
-## `middle`
-
 After.
 """
 
@@ -37,7 +33,6 @@ class Lists(unittest.TestCase):
         self.root = pathlib.Path(folder.name)
         (self.root / "docs").mkdir()
         (self.root / "crates.txt").write_text(CRATES)
-        (self.root / "crates/middle/specs").mkdir(parents=True)
 
     def run_tool(self, *options):
         done = subprocess.run([ROOT / "tools/ci/crate_lists", "--root", self.root, *options], capture_output=True, text=True, check=False)
@@ -63,18 +58,8 @@ class Lists(unittest.TestCase):
     def test_graph_leaves_out_what_is_reached_through_another(self):
         self.assertEqual(self.written("graph"), "```\n 3  high   → middle\n 2  trials → low\n    middle → low\n 1  low\n```")
 
-    def test_specs_names_crates_with_definitions(self):
-        self.assertEqual(self.written("specs"), "- High ones: [middle](#middle)")
-
     def test_libraries(self):
         self.assertEqual(self.written("libraries"), "`toml`")
-
-    def test_a_crate_without_a_chapter(self):
-        (self.root / "docs/PAGE.md").write_text(PAGE.format("chapters"))
-        self.assertEqual(self.run_tool("--check"), (1, "no chapter of high\n"))
-        (self.root / "docs/PAGE.md").write_text(PAGE.format("chapters") + "\n### high\n")
-        self.assertEqual(self.run_tool(), (0, ""))
-        self.assertIn("- Low ones: [low](#low)\n- High ones: [middle](#middle), [high](#high)\n", (self.root / "docs/PAGE.md").read_text())
 
     def test_check_changes_nothing_and_notices(self):
         page = self.root / "docs/PAGE.md"
@@ -95,7 +80,7 @@ class Lists(unittest.TestCase):
     def test_faults(self):
         for file, text, message in (
             ("crates.txt", "low:\n", "crates.txt: low has no part\n"),
-            ("docs/PAGE.md", PAGE.format("other"), "there is no block other: it is one of crates, graph, chapters, specs, libraries\n"),
+            ("docs/PAGE.md", PAGE.format("other"), "there is no block other: it is one of crates, graph, libraries\n"),
         ):
             self.setUp()
             (self.root / "docs/PAGE.md").write_text(PAGE.format("crates"))

@@ -227,7 +227,7 @@ class Pages(unittest.TestCase):
         self.root = pathlib.Path(folder.name)
         (self.root / "crates.txt").write_text(CRATES)
         (self.root / "docs").mkdir()
-        for name in ("ARCHITECTURE", "MODEL", "THEOREM"):
+        for name in ("ARCHITECTURE", "THEOREM"):
             (self.root / f"docs/{name}.md").write_text(f"# {name}\n")
         (self.root / "tools").mkdir()
         (self.root / "tools/reference_pages").write_text("")
