@@ -77,6 +77,48 @@ enum melfjits_code {
     MELFJITS_UNKNOWN_NAME = 46      /* the plant file has no operator of a saved name */
 };
 
+/* Returns what a number that a call returned means, in words. */
+static inline const char *melfjits_text(uint32_t code)
+{
+    switch (code) {
+    case MELFJITS_DONE: return "done";
+    case MELFJITS_NO_MEMORY: return "out of memory, nothing has changed";
+    case MELFJITS_CLOSED: return "the channel is closed";
+    case MELFJITS_SHORT: return "a buffer is too small for the output that waits first";
+    case MELFJITS_NONE_WAITS: return "no output waits";
+    case MELFJITS_RECEIVED: return "out of memory before the message was handled: it is in the inbox, call work()";
+    case MELFJITS_NOT_TOML: return "the plant file is not TOML";
+    case MELFJITS_MISSING_KEY: return "a required key of the plant file is missing";
+    case MELFJITS_BAD_VALUE: return "a value of the plant file has another type or is out of range";
+    case MELFJITS_SLICES_OVERLAP: return "slices of two operators overlap";
+    case MELFJITS_SIDS_OVERLAP: return "SID ranges of two operators overlap";
+    case MELFJITS_SFIDS_OVERLAP: return "SFID ranges of two operators overlap";
+    case MELFJITS_MODEM_TWICE: return "the address of a modem is listed twice";
+    case MELFJITS_TOO_MANY_ELEMENTS: return "the operators have more elements than a MAP can hold";
+    case MELFJITS_PLANT_BUDGET_OVER_SLICE: return "the budget of an operator is more than its slice";
+    case MELFJITS_PROVISIONED_OVER: return "the provisioned flows of an operator do not fit";
+    case MELFJITS_UNKNOWN_MODEM: return "no operator has this modem";
+    case MELFJITS_UNKNOWN_OPERATOR: return "there is no operator at this place";
+    case MELFJITS_FRAMES_SPENT: return "the last frame number is used";
+    case MELFJITS_NOTHING_TO_COLLECT: return "the operator has no frame that was not collected";
+    case MELFJITS_ROW_COUNT: return "a slice change needs one row for each operator";
+    case MELFJITS_NOT_PAST: return "a slice change has to start at a later frame";
+    case MELFJITS_UNFINISHED: return "an earlier slice change is still pending";
+    case MELFJITS_OFF_FRAME: return "a new slice is empty, or not after the head and within the frame";
+    case MELFJITS_NEW_SLICES_OVERLAP: return "new slices of two operators overlap";
+    case MELFJITS_BUDGET_OVER_SLICE: return "a new budget is more than its slice";
+    case MELFJITS_UNFIT: return "more minislots are committed than a new budget";
+    case MELFJITS_FRAME_WAITS: return "a frame of an operator is not collected yet";
+    case MELFJITS_NOT_AT_FRAME: return "an operator is before another frame than the first one";
+    case MELFJITS_CONSTANTS_DIFFER: return "what all operators share would change";
+    case MELFJITS_STATE_REFUSED: return "an operator's state does not fit its row of the plant file";
+    case MELFJITS_NOT_TOGETHER: return "the operators' frames or slices do not go together";
+    case MELFJITS_NOT_A_SNAPSHOT: return "the text is not a snapshot";
+    case MELFJITS_UNKNOWN_NAME: return "the plant file has no operator of a saved name";
+    default: return "the library returned an unknown number";
+    }
+}
+
 /* The hardware address of a cable modem. */
 typedef struct melfjits_modem {
     uint8_t bytes[6];

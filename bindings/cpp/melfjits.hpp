@@ -34,49 +34,10 @@ using slice = melfjits_slice;
 /* The hardware address of a cable modem. */
 using address = std::array<std::uint8_t, 6>;
 
-/* Returns what a number that a call returned means. */
-inline const char *text_of(std::uint32_t code) noexcept
-{
-    switch (code) {
-    case MELFJITS_NO_MEMORY: return "out of memory, nothing has changed";
-    case MELFJITS_CLOSED: return "the channel is closed";
-    case MELFJITS_RECEIVED: return "out of memory before the message was handled: it is in the inbox, call work()";
-    case MELFJITS_NOT_TOML: return "the plant file is not TOML";
-    case MELFJITS_MISSING_KEY: return "a required key of the plant file is missing";
-    case MELFJITS_BAD_VALUE: return "a value of the plant file has another type or is out of range";
-    case MELFJITS_SLICES_OVERLAP: return "slices of two operators overlap";
-    case MELFJITS_SIDS_OVERLAP: return "SID ranges of two operators overlap";
-    case MELFJITS_SFIDS_OVERLAP: return "SFID ranges of two operators overlap";
-    case MELFJITS_MODEM_TWICE: return "the address of a modem is listed twice";
-    case MELFJITS_TOO_MANY_ELEMENTS: return "the operators have more elements than a MAP can hold";
-    case MELFJITS_PLANT_BUDGET_OVER_SLICE: return "the budget of an operator is more than its slice";
-    case MELFJITS_PROVISIONED_OVER: return "the provisioned flows of an operator do not fit";
-    case MELFJITS_UNKNOWN_MODEM: return "no operator has this modem";
-    case MELFJITS_UNKNOWN_OPERATOR: return "there is no operator at this place";
-    case MELFJITS_FRAMES_SPENT: return "the last frame number is used";
-    case MELFJITS_NOTHING_TO_COLLECT: return "the operator has no frame that was not collected";
-    case MELFJITS_ROW_COUNT: return "a slice change needs one row for each operator";
-    case MELFJITS_NOT_PAST: return "a slice change has to start at a later frame";
-    case MELFJITS_UNFINISHED: return "an earlier slice change is still pending";
-    case MELFJITS_OFF_FRAME: return "a new slice is empty, or not after the head and within the frame";
-    case MELFJITS_NEW_SLICES_OVERLAP: return "new slices of two operators overlap";
-    case MELFJITS_BUDGET_OVER_SLICE: return "a new budget is more than its slice";
-    case MELFJITS_UNFIT: return "more minislots are committed than a new budget";
-    case MELFJITS_FRAME_WAITS: return "a frame of an operator is not collected yet";
-    case MELFJITS_NOT_AT_FRAME: return "an operator is before another frame than the first one";
-    case MELFJITS_CONSTANTS_DIFFER: return "what all operators share would change";
-    case MELFJITS_STATE_REFUSED: return "an operator's state does not fit its row of the plant file";
-    case MELFJITS_NOT_TOGETHER: return "the operators' frames or slices do not go together";
-    case MELFJITS_NOT_A_SNAPSHOT: return "the text is not a snapshot";
-    case MELFJITS_UNKNOWN_NAME: return "the plant file has no operator of a saved name";
-    default: return "the library returned an unknown number";
-    }
-}
-
 /* A call was refused. */
 class error : public std::runtime_error {
 public:
-    explicit error(std::uint32_t code) : std::runtime_error(text_of(code)), code_(code) {}
+    explicit error(std::uint32_t code) : std::runtime_error(melfjits_text(code)), code_(code) {}
 
     /* Returns what the call returned: a number of melfjits_code. */
     std::uint32_t code() const noexcept { return code_; }

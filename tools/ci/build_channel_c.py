@@ -3,7 +3,7 @@
     tools/ci/build_channel_c [--libraries FOLDER] [--jobs N]
 
 All crates below channel_c have to be built: run `rt ci` first, or name a folder of crates where it was run. If one is missing, this says so,
-builds nothing, and exits with 0. N is how many processors the proof takes, 1 if not given.
+builds nothing, and exits with 1. N is how many processors the proof takes, 1 if not given.
 """
 
 import argparse
@@ -38,8 +38,7 @@ def main():
     options = parser.parse_args()
     prover = Prover(kit_folder(), options.libraries.resolve(), crates_of(ROOT))
     if absent := missing(prover):
-        print("the library for C is not built: these crates below it are not: " + ", ".join(absent))
-        return
+        sys.exit("the library for C is not built: these crates below it are not: " + ", ".join(absent))
     folder = ROOT / "crates" / CRATE
     (folder / ARCHIVE).unlink(missing_ok=True)
     (folder / "out").mkdir(exist_ok=True)

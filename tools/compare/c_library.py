@@ -13,7 +13,7 @@ from tools.proving.prover import kit_folder
 
 ARCHIVE = ROOT / "crates/channel_c/out/libchannel_c.a"
 HEADER = ROOT / "bindings/c"
-DONE, SHORT, NONE_WAITS = 0, 3, 4
+DONE, NO_MEMORY, SHORT, NONE_WAITS, RECEIVED = 0, 1, 3, 4, 5
 
 
 def names_of_codes():
@@ -34,9 +34,19 @@ def is_built():
 
 def build_shared(folder):
     """Links the library as a shared one in a folder, and returns it."""
-    path = pathlib.Path(folder, "libmelfjits.so")
+    return link_shared(pathlib.Path(folder, "libmelfjits.so"))
+
+
+def build_counting(folder):
+    """Links it with the calls begin_allocations and allocations, which count its allocations and fail one of them."""
+    source = ROOT / "tools/compare/wrapped_allocations.c"
+    return link_shared(pathlib.Path(folder, "counting.so"), "-fPIC", "-Wl,--wrap=malloc,--wrap=realloc", source)
+
+
+def link_shared(path, *words):
+    """Links the library and further files as a shared one, and returns it."""
     archive, heap = libraries()
-    subprocess.run(["gcc", "-shared", "-o", path, "-Wl,--whole-archive", archive, "-Wl,--no-whole-archive", heap], check=True)
+    subprocess.run(["gcc", "-shared", "-o", path, *words, "-Wl,--whole-archive", archive, "-Wl,--no-whole-archive", heap], check=True)
     return ctypes.CDLL(str(path))
 
 

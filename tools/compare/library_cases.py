@@ -48,24 +48,37 @@ ENDS = {None: "all calls performed", "plant": "plant file refused", "line": "a c
 
 # Programs of the bindings
 
+def build_cpp(program, library, *flags):
+    """Builds the program of the C++ binding, and returns it."""
+    includes = [f"-I{BINDINGS / name}" for name in ("c", "cpp")]
+    usual = ["-std=c++17", "-Wall", "-Wextra", "-Wpedantic", "-Werror", "-O1"]
+    source = BINDINGS / "cpp/perform_calls.cpp"
+    subprocess.run(["g++", *usual, *flags, *includes, "-o", program, source, f"-L{library.parent}", "-lmelfjits"], check=True)
+    return program
+
+
 def build_drivers(folder, library):
     """Builds the programs of the bindings in a folder, and returns the command of each by its language."""
-    linked = [f"-L{library.parent}", "-lmelfjits"]
-    includes = [f"-I{BINDINGS / name}" for name in ("c", "cpp")]
-    flags = ["-std=c++17", "-Wall", "-Wextra", "-Wpedantic", "-Werror", "-O1"]
-    subprocess.run(["g++", *flags, *includes, "-o", f"{folder}/perform_calls", BINDINGS / "cpp/perform_calls.cpp", *linked], check=True)
+    program = build_cpp(f"{folder}/perform_calls", library)
     environment = {**os.environ, "MELFJITS_LIBRARY_FOLDER": str(library.parent), "CARGO_TARGET_DIR": f"{folder}/target"}
     cargo = ["cargo", "build", "--quiet", "--offline", "--locked", "--package", "melfjits", "--example", "perform_calls"]
     subprocess.run(cargo, cwd=BINDINGS / "rust", env=environment, check=True)
-    return {"Python": [sys.executable, str(BINDINGS / "python/perform_calls.py")], "C++": [f"{folder}/perform_calls"],
+    return {"Python": [sys.executable, str(BINDINGS / "python/perform_calls.py")], "C++": [program],
             "Rust": [f"{folder}/target/debug/examples/perform_calls"]}
+
+
+def perform(driver, library, cases):
+    """Runs the program of a binding on cases."""
+    given = b"".join(b"plant %d\n%b%bend\n" % (len(one.plant), one.plant, "".join(f"{call}\n" for _, call in one.calls).encode()) for one in cases)
+    environment = {**os.environ, "MELFJITS_LIBRARY": str(library), "LD_LIBRARY_PATH": str(library.parent)}
+    return subprocess.run(driver, input=given, capture_output=True, env=environment, check=False)
 
 
 def answers_of(driver, library, cases):
     """Returns what the program of a binding prints for each case."""
-    given = b"".join(b"plant %d\n%b%bend\n" % (len(one.plant), one.plant, "".join(f"{call}\n" for _, call in one.calls).encode()) for one in cases)
-    environment = {**os.environ, "MELFJITS_LIBRARY": str(library), "LD_LIBRARY_PATH": str(library.parent)}
-    printed = subprocess.run(driver, input=given, stdout=subprocess.PIPE, env=environment, check=False).stdout.decode()
+    done = perform(driver, library, cases)
+    sys.stderr.buffer.write(done.stderr)
+    printed = done.stdout.decode()
     answers = printed.split("end\n")[:-1]
     return answers + ["the program ended before the end of this case\n"] * (len(cases) - len(answers))
 

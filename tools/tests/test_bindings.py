@@ -2,6 +2,7 @@
 
 import ctypes
 import os
+import pathlib
 import re
 import shutil
 import subprocess
@@ -16,12 +17,15 @@ from bindings.python.melfjits.c_types import CALLS, TYPES
 from bindings.python.melfjits.codes import TEXTS, Code, Kind, check
 from tools import EXAMPLES, ROOT
 from tools.compare import c_library
-from tools.compare.library_cases import Case, in_terms_of_calls, is_same
+from tools.compare.library_cases import Case, build_cpp, in_terms_of_calls, is_same, perform
+from tools.generator.case import case
 
 BINDINGS = ROOT / "bindings"
 HEADER = (BINDINGS / "c/melfjits.h").read_text()
 P2 = (EXAMPLES / "plant_p2.toml").read_bytes()
 A1 = "020000000001"
+# Cases of which some call is of each kind.
+SEEDS = (1, 3, 4, 8, 10, 15, 20, 25, 29, 44)
 FIRST = bytes.fromhex("0F0001180A010200010601060F0102")
 NUMBERS = {"size_t": ("usize", ctypes.c_size_t), **{f"uint{bits}_t": (f"u{bits}", getattr(ctypes, f"c_uint{bits}")) for bits in (8, 16, 32)}}
 
@@ -162,10 +166,11 @@ class Prototypes(unittest.TestCase):
 
 class Texts(unittest.TestCase):
     def test_all_languages_have_the_same(self):
-        cpp, rust = (BINDINGS / "cpp/melfjits.hpp").read_text(), (BINDINGS / "rust/melfjits/src/error.rs").read_text()
+        rust = (BINDINGS / "rust/melfjits/src/error.rs").read_text()
         self.assertEqual(set(Code) - {Code.DONE, Code.SHORT, Code.NONE_WAITS}, set(TEXTS))
+        self.assertEqual(re.findall(r"case MELFJITS_(\w+): return", HEADER), [*Code.__members__])
         for code, text in TEXTS.items():
-            self.assertIn(f'case MELFJITS_{code.name}: return "{text}";', cpp)
+            self.assertIn(f'case MELFJITS_{code.name}: return "{text}";', HEADER)
             self.assertIn(f"MELFJITS_{code.name} = {int(code)}", HEADER)
             if code != Code.CLOSED:  # a channel of Rust is open
                 self.assertIn(f'sys::MELFJITS_{code.name}, "{text}")', rust)
@@ -205,7 +210,7 @@ class OnTheLibrary(unittest.TestCase):
         folder = tempfile.TemporaryDirectory()
         cls.addClassCleanup(folder.cleanup)
         c_library.build_shared(folder.name)
-        cls.library = f"{folder.name}/libmelfjits.so"
+        cls.folder, cls.library = folder.name, f"{folder.name}/libmelfjits.so"
 
     def test_a_closed_channel_raises(self):
         opened = Channel(P2, self.library)
@@ -315,6 +320,25 @@ class OnTheLibrary(unittest.TestCase):
         command = [sys.executable, "-B", EXAMPLES / "simulation/simulate.py", "--library", self.library, "--seconds", "0.5"]
         done = subprocess.run(command, env={**os.environ, "PYTHONPATH": str(BINDINGS / "python")}, capture_output=True, text=True, check=False)
         self.assertEqual((done.returncode, done.stderr), (0, ""), done.stdout)
+
+    def run_without_a_fault_of_memory(self, command):
+        """Runs cases of all kinds of step, with a channel that is saved and opened again, by a program that reports faults of its memory."""
+        cases = [Case(case(seed)[1]) for seed in SEEDS]
+        words = {call.partition(" ")[0] for one in cases for _, call in one.calls}
+        self.assertEqual(words, {"arrive", "request", "tick", "collect", "reslice", "reopen"})
+        done = perform(command, pathlib.Path(self.library), cases)
+        self.assertEqual((done.returncode, done.stderr), (0, b""))
+        self.assertEqual(done.stdout.count(b"end\n"), len(cases))
+
+    @unittest.skipUnless(shutil.which("g++") and shutil.which("valgrind"), "g++ or valgrind is not installed: memory was not checked")
+    def test_valgrind_finds_nothing(self):
+        program = build_cpp(f"{self.folder}/checked", pathlib.Path(self.library), "-g")
+        self.run_without_a_fault_of_memory(["valgrind", "-q", "--leak-check=full", "--show-leak-kinds=all", "--error-exitcode=9", program])
+
+    @unittest.skipUnless(shutil.which("g++"), "g++ is not installed: memory was not checked")
+    def test_address_sanitizer_finds_nothing(self):
+        program = build_cpp(f"{self.folder}/sanitized", pathlib.Path(self.library), "-fsanitize=address,undefined", "-fno-sanitize-recover=all")
+        self.run_without_a_fault_of_memory([program])
 
     @unittest.skipUnless(shutil.which("g++") and shutil.which("cargo"), "g++ or cargo is not installed: only Python made calls")
     def test_bindings_agree(self):

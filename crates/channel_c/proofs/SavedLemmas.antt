@@ -27,7 +27,8 @@ use Rattle.plant_restart.specs.Restarted.{IsRestoreFault}
 use Rattle.channel_c.specs.declared.channel.OpenChannel.{OpenChannel}
 use Rattle.channel_c.specs.Codes.{IsOpenCode, plant_code, rest_code, save_code, restart_code, change_code, snapshot_code, restore_code}
 use Rattle.channel_c.specs.PlantText.{plant_said}
-use Rattle.channel_c.specs.Saved.{IsSavedText, IsSaveCode, SaveEnds, IsChanged, IsChangeCode, ChangeEnds, IsRestoreCode, IsRefusedCode, IsReopenCode, IsReopenCodeOf}
+use Rattle.live_core.specs.Resting.{Rests}
+use Rattle.channel_c.specs.Saved.{IsSavedText, IsSaveRefusal, IsSaveCode, SaveEnds, IsChanged, IsChangeCode, ChangeEnds, IsRestoreCode, IsRefusedCode, IsReopenCode, IsReopenCodeOf}
 use Rattle.channel_c.specs.Waiting.{view_of, text_of, waiting_of, IsSame}
 use Rattle.channel_c.proofs.CodeLemmas.{open_refused, plant_more}
 
@@ -41,35 +42,46 @@ rest_other : (why : RestFault) → rest_code why ≢ 3
 rest_other (rests.FrameWaits op) = eqb-false 40 3 refl
 rest_other (rests.NotAtFrame op) = eqb-false 41 3 refl
 
-pub saved_done : (channel : OpenChannel) (text before after : List ℕ) (size : ℕ) → IsSavedText channel text → size ≡ length text → take (length text) after ≡ text → SaveEnds 0 size before after channel
-saved_done channel text before after size saved is written = record {
+pub saved_done : (channel : OpenChannel) (text before after : List ℕ) (old_size size : ℕ) → IsSavedText channel text → size ≡ length text → take (length text) after ≡ text
+    → SaveEnds 0 old_size size before after channel
+saved_done channel text before after old_size size saved is written = record {
   written = λ _. (text, saved, is, ap (λ (n : ℕ). take n after) is ∙ written);
   short = λ three. absurd (eqb-false 0 3 refl three);
   same = λ other. absurd (other refl);
-  fault = inr (inl (saved.saved.frame, saved.is_snapshot.rests, inl refl));
+  same_size = λ other _. absurd (other refl);
+  fault = inl (saved.saved.frame, saved.is_snapshot.rests, inl refl);
 }
 
-pub saved_short : (channel : OpenChannel) (text before after : List ℕ) (size : ℕ) → IsSavedText channel text → size ≡ length text → length before < length text → after ≡ before → SaveEnds 3 size before after channel
-saved_short channel text before after size saved is less same = record {
+pub saved_short : (channel : OpenChannel) (text before after : List ℕ) (old_size size : ℕ) → IsSavedText channel text → size ≡ length text → length before < length text → after ≡ before
+    → SaveEnds 3 old_size size before after channel
+saved_short channel text before after old_size size saved is less same = record {
   written = λ zero. absurd (eqb-false 3 0 refl zero);
   short = λ _. (text, saved, is, subst (λ (n : ℕ). length before < n) (sym is) less);
   same = λ _. same;
-  fault = inr (inl (saved.saved.frame, saved.is_snapshot.rests, inr refl));
+  same_size = λ _ other. absurd (other refl);
+  fault = inl (saved.saved.frame, saved.is_snapshot.rests, inr (inr refl));
 }
 
-pub saved_refused : (channel : OpenChannel) (buffer : List ℕ) (size : ℕ) (fault : SaveFault) → IsSaveFault (view_of channel) fault → SaveEnds (save_code fault) size buffer buffer channel
+pub saved_refused : (channel : OpenChannel) (buffer : List ℕ) (size : ℕ) (fault : SaveFault) → IsSaveRefusal (view_of channel) fault → SaveEnds (save_code fault) size size buffer buffer channel
 saved_refused channel buffer size (saves.Unfinished why) is = record {
   written = λ zero. absurd (rest_more why zero);
   short = λ three. absurd (rest_other why three);
   same = λ _. refl;
-  fault = inr (inr (why, is, refl));
+  same_size = λ _ _. refl;
+  fault = inr (why, is, refl);
 }
-saved_refused channel buffer size saves.NoMemory is = record {
+saved_refused channel buffer size saves.NoMemory (frame, rests) = record {
   written = λ zero. absurd (eqb-false 1 0 refl zero);
   short = λ three. absurd (eqb-false 1 3 refl three);
   same = λ _. refl;
-  fault = inl refl;
+  same_size = λ _ _. refl;
+  fault = inl (frame, rests, inr (inl refl));
 }
+
+-- a core that rests is not saved only if memory runs out
+pub save_refusal : (live : CoreView) (frame : ℕ) (fault : SaveFault) → Rests live frame → IsSaveFault live fault → IsSaveRefusal live fault
+save_refusal live frame (saves.Unfinished why) rests is = is
+save_refusal live frame saves.NoMemory rests is = (frame, rests)
 
 -- ---- another plant
 

@@ -10,6 +10,8 @@ use Rattle.snapshot_format.specs.declared.fault.SnapshotFault.{SnapshotFault}
 use Rattle.snapshot_format.specs.Snapshot.{snapshot_of}
 use Rattle.snapshot_format.specs.Text.{text_of_snapshot}
 use Rattle.snapshot_format.specs.States.{states_of}
+use Rattle.plant_restart.specs.declared.fault.SaveFault.{SaveFault}
+use Rattle.plant_restart.specs.declared.fault.SaveFault.TheVariants.{Unfinished, NoMemory}
 use Rattle.plant_restart.specs.declared.fault.ChangeFault.{ChangeFault}
 use Rattle.plant_restart.specs.declared.fault.RestoreFault.{RestoreFault}
 use Rattle.plant_restart.specs.Saving.{IsCoreSnapshot}
@@ -28,16 +30,23 @@ pub record IsSavedText (channel : OpenChannel) (text : List ℕ) : Type 0 where
   pub is_snapshot : IsCoreSnapshot (view_of channel) (text_of channel) saved
   pub text_is : text ≡ text_of_snapshot saved
 
--- the number of a call that saves: 1, out of memory, says nothing of the channel; 0 or 3 only where it rests, else why it does not
-abbrev pub IsSaveCode : ℕ → CoreView → Type 0
-IsSaveCode code live = (code ≡ 1)
-    ⊎ (((frame : ℕ) × Rests live frame × ((code ≡ 0) ⊎ (code ≡ 3))) ⊎ ((why : RestFault) × IsRestFault live why × (code ≡ rest_code why)))
+-- what each refusal says: why the channel does not rest, or that memory ran out for a channel that rests
+abbrev pub IsSaveRefusal : CoreView → SaveFault → Type 0
+IsSaveRefusal live (Unfinished why) = IsRestFault live why
+IsSaveRefusal live NoMemory = (frame : ℕ) × Rests live frame
 
--- 0: the text is at the beginning of the buffer. 3: it is longer than the buffer. Of any number but 0 the buffer is as it was
-pub record SaveEnds (code size : ℕ) (before after : List ℕ) (channel : OpenChannel) : Type 0 where
+-- the number of a call that saves: 0, 3 or, out of memory, 1 only where the channel rests, else why it does not
+abbrev pub IsSaveCode : ℕ → CoreView → Type 0
+IsSaveCode code live = ((frame : ℕ) × Rests live frame × ((code ≡ 0) ⊎ ((code ≡ 1) ⊎ (code ≡ 3))))
+    ⊎ ((why : RestFault) × IsRestFault live why × (code ≡ rest_code why))
+
+-- 0: the text is at the beginning of the buffer. 3: it is longer than the buffer. Of any number but 0 the buffer is as it was, and of any
+-- but 0 and 3 the length, too
+pub record SaveEnds (code old_size size : ℕ) (before after : List ℕ) (channel : OpenChannel) : Type 0 where
   pub written : code ≡ 0 → (text : List ℕ) × IsSavedText channel text × (size ≡ length text) × (take size after ≡ text)
   pub short : code ≡ 3 → (text : List ℕ) × IsSavedText channel text × (size ≡ length text) × (length before < size)
   pub same : code ≢ 0 → after ≡ before
+  pub same_size : code ≢ 0 → code ≢ 3 → size ≡ old_size
   pub fault : IsSaveCode code (view_of channel)
 
 -- ---- another plant

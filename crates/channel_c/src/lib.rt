@@ -283,7 +283,8 @@ pub extern "C" fn melfjits_save(
     bytes: &mut [u8],
     length: &mut usize,
 ) -> u32
-    ensures { InHandle result (λ old new. SaveEnds result length.new bytes.old bytes.new old × IsSame old new)
+    // 1, out of memory, comes only where the channel rests.
+    ensures { InHandle result (λ old new. SaveEnds result length.old length.new bytes.old bytes.new old × IsSame old new)
         handle.old.home handle.new.home }
 {
     match handle.take(alloc) {

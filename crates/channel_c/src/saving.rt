@@ -1,8 +1,7 @@
 //! Saving a channel, and changing its plant.
 
 ghost use Rattle.std.specs.Prelude.{◌≡◌, IfErr, IfOk};
-ghost use Rattle.plant_restart.specs.Saving.{IsSaveFault};
-ghost use Rattle.channel_c.specs.Saved.{ChangeEnds, IsSavedText, SaveEnds};
+ghost use Rattle.channel_c.specs.Saved.{ChangeEnds, IsSaveRefusal, IsSavedText, SaveEnds};
 ghost use Rattle.channel_c.specs.Waiting.{view_of};
 
 use crate::channel::OpenChannel;
@@ -17,10 +16,15 @@ use tlv24::Bytes;
 impl OpenChannel {
     /// Returns the text of a snapshot of the channel. It fails if the channel does not rest before a
     /// frame, or if memory runs out.
+    #[tactic(auto, using(crate::proofs::SavedLemmas::save_refusal))]
     fn snapshot_text(&self, alloc: Global) -> Result<Vec<u8>, SaveFault>
         ensures ok { IfOk result (λ text. IsSavedText self.now text.items) }
-        ensures fault { IfErr result (IsSaveFault (view_of self.now)) }
+        ensures fault { IfErr result (IsSaveRefusal (view_of self.now)) }
     {
+        // A channel that does not rest is reported as such, also without memory.
+        if let Err(why) = self.core.resting_frame() {
+            return Err(SaveFault::Unfinished { why });
+        }
         let Ok(file) = self.text.copy(alloc) else {
             return Err(SaveFault::NoMemory);
         };
@@ -36,7 +40,7 @@ impl OpenChannel {
     /// it does not fit, its length alone.
     #[tactic(auto, using(crate::proofs::SavedLemmas::saved_done, crate::proofs::SavedLemmas::saved_short, crate::proofs::SavedLemmas::saved_refused))]
     pub fn save(&self, alloc: Global, bytes: &mut [u8], length: &mut usize) -> u32
-        ensures { SaveEnds result length.new bytes.old bytes.new self.now }
+        ensures { SaveEnds result length.old length.new bytes.old bytes.new self.now }
     {
         match self.snapshot_text(alloc) {
             Ok(text) => {
