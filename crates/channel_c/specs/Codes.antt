@@ -63,6 +63,7 @@ abbrev pub rest_code : RestFault → ℕ
 rest_code (rests.FrameWaits op) = 40
 rest_code (rests.NotAtFrame op) = 41
 
+-- 40 and 41: why a channel is not saved, since it does not rest; 1: out of memory
 abbrev pub save_code : SaveFault → ℕ
 save_code (saves.Unfinished why) = rest_code why
 save_code saves.NoMemory = 1

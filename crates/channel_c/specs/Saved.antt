@@ -83,6 +83,7 @@ pub record IsRestoredFrom (saved : Snapshot) (channel : OpenChannel) : Type 0 wh
   pub none_waits : waiting_of channel ≡ []
   pub text_is : text_of channel ≡ saved.plant
 
+-- the text is a snapshot, and the channel goes on from it
 abbrev pub IsReopenedFrom : List ℕ → OpenChannel → Type 0
 IsReopenedFrom text channel = (saved : Snapshot) × (snapshot_of text ≡ Ok saved) × IsRestoredFrom saved channel
 

@@ -85,6 +85,7 @@ pub extern "C" fn melfjits_open(alloc: Global, handle: &mut Handle, text: &[u8])
 #[tactic(auto, using(crate::proofs::SavedLemmas::reopen_memory, crate::proofs::SavedLemmas::reopen_done))]
 #[unsafe(no_mangle)]
 pub extern "C" fn melfjits_open_saved(alloc: Global, handle: &mut Handle, text: &[u8]) -> u32
+    // 0 only if the text is a snapshot, from which the channel goes on.
     ensures opened { result ≡ 0 → (channel : OpenChannel) × (handle.new.home ≡ Some channel) × IsReopenedFrom text.now channel }
     ensures same { result ≢ 0 → handle.new.home ≡ handle.old.home }
     ensures fault { IsReopenCode result text.now }
@@ -283,7 +284,8 @@ pub extern "C" fn melfjits_save(
     bytes: &mut [u8],
     length: &mut usize,
 ) -> u32
-    // 1, out of memory, comes only where the channel rests.
+    // A closed handle stays closed, with 2. The text of an open one is written, and nothing of the channel changes. 1, out
+    // of memory, comes only where the channel rests.
     ensures { InHandle result (λ old new. SaveEnds result length.old length.new bytes.old bytes.new old × IsSame old new)
         handle.old.home handle.new.home }
 {
