@@ -9,9 +9,8 @@ import subprocess
 from bindings.python.melfjits.c_types import Grant, Handle, Modem, Output, Slice
 from bindings.python.melfjits.codes import Cause
 from tools import ROOT
-from tools.proving.prover import kit_folder
+from tools.packaging.build_library import ARCHIVE, archives, link_shared
 
-ARCHIVE = ROOT / "crates/channel_c/out/libchannel_c.a"
 HEADER = ROOT / "bindings/c"
 DONE, SHORT, NONE_WAITS = 0, 3, 4
 
@@ -24,7 +23,7 @@ def names_of_codes():
 
 def libraries():
     """Returns the archives that a C program is linked with, in their order."""
-    return [str(ARCHIVE), str(kit_folder() / "c/liblibc_c.a")]
+    return archives(ARCHIVE)
 
 
 def is_built():
@@ -33,11 +32,8 @@ def is_built():
 
 
 def build_shared(folder):
-    """Links the library as a shared one in a folder, and returns it."""
-    path = pathlib.Path(folder, "libmelfjits.so")
-    archive, heap = libraries()
-    subprocess.run(["gcc", "-shared", "-o", path, "-Wl,--whole-archive", archive, "-Wl,--no-whole-archive", heap], check=True)
-    return ctypes.CDLL(str(path))
+    """Links the library as a shared one in a folder, as tools/build_library does, and returns it."""
+    return ctypes.CDLL(str(link_shared(libraries(), folder)))
 
 
 def build_program(source, folder, *words):
