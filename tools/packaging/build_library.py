@@ -25,14 +25,12 @@ from tools import ROOT
 from tools.manual.pages import VERSION
 from tools.proving.prover import kit_folder
 
+from .packing import Refused
+
 ARCHIVE = ROOT / "crates/channel_c/out/libchannel_c.a"
 BINDINGS = ROOT / "bindings"
 EXPORTS = BINDINGS / "c/melfjits.map"
 CALLS = "melfjits_*"
-
-
-class Refused(Exception):
-    """A library cannot be linked, or has other calls than the header."""
 
 
 def soname():
