@@ -12,7 +12,7 @@ SOURCE = "melfjits"
 LIBDIR = "lib/x86_64-linux-gnu"
 # What the rules of the packages read: from the repository, to the folder in which they run.
 FILES = {"packaging/library": "debian", "bindings/README.md": "README.md", "bindings/c": "c", "bindings/python/melfjits": "melfjits",
-         "examples/simulation": "simulation", "examples/plant_p2.toml": "plant_p2.toml", "CHANGELOG.md": "CHANGELOG.md"}
+         "examples/cmts_loop": "cmts_loop", "examples/simulation": "simulation", "examples/plant_p2.toml": "plant_p2.toml", "CHANGELOG.md": "CHANGELOG.md"}
 COMMANDS = {**packing.COMMANDS, "dh_python3": "dh-python", "gcc": "gcc"}
 
 

@@ -1,6 +1,6 @@
 """Tests tools/build_package --library on a library whose calls do nothing: what it refuses, and what is in the packages.
 
-tools/ci/package_trial --library installs packages in a container.
+tools/ci/library_trial installs packages in a clean system.
 """
 
 import os
@@ -23,7 +23,8 @@ PACKED = {
     "libmelfjits0": {f"{LIB}/libmelfjits.so.0", "usr/share/doc/libmelfjits0/build.txt"},
     "libmelfjits-dev": {"usr/include/melfjits.h", "usr/include/melfjits.hpp", f"{LIB}/libmelfjits.a", f"{LIB}/libmelfjits.so",
                         f"{LIB}/pkgconfig/melfjits.pc", "usr/share/doc/libmelfjits-dev/README.md",
-                        "usr/share/doc/libmelfjits-dev/examples/first_reply.c", "usr/share/doc/libmelfjits-dev/examples/plant_p2.toml"},
+                        "usr/share/doc/libmelfjits-dev/examples/first_reply.c", "usr/share/doc/libmelfjits-dev/examples/plant_p2.toml"}
+    | {f"usr/share/doc/libmelfjits-dev/examples/cmts_loop/{path.name}" for path in (ROOT / "examples/cmts_loop").iterdir()},
     "python3-melfjits": {f"usr/lib/python3/dist-packages/melfjits/{path.name}" for path in (ROOT / "bindings/python/melfjits").glob("*.*")}
     | {f"usr/share/doc/python3-melfjits/examples/simulation/{path.name}" for path in (ROOT / "examples/simulation").glob("*.*")}}
 MISSING = sorted({package for command, package in {**TOOL.COMMANDS, "rt": "the kit"}.items() if not shutil.which(command)})
@@ -93,7 +94,7 @@ class Packages(unittest.TestCase):
             listed = subprocess.run(["dpkg-deb", "--contents", self.debs[name]], capture_output=True, text=True, check=True).stdout
             found = {line.split(None, 5)[5].split(" -> ")[0].removeprefix("./") for line in listed.splitlines() if line[0] != "d"}
             common = {f"usr/share/doc/{name}/{file}" for file in ("changelog.gz", "changelog.Debian.gz", "copyright")}
-            found = {re.sub(r"(README\.md|modems\.py|simulate\.py)\.gz$", r"\1", file) for file in found}
+            found = {file.removesuffix(".gz") if file.endswith(".md.gz") else file for file in found}
             self.assertEqual(found, expected | common | {f"usr/share/lintian/overrides/{name}"})
 
     def test_depend_on_the_library_of_the_same_build(self):
