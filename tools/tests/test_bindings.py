@@ -148,6 +148,9 @@ class Prototypes(unittest.TestCase):
         self.assertEqual({name: re.split(r",\s*", text.strip()) for name, text in found}, expected)
         self.used_in("rust/melfjits/src/channel.rs", "sys::melfjits_{}(")
 
+    def test_c(self):
+        self.used_in("c/perform_calls.c", "melfjits_{}(")
+
     @unittest.skipUnless(shutil.which("g++"), "g++ is not installed: no call of C++ was compared with the header")
     def test_cpp(self):
         self.used_in("cpp/melfjits.hpp", "melfjits_{}(")
