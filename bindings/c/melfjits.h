@@ -2,8 +2,8 @@
  *
  * The calls are the exports of the crate channel_c. Each does what the clauses of its export say;
  * the clauses are proved. Nothing checks this header, except for tools/tests/test_channel_c.py.
- * tools/ci/build_channel_c builds crates/channel_c/out/libchannel_c.a. A program is linked with it,
- * and then with c/liblibc_c.a of the kit.
+ * A program is linked with libmelfjits.a or libmelfjits.so.0, which tools/build_library builds from
+ * what tools/ci/build_channel_c has built.
  *
  * The caller has to ensure this:
  * - A handle begins as MELFJITS_CLOSED_CHANNEL. Only these calls read or write its members.

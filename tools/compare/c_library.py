@@ -9,11 +9,10 @@ import subprocess
 from bindings.python.melfjits.c_types import Grant, Handle, Modem, Output, Slice
 from bindings.python.melfjits.codes import Cause
 from tools import ROOT
-from tools.proving.prover import kit_folder
+from tools.packaging.build_library import ARCHIVE, archives, link_shared
 
-ARCHIVE = ROOT / "crates/channel_c/out/libchannel_c.a"
 HEADER = ROOT / "bindings/c"
-DONE, NO_MEMORY, SHORT, NONE_WAITS, RECEIVED = 0, 1, 3, 4, 5
+DONE, SHORT, NONE_WAITS = 0, 3, 4
 
 
 def names_of_codes():
@@ -24,7 +23,7 @@ def names_of_codes():
 
 def libraries():
     """Returns the archives that a C program is linked with, in their order."""
-    return [str(ARCHIVE), str(kit_folder() / "c/liblibc_c.a")]
+    return archives(ARCHIVE)
 
 
 def is_built():
@@ -33,19 +32,14 @@ def is_built():
 
 
 def build_shared(folder):
-    """Links the library as a shared one in a folder, and returns it."""
-    return link_shared(pathlib.Path(folder, "libmelfjits.so"))
+    """Links the library as a shared one in a folder, as tools/build_library does, and returns it."""
+    return ctypes.CDLL(str(link_shared(libraries(), folder)))
 
 
 def build_counting(folder):
-    """Links it with the calls begin_allocations and allocations, which count its allocations and fail one of them."""
-    source = ROOT / "tools/compare/wrapped_allocations.c"
-    return link_shared(pathlib.Path(folder, "counting.so"), "-fPIC", "-Wl,--wrap=malloc,--wrap=realloc", source)
-
-
-def link_shared(path, *words):
-    """Links the library and further files as a shared one, and returns it."""
-    archive, heap = libraries()
+    """Links it with the calls begin_counting and allocations, which count its allocations, and returns it."""
+    path, (archive, heap) = pathlib.Path(folder, "counting.so"), libraries()
+    words = ["-fPIC", "-Wl,--wrap=malloc,--wrap=realloc", ROOT / "tools/compare/counted_allocations.c"]
     subprocess.run(["gcc", "-shared", "-o", path, *words, "-Wl,--whole-archive", archive, "-Wl,--no-whole-archive", heap], check=True)
     return ctypes.CDLL(str(path))
 

@@ -2,7 +2,7 @@
 
     tools/compare/library_cases [COUNT] [--first FIRST] [--library LIBRARY] [--program PROGRAM] [--jobs N]
 
-The scripts of the seeds FIRST, 0 by default, to FIRST + COUNT - 1 become calls. COUNT is 10,000 by default. Python, C++ and Rust make these
+The scripts of the seeds FIRST, 0 by default, to FIRST + COUNT - 1 become calls. COUNT is 10,000 by default. C, C++, Python and Rust make these
 calls, and print the replies, drops, frames and MAPs. `run` has to print the same for the script: that of PROGRAM, by default
 crates/plant_program/out/plant_program, and that of the second implementation. Without a program, the second implementation is compared
 alone, and a line says so. A refused call has to be one of the line that `run` refuses, and a refused plant file has to have the same fault.
@@ -10,7 +10,7 @@ Cases of `one`, of an invalid line and of a text that is not UTF-8 have no calls
 
 LIBRARY is a shared library, libmelfjits.so in some folder. Without one, it is linked from what tools/ci/build_channel_c built.
 
-Prints how many cases agree, and the first that differ, with what was printed. Exits with 1 if one differs. Needs g++ and cargo.
+Prints how many cases agree, and the first that differ, with what was printed. Exits with 1 if one differs. Needs gcc, g++ and cargo.
 
 The bindings have a program each, `perform_calls`. It reads cases: a line `plant LENGTH`, that many bytes of plant file, a line for each
 call, and a line `end`. The calls are
@@ -48,37 +48,29 @@ ENDS = {None: "all calls performed", "plant": "plant file refused", "line": "a c
 
 # Programs of the bindings
 
-def build_cpp(program, library, *flags):
-    """Builds the program of the C++ binding, and returns it."""
-    includes = [f"-I{BINDINGS / name}" for name in ("c", "cpp")]
-    usual = ["-std=c++17", "-Wall", "-Wextra", "-Wpedantic", "-Werror", "-O1"]
-    source = BINDINGS / "cpp/perform_calls.cpp"
-    subprocess.run(["g++", *usual, *flags, *includes, "-o", program, source, f"-L{library.parent}", "-lmelfjits"], check=True)
-    return program
-
-
 def build_drivers(folder, library):
     """Builds the programs of the bindings in a folder, and returns the command of each by its language."""
-    program = build_cpp(f"{folder}/perform_calls", library)
+    linked = [f"-L{library.parent}", "-lmelfjits"]
+    flags = ["-Wall", "-Wextra", "-Wpedantic", "-Werror", "-O1", *(f"-I{BINDINGS / name}" for name in ("c", "cpp"))]
+    for compiler, standard, source in (("gcc", "c99", "c/perform_calls.c"), ("g++", "c++17", "cpp/perform_calls.cpp")):
+        subprocess.run([compiler, f"-std={standard}", *flags, "-o", f"{folder}/by_{compiler}", BINDINGS / source, *linked], check=True)
     environment = {**os.environ, "MELFJITS_LIBRARY_FOLDER": str(library.parent), "CARGO_TARGET_DIR": f"{folder}/target"}
     cargo = ["cargo", "build", "--quiet", "--offline", "--locked", "--package", "melfjits", "--example", "perform_calls"]
     subprocess.run(cargo, cwd=BINDINGS / "rust", env=environment, check=True)
-    return {"Python": [sys.executable, str(BINDINGS / "python/perform_calls.py")], "C++": [program],
+    return {"C": [f"{folder}/by_gcc"], "C++": [f"{folder}/by_g++"], "Python": [sys.executable, str(BINDINGS / "python/perform_calls.py")],
             "Rust": [f"{folder}/target/debug/examples/perform_calls"]}
 
 
-def perform(driver, library, cases):
-    """Runs the program of a binding on cases."""
-    given = b"".join(b"plant %d\n%b%bend\n" % (len(one.plant), one.plant, "".join(f"{call}\n" for _, call in one.calls).encode()) for one in cases)
-    environment = {**os.environ, "MELFJITS_LIBRARY": str(library), "LD_LIBRARY_PATH": str(library.parent)}
-    return subprocess.run(driver, input=given, capture_output=True, env=environment, check=False)
+def text_of_case(made):
+    """Returns a case as the programs of the bindings read it."""
+    return b"plant %d\n%b%bend\n" % (len(made.plant), made.plant, "".join(f"{call}\n" for _line, call in made.calls).encode())
 
 
 def answers_of(driver, library, cases):
     """Returns what the program of a binding prints for each case."""
-    done = perform(driver, library, cases)
-    sys.stderr.buffer.write(done.stderr)
-    printed = done.stdout.decode()
+    given = b"".join(map(text_of_case, cases))
+    environment = {**os.environ, "MELFJITS_LIBRARY": str(library), "LD_LIBRARY_PATH": str(library.parent)}
+    printed = subprocess.run(driver, input=given, stdout=subprocess.PIPE, env=environment, check=False).stdout.decode()
     answers = printed.split("end\n")[:-1]
     return answers + ["the program ended before the end of this case\n"] * (len(cases) - len(answers))
 
@@ -141,17 +133,23 @@ def is_same(printed, calls, expected, fault):
     return code in STEP_CODES and calls[at][0] == int(number)
 
 
-# Comparing
-
-def compare_some(answers, drivers, library, seeds):
-    """Returns counts of the cases of some seeds, and a text for each that differs."""
-    counts, faults, cases = Counter(), [], []
+def cases_of(seeds):
+    """Returns the cases of some seeds that have calls, each with its seed."""
+    cases = []
     for seed in seeds:
         words, data = case(seed)
         try:
             cases += [] if words == ["one"] else [(seed, Case(data))]
         except Fault:
             pass
+    return cases
+
+
+# Comparing
+
+def compare_some(answers, drivers, library, seeds):
+    """Returns counts of the cases of some seeds, and a text for each that differs."""
+    counts, faults, cases = Counter(), [], cases_of(seeds)
     counts["cases were skipped: no calls"] = len(seeds) - len(cases)
     printed = {name: answers_of(driver, library, [made for _, made in cases]) for name, driver in drivers.items()}
     for place, (seed, made) in enumerate(cases):

@@ -1,7 +1,8 @@
-"""Builds the Debian package of the proved program, and a tarball with the same files.
+"""Builds the Debian package of the proved program, and a tarball with the same files. Or builds those of the library for C.
 
     tools/build_package [--revision N] [--output FOLDER] [--proof-log FILE]
-    tools/build_package --unproved PROGRAM ..      packs another program, for a trial of the package
+    tools/build_package --unproved PROGRAM ..             packs another program, for a trial of the package
+    tools/build_package --library [--unproved ARCHIVE] [--revision N] [--output FOLDER]
 
 The proved program is crates/plant_program/out/plant_program, as ./prove or .ci/run builds it. If it is missing, or older than one of its
 sources, nothing is built. A package of --unproved has +unproved in its version, and one of files that are not committed has +modified.
@@ -9,28 +10,29 @@ sources, nothing is built. A package of --unproved has +unproved in its version,
 FOLDER, else out/package at the top, gets the package, the tarball, build.txt (which says what was packed), the log of the proof run if
 there is one, and SHA256SUMS. Without --proof-log that log is crates/plant_program/out/prove.log, if it belongs to the program.
 
-Needs git and Debian's packages dpkg-dev and debhelper. packaging/README.md describes the package.
+With --library, FOLDER, else out/library_packages, gets libmelfjits0, libmelfjits-dev and python3-melfjits, build.txt and SHA256SUMS. The
+library is crates/channel_c/out/libchannel_c.a, as tools/ci/build_channel_c builds it, or ARCHIVE.
+
+Needs git and Debian's packages dpkg-dev and debhelper, for the library dh-python and gcc, too. packaging/README.md describes the packages.
 """
 
 import argparse
 import gzip
-import hashlib
 import os
 import pathlib
-import re
 import shutil
-import subprocess
 import sys
 import tarfile
 import tempfile
 
 from tools import ROOT
-from tools.manual.pages import VERSION
+
+from . import library_packages
+from .packing import COMMANDS, Commit, Refused, build_text, changelog, judge_commands, newer_source, run, sum_of, version_of
 
 PACKAGE = "plant-script"
 PROGRAM = "crates/plant_program/out/plant_program"
 PROVE_LOG = "crates/plant_program/out/prove.log"
-MAINTAINER = re.compile(r"^Maintainer: (.*)$", re.MULTILINE)
 # What the rules of the package read: from the repository, to the folder in which they run.
 FILES = {"packaging/debian": "debian", "packaging/systemd": "systemd", "packaging/completions": "completions",
          "packaging/serve_channel": "serve_channel", "packaging/tick_channel": "tick_channel", "packaging/pass_reasons": "pass_reasons",
@@ -40,25 +42,6 @@ FILES = {"packaging/debian": "debian", "packaging/systemd": "systemd", "packagin
          "tools/describe_state": "tools/describe_state", "tools/watch_channel": "tools/watch_channel", "tools/renumber_channel": "tools/renumber_channel",
          "tools/viewing": "tools/viewing", "tools/messages": "tools/messages", "tools/plant_view": "tools/plant_view", "tools/dsx": "tools/dsx",
          "docs": "docs", "examples": "examples", "README.md": "README.md", "CHANGELOG.md": "CHANGELOG.md"}
-COMMANDS = {"git": "git", "dpkg-buildpackage": "dpkg-dev", "dh": "debhelper"}
-
-
-class Refused(Exception):
-    """There is nothing that may be packed, or a command is missing."""
-
-
-def newer_source(root, program):
-    """Returns a source of the proved program that is newer than it, or None."""
-    built = program.stat().st_mtime_ns
-    if (root / "crates.txt").stat().st_mtime_ns > built:
-        return "crates.txt"
-    for folder, folders, names in os.walk(root / "crates"):
-        folders[:] = sorted(name for name in folders if name != "out")
-        for name in sorted(names):
-            path = pathlib.Path(folder, name)
-            if (path.suffix in (".rt", ".antt") or name == "crates.txt") and path.stat().st_mtime_ns > built:
-                return str(path.relative_to(root))
-    return None
 
 
 def proved_program(root):
@@ -70,60 +53,6 @@ def proved_program(root):
     if source:
         raise Refused(f"{source} is newer than the proved program; prove and build it again with ./prove")
     return program
-
-
-def git(root, *words):
-    done = subprocess.run(["git", "-C", root, *words], capture_output=True, text=True, check=False)
-    if done.returncode:
-        raise Refused(f"git {' '.join(words)}: {done.stderr.strip()}")
-    return done.stdout.strip()
-
-
-class Commit:
-    """The commit that is packed: its name, its time, and whether files differ from it."""
-
-    def __init__(self, root):
-        self.name = git(root, "rev-parse", "HEAD")
-        self.seconds = int(git(root, "log", "-1", "--format=%ct"))
-        self.time = git(root, "log", "-1", "--format=%cd", "--date=format-local:%Y%m%d.%H%M")
-        self.date = git(root, "log", "-1", "--format=%cD")
-        self.is_modified = bool(git(root, "status", "--porcelain"))
-
-
-def version_of(root, commit, is_proved, revision):
-    """Returns the version of the package. It is before the version of CHANGELOG.md, since there is no release yet."""
-    found = VERSION.search((root / "CHANGELOG.md").read_text())
-    if found is None:
-        raise Refused("CHANGELOG.md has no heading of a version")
-    marks = "+modified" * commit.is_modified + "+unproved" * (not is_proved)
-    return f"{found[1]}~{commit.time}.g{commit.name[:8]}{marks}-{revision}"
-
-
-def changelog(root, version, commit, is_proved):
-    """Returns debian/changelog, with one entry for what is packed."""
-    maintainer = MAINTAINER.search((root / "packaging/debian/control").read_text())[1]
-    program = "the proved program" if is_proved else "a program without a proof, for a trial of the package"
-    return (f"{PACKAGE} ({version}) unstable; urgency=medium\n\n  * Pack {program}, from commit\n    {commit.name}.\n"
-            f"    CHANGELOG.md lists what changed.\n\n -- {maintainer}  {commit.date}\n")
-
-
-def sum_of(path):
-    return hashlib.sha256(path.read_bytes()).hexdigest()
-
-
-def kit_line():
-    """Returns the line by which the toolchain kit on the path names itself."""
-    if not shutil.which("rt"):
-        return "unknown (no command rt on the path)"
-    return subprocess.run(["rt", "version"], capture_output=True, text=True, check=False).stdout.strip() or "unknown"
-
-
-def build_text(version, commit, is_proved, program, log):
-    """Returns build.txt."""
-    proof = "none: this program is not proved" if not is_proved else log.name if log else "not kept"
-    rows = {"version": version, "commit": commit.name + " with changes that are not committed" * commit.is_modified,
-            "program": f"{'proved' if is_proved else 'not proved'}, sha256 {sum_of(program)}", "proof log": proof, "toolchain kit": kit_line()}
-    return "".join(f"{name}: {value}\n" for name, value in rows.items())
 
 
 def proof_log(root, asked, program):
@@ -143,14 +72,6 @@ def copy_files(root, program, folder):
             shutil.copy(root / source, folder / target)
     shutil.copy(program, folder / "plant_script")
     (folder / "plant_script").chmod(0o755)
-
-
-def run(words, folder, seconds):
-    """Runs a command that builds, and says its last lines if it fails."""
-    environment = {**os.environ, "SOURCE_DATE_EPOCH": str(seconds), "LC_ALL": "C.UTF-8", "TZ": "UTC"}
-    done = subprocess.run(words, cwd=folder, env=environment, stdout=subprocess.PIPE, stderr=subprocess.STDOUT, text=True, check=False)
-    if done.returncode:
-        raise Refused(f"{words[0]} ended with status {done.returncode}:\n" + "\n".join(done.stdout.splitlines()[-20:]))
 
 
 def pack_tarball(tree, path, prefix, seconds):
@@ -175,7 +96,7 @@ def build(root, output, program, is_proved, revision, log):
         folder = pathlib.Path(work, f"{PACKAGE}-{version}")
         folder.mkdir()
         copy_files(root, program, folder)
-        (folder / "debian/changelog").write_text(changelog(root, version, commit, is_proved))
+        (folder / "debian/changelog").write_text(changelog(folder / "debian/control", version, commit, is_proved))
         (folder / "build.txt").write_text(build_text(version, commit, is_proved, program, log))
         run(["dpkg-buildpackage", "--build=binary", "--no-sign"], folder, commit.seconds)
         package = next(pathlib.Path(work).glob("*.deb"))
@@ -192,27 +113,38 @@ def build(root, output, program, is_proved, revision, log):
 
 def read_arguments():
     ask = argparse.ArgumentParser("build_package", description=__doc__, formatter_class=argparse.RawDescriptionHelpFormatter)
-    ask.add_argument("--unproved", metavar="PROGRAM", help="pack this program, and name the package +unproved")
+    ask.add_argument("--library", action="store_true", help="pack the library for C")
+    ask.add_argument("--unproved", metavar="FILE", type=pathlib.Path, help="pack this program or library, and name the package +unproved")
     ask.add_argument("--revision", metavar="N", type=int, default=1, help="revision of the package of one commit (1)")
-    ask.add_argument("--output", metavar="FOLDER", type=pathlib.Path, default=ROOT / "out/package", help="where the files are written")
+    ask.add_argument("--output", metavar="FOLDER", type=pathlib.Path, help="where the files are written")
     ask.add_argument("--proof-log", metavar="FILE", help="the log of the proof run, such as what .ci/run printed")
     asked = ask.parse_args()
-    if asked.unproved and asked.proof_log:
-        ask.error("--proof-log is not for an unproved program")
+    if asked.proof_log and (asked.unproved or asked.library):
+        ask.error("--proof-log is not for an unproved program, nor for the library")
     return asked
+
+
+def pack_program(asked):
+    """Builds the package of the program, and returns the files."""
+    judge_commands(COMMANDS)
+    program = asked.unproved or proved_program(ROOT)
+    if not os.access(program, os.X_OK):
+        raise Refused(f"{program} is not a program")
+    log = None if asked.unproved else proof_log(ROOT, asked.proof_log, program)
+    return build(ROOT, asked.output or ROOT / "out/package", program, not asked.unproved, asked.revision, log)
+
+
+def pack_library(asked):
+    """Builds the packages of the library for C, and returns the files."""
+    judge_commands(library_packages.COMMANDS)
+    archive = asked.unproved or library_packages.proved_archive(ROOT)
+    return library_packages.build(ROOT, asked.output or ROOT / "out/library_packages", archive, not asked.unproved, asked.revision)
 
 
 def main():
     asked = read_arguments()
     try:
-        missing = sorted({package for command, package in COMMANDS.items() if not shutil.which(command)})
-        if missing:
-            raise Refused(f"install Debian's packages {', '.join(missing)}")
-        program = pathlib.Path(asked.unproved) if asked.unproved else proved_program(ROOT)
-        if not os.access(program, os.X_OK):
-            raise Refused(f"{program} is not a program")
-        log = None if asked.unproved else proof_log(ROOT, asked.proof_log, program)
-        files = build(ROOT, asked.output, program, not asked.unproved, asked.revision, log)
+        files = pack_library(asked) if asked.library else pack_program(asked)
     except Refused as fault:
         sys.exit(f"build_package: {fault}")
     for path in files:

@@ -33,12 +33,12 @@ def run_here(*words, **how):
     return done.stdout
 
 
-def fill(folder, base):
-    """Fills a new folder with a Debian system: a copy of another such folder, or what debootstrap fetches."""
+def fill(folder, base, included=INCLUDED):
+    """Fills a new folder with a Debian system: a copy of another such folder, or what debootstrap fetches, with these packages."""
     if base:
         run_here("cp", "--archive", "--reflink=auto", f"{base}/.", folder)
     else:
-        run_here("debootstrap", "--variant=minbase", f"--include={INCLUDED}", SUITE, folder, MIRROR)
+        run_here("debootstrap", "--variant=minbase", f"--include={included}", SUITE, folder, MIRROR)
 
 
 class Container:

@@ -2,7 +2,6 @@
 
 import ctypes
 import os
-import pathlib
 import re
 import shutil
 import subprocess
@@ -17,15 +16,12 @@ from bindings.python.melfjits.c_types import CALLS, TYPES
 from bindings.python.melfjits.codes import TEXTS, Code, Kind, check
 from tools import EXAMPLES, ROOT
 from tools.compare import c_library
-from tools.compare.library_cases import Case, build_cpp, in_terms_of_calls, is_same, perform
-from tools.generator.case import case
+from tools.compare.library_cases import Case, in_terms_of_calls, is_same
 
 BINDINGS = ROOT / "bindings"
 HEADER = (BINDINGS / "c/melfjits.h").read_text()
 P2 = (EXAMPLES / "plant_p2.toml").read_bytes()
 A1 = "020000000001"
-# Cases of which some call is of each kind.
-SEEDS = (1, 3, 4, 8, 10, 15, 20, 25, 29, 44)
 FIRST = bytes.fromhex("0F0001180A010200010601060F0102")
 NUMBERS = {"size_t": ("usize", ctypes.c_size_t), **{f"uint{bits}_t": (f"u{bits}", getattr(ctypes, f"c_uint{bits}")) for bits in (8, 16, 32)}}
 
@@ -152,6 +148,9 @@ class Prototypes(unittest.TestCase):
         self.assertEqual({name: re.split(r",\s*", text.strip()) for name, text in found}, expected)
         self.used_in("rust/melfjits/src/channel.rs", "sys::melfjits_{}(")
 
+    def test_c(self):
+        self.used_in("c/perform_calls.c", "melfjits_{}(")
+
     @unittest.skipUnless(shutil.which("g++"), "g++ is not installed: no call of C++ was compared with the header")
     def test_cpp(self):
         self.used_in("cpp/melfjits.hpp", "melfjits_{}(")
@@ -210,7 +209,7 @@ class OnTheLibrary(unittest.TestCase):
         folder = tempfile.TemporaryDirectory()
         cls.addClassCleanup(folder.cleanup)
         c_library.build_shared(folder.name)
-        cls.folder, cls.library = folder.name, f"{folder.name}/libmelfjits.so"
+        cls.library = f"{folder.name}/libmelfjits.so"
 
     def test_a_closed_channel_raises(self):
         opened = Channel(P2, self.library)
@@ -320,25 +319,6 @@ class OnTheLibrary(unittest.TestCase):
         command = [sys.executable, "-B", EXAMPLES / "simulation/simulate.py", "--library", self.library, "--seconds", "0.5"]
         done = subprocess.run(command, env={**os.environ, "PYTHONPATH": str(BINDINGS / "python")}, capture_output=True, text=True, check=False)
         self.assertEqual((done.returncode, done.stderr), (0, ""), done.stdout)
-
-    def run_without_a_fault_of_memory(self, command):
-        """Runs cases of all kinds of step, with a channel that is saved and opened again, by a program that reports faults of its memory."""
-        cases = [Case(case(seed)[1]) for seed in SEEDS]
-        words = {call.partition(" ")[0] for one in cases for _, call in one.calls}
-        self.assertEqual(words, {"arrive", "request", "tick", "collect", "reslice", "reopen"})
-        done = perform(command, pathlib.Path(self.library), cases)
-        self.assertEqual((done.returncode, done.stderr), (0, b""))
-        self.assertEqual(done.stdout.count(b"end\n"), len(cases))
-
-    @unittest.skipUnless(shutil.which("g++") and shutil.which("valgrind"), "g++ or valgrind is not installed: memory was not checked")
-    def test_valgrind_finds_nothing(self):
-        program = build_cpp(f"{self.folder}/checked", pathlib.Path(self.library), "-g")
-        self.run_without_a_fault_of_memory(["valgrind", "-q", "--leak-check=full", "--show-leak-kinds=all", "--error-exitcode=9", program])
-
-    @unittest.skipUnless(shutil.which("g++"), "g++ is not installed: memory was not checked")
-    def test_address_sanitizer_finds_nothing(self):
-        program = build_cpp(f"{self.folder}/sanitized", pathlib.Path(self.library), "-fsanitize=address,undefined", "-fno-sanitize-recover=all")
-        self.run_without_a_fault_of_memory([program])
 
     @unittest.skipUnless(shutil.which("g++") and shutil.which("cargo"), "g++ or cargo is not installed: only Python made calls")
     def test_bindings_agree(self):

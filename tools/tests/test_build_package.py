@@ -16,24 +16,25 @@ import unittest
 
 from tools import EXAMPLES, ROOT
 from tools.packaging import build_package as TOOL
+from tools.packaging import packing
 
 PACKED = """etc/plant_script usr/bin/plant_script usr/lib/systemd/system/plant@.service usr/lib/systemd/system/plant@.socket
 usr/lib/systemd/system/plant-ticker@.service usr/libexec/plant_script/tick_channel
 usr/lib/sysusers.d/plant-script.conf usr/lib/tmpfiles.d/plant-script.conf usr/libexec/plant_script/serve_channel
-usr/share/bash-completion/completions/plant_script usr/share/doc/plant-script/FORMATS.md.gz usr/share/doc/plant-script/GLOSSARY.md.gz
-usr/share/doc/plant-script/OPERATING.md.gz usr/share/doc/plant-script/README.md.gz usr/share/doc/plant-script/REPLICATION.md.gz
-usr/share/doc/plant-script/RULES.md.gz usr/share/doc/plant-script/MONITORING.md.gz usr/share/doc/plant-script/SNAPSHOTS.md.gz
-usr/share/doc/plant-script/CONNECT.md.gz usr/share/doc/plant-script/RUNBOOK.md.gz usr/share/doc/plant-script/SCOPE.md.gz usr/share/doc/plant-script/build.txt usr/share/doc/plant-script/changelog.Debian.gz
-usr/share/doc/plant-script/changelog.gz usr/share/doc/plant-script/copyright usr/share/doc/plant-script/GUIDE.md.gz
+usr/share/bash-completion/completions/plant_script usr/share/doc/plant-script/FORMATS.md usr/share/doc/plant-script/GLOSSARY.md
+usr/share/doc/plant-script/OPERATING.md usr/share/doc/plant-script/README.md usr/share/doc/plant-script/REPLICATION.md
+usr/share/doc/plant-script/RULES.md usr/share/doc/plant-script/MONITORING.md usr/share/doc/plant-script/SNAPSHOTS.md
+usr/share/doc/plant-script/CONNECT.md usr/share/doc/plant-script/RUNBOOK.md usr/share/doc/plant-script/SCOPE.md usr/share/doc/plant-script/build.txt usr/share/doc/plant-script/changelog.Debian.gz
+usr/share/doc/plant-script/changelog.gz usr/share/doc/plant-script/copyright usr/share/doc/plant-script/GUIDE.md
 usr/share/doc/plant-script/examples/realtime.conf usr/share/fish/vendor_completions.d/plant_script.fish
 usr/share/lintian/overrides/plant-script usr/share/man/man1/plant_script-serve.1.gz usr/share/man/man1/plant_script.1.gz
 usr/share/man/man5/plant.toml.5.gz usr/share/zsh/vendor-completions/_plant_script
 usr/lib/systemd/system/plant-metrics@.service usr/libexec/plant_script/pass_reasons usr/libexec/plant_script/watch_channel
 usr/libexec/plant_script/report_progress usr/libexec/plant_script/channel_group usr/libexec/plant_script/operator_group
 usr/libexec/plant_script/renumber_channel usr/lib/systemd/system/plant-renumber@.service usr/lib/systemd/system/plant-renumber@.timer
-usr/share/plant-script/alerts.yml usr/share/plant-script/dashboard.json usr/share/doc/plant-script/METRICS.md.gz
+usr/share/plant-script/alerts.yml usr/share/plant-script/dashboard.json usr/share/doc/plant-script/METRICS.md
 usr/lib/systemd/system/plant-bridge@.service usr/lib/systemd/system/plant-bridge@.socket usr/libexec/plant_script/plant_bridge
-usr/share/doc/plant-script/BRIDGE.md.gz usr/share/doc/plant-script/STANDBY.md.gz
+usr/share/doc/plant-script/BRIDGE.md usr/share/doc/plant-script/STANDBY.md
 usr/bin/describe_state usr/share/man/man1/describe_state.1.gz usr/bin/plant_view usr/share/man/man1/plant_view.1.gz usr/bin/dsx
 usr/share/man/man1/dsx.1.gz usr/lib/plant_script/tools/viewing/page.html""".split()
 # The tools and the examples that are packed are those of the repository.
@@ -50,6 +51,11 @@ LINKS = {f"usr/bin/{name}": f"../lib/plant_script/tools/{name}" for name in ("de
 LINKS |= {f"usr/libexec/plant_script/{name}": f"../../lib/plant_script/tools/{name}" for name in ("watch_channel", "renumber_channel", "plant_bridge")}
 MISSING = sorted({package for command, package in TOOL.COMMANDS.items() if not shutil.which(command)})
 VERSION = "0.1~20261124.0930.g"
+
+
+def without_compression(name):
+    """Returns the name of a packed file, of a page without .gz. Only long pages are compressed."""
+    return name.removesuffix(".gz") if name.endswith(".md.gz") else name
 
 
 class Place(unittest.TestCase):
@@ -119,7 +125,7 @@ class Version(Place):
         return TOOL.version_of(self.top, TOOL.Commit(self.top), is_proved, revision)
 
     def test_names_commit_time_and_what_is_not_as_it_should_be(self):
-        name = TOOL.git(self.top, "rev-parse", "HEAD")[:8]
+        name = packing.git(self.top, "rev-parse", "HEAD")[:8]
         self.assertEqual(self.version(), f"{VERSION}{name}-1")
         self.assertEqual(self.version(is_proved=False, revision=2), f"{VERSION}{name}+unproved-2")
         self.write("other")
@@ -152,7 +158,7 @@ class Package(unittest.TestCase):
         self.assertRegex(self.package.name, r"^plant-script_0\.1~\d{8}\.\d{4}\.g[0-9a-f]{8}(\+modified)?-1_amd64\.deb$")
         (self.top / "files.tar").write_bytes(subprocess.run(["dpkg-deb", "--fsys-tarfile", self.package], capture_output=True, check=True).stdout)
         with tarfile.open(self.top / "files.tar") as tar:
-            members = {entry.name.removeprefix("./"): entry for entry in tar if not entry.isdir() or entry.name == "./etc/plant_script"}
+            members = {without_compression(entry.name.removeprefix("./")): entry for entry in tar if not entry.isdir() or entry.name == "./etc/plant_script"}
             self.assertEqual(sorted(members), sorted(PACKED))
             self.assertEqual({name for name, entry in members.items() if entry.mode & 0o111 and entry.isfile()}, EXECUTABLE)
             self.assertEqual({name: entry.linkname for name, entry in members.items() if entry.issym()}, LINKS)
@@ -162,7 +168,8 @@ class Package(unittest.TestCase):
         self.assertRegex(self.tarball.name, r"^plant-script-0\.1~.*-1-amd64\.tar\.gz$")
         prefix = self.tarball.name.removesuffix("-amd64.tar.gz") + "/"
         with tarfile.open(self.tarball) as tar:
-            self.assertEqual(sorted(entry.name.removeprefix(prefix) for entry in tar if not entry.isdir()), sorted(name for name in PACKED if name != "etc/plant_script"))
+            names = [without_compression(entry.name.removeprefix(prefix)) for entry in tar if not entry.isdir()]
+            self.assertEqual(sorted(names), sorted(name for name in PACKED if name != "etc/plant_script"))
             self.assertEqual({(entry.uid, entry.gid) for entry in tar}, {(0, 0)})
 
     def test_build_txt_and_sums(self):

@@ -8,7 +8,7 @@ import unittest
 
 from tools import EXAMPLES
 from tools.compare import c_library
-from tools.compare.c_library import DONE, HEADER, NO_MEMORY, NONE_WAITS, RECEIVED, SHORT, Channel, names_of_codes
+from tools.compare.c_library import DONE, HEADER, NONE_WAITS, SHORT, Channel, names_of_codes
 from tools.reference.answers import reference_answer
 from tools.reference.plant import read_plant
 
@@ -150,71 +150,29 @@ class LibraryForC(unittest.TestCase):
         self.assertEqual([call() for call in calls], [2] * len(calls))
 
 
-CALLS = (("open", P2), ("perform", f"M {A1} {FIRST.hex()}"), ("perform", f"M {A1} 11000100"), ("perform", f"Q {A1} 257 5"),
-         ("perform", f"M {A1} {'7F' * 40}"), ("at", "tick", 0), ("at", "tick", 1), ("at", "collect", 0), ("at", "collect", 1),
-         ("reslice", 3, [(8, 30, 30), (40, 32, 32)]), ("save",), ("change", P2.replace(b"budget = 32", b"budget = 30", 1)), ("perform", f"M {A1} 150002000000000101"), ("perform", f"Q {A1} 257 3"))
 ROUNDS, TICKS = 4, 50
 
 
 @unittest.skipUnless(c_library.is_built(), NOT_BUILT)
 class Allocations(unittest.TestCase):
-    @classmethod
-    def setUpClass(cls):
-        folder = tempfile.TemporaryDirectory()
-        cls.addClassCleanup(folder.cleanup)
-        cls.library = c_library.build_counting(folder.name)
-
-    def call(self, channel, name, *words):
-        """Makes a call again while it is out of memory. Returns how often it was, and what it returned in the end."""
-        for failed in range(3):
-            found = getattr(channel, name)(*words)
-            code = found[0] if isinstance(found, tuple) else found
-            if code == RECEIVED:
-                return failed + 1, channel.at("work", 0)
-            if code != NO_MEMORY:
-                return failed, found
-        raise AssertionError(f"{name}: out of memory, although only one allocation fails")
-
-    def performed(self, number):
-        """Makes all calls while the allocation of a number fails. Returns how many calls it failed, and all that they returned."""
-        channel, failed, answers = Channel(self.library), 0, []
-        channel.names = ["A", "B"]
-        self.addCleanup(channel.close)
-        self.library.begin_allocations(number)
-        for call in CALLS:
-            more, answer = self.call(channel, *call)
-            failed += more
-            answers += [answer, *channel.lines()]
-        code, saved = channel.save()
-        if code == NO_MEMORY:
-            failed, (code, saved) = failed + 1, channel.save()
-        more, reopened = self.call(channel, "open_saved", saved)
-        return failed + more, [*answers, code, saved, reopened]
-
-    def test_a_call_that_is_out_of_memory_changes_nothing_and_succeeds_again(self):
-        failed, answers = self.performed(0)
-        count = self.library.allocations()
-        self.assertEqual((failed, answers[-1], count > 50), (0, DONE, True))
-        noticed = 0
-        for number in range(1, count + 1):
-            failed, found = self.performed(number)
-            self.assertEqual((found, failed <= 1), (answers, True), number)
-            noticed += failed
-        self.assertGreater(noticed, count // 2)
-
     def test_a_tick_allocates_nothing_once_its_like_was_done(self):
-        channel = Channel(self.library)
+        folder = tempfile.TemporaryDirectory()
+        self.addCleanup(folder.cleanup)
+        library = c_library.build_counting(folder.name)
+        channel = Channel(library)
         self.addCleanup(channel.close)
+        library.begin_counting()
         self.assertEqual(channel.open(P2), DONE)
+        self.assertGreater(library.allocations(), 0)
         channel.names = ["A", "B"]
         for line in (f"M {A1} {FIRST.hex()}", f"M {A1} 11000100", f"Q {A1} 257 5", *["T"] * ROUNDS):
             self.assertEqual(channel.perform(line), DONE)
             channel.lines()
-        self.library.begin_allocations(0)
+        library.begin_counting()
         for _ in range(TICKS):
             self.assertEqual(channel.perform("T"), DONE)
             self.assertEqual(len(channel.lines()), 3)
-        self.assertEqual(self.library.allocations(), 0)
+        self.assertEqual(library.allocations(), 0)
 
 
 if __name__ == "__main__":

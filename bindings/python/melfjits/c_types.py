@@ -1,9 +1,10 @@
 """The types and the calls of the header bindings/c/melfjits.h, for ctypes."""
 
 import ctypes
-import ctypes.util
 import functools
 import os
+
+SHARED_LIBRARY = "libmelfjits.so.0"  # with the number of the ABI that this package is for
 
 
 class Handle(ctypes.Structure):
@@ -67,11 +68,10 @@ CALLS = {
 def load_library(path=None):
     """Returns the shared library at a path, with the types of its calls.
 
-    Without a path it is that of the environment variable MELFJITS_LIBRARY, or else `libmelfjits.so` where the system looks for libraries.
-    Raises OSError if there is none.
+    Without a path it is that of the environment variable MELFJITS_LIBRARY, or else `libmelfjits.so.0` where the system looks for libraries,
+    as Debian's package libmelfjits0 has it. Raises OSError if there is none.
     """
-    found = path or os.environ.get("MELFJITS_LIBRARY") or ctypes.util.find_library("melfjits") or "libmelfjits.so"
-    library = ctypes.CDLL(os.fspath(found))
+    library = ctypes.CDLL(os.fspath(path or os.environ.get("MELFJITS_LIBRARY") or SHARED_LIBRARY))
     for name, arguments in CALLS.items():
         call = getattr(library, f"melfjits_{name}")
         call.argtypes, call.restype = (ctypes.POINTER(Handle), *arguments), ctypes.c_uint32

@@ -1,0 +1,1 @@
+"""Fuzzes the library for C."""

@@ -1,0 +1,1 @@
+"""Plans the slices of operators by the library for C."""
