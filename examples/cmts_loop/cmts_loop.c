@@ -31,7 +31,7 @@ static void fail(int status, const char *what, uint32_t code)
 {
     fprintf(stderr, "cmts_loop: %s", what);
     if (code)
-        fprintf(stderr, ": code %u of melfjits.h", code);
+        fprintf(stderr, ": %s", melfjits_text(code));
     fprintf(stderr, "\n");
     exit(status);
 }
