@@ -184,7 +184,8 @@ uint32_t melfjits_request(melfjits_channel *channel, const melfjits_modem *modem
 /* Handles the first of an operator's inbox, after MELFJITS_RECEIVED. */
 uint32_t melfjits_work(melfjits_channel *channel, size_t operator_at);
 
-/* Advances an operator's timers by a tick, and schedules its next frame. */
+/* Advances an operator's timers by a tick, and schedules its next frame. It allocates nothing if no
+ * output waits and nothing is sent again, once an earlier frame was as large. */
 uint32_t melfjits_tick(melfjits_channel *channel, size_t operator_at);
 
 /* Puts an operator's oldest frame into the assembly; the last part of a frame completes its MAP. */

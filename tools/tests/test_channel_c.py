@@ -155,7 +155,7 @@ ROUNDS, TICKS = 4, 50
 
 @unittest.skipUnless(c_library.is_built(), NOT_BUILT)
 class Allocations(unittest.TestCase):
-    def test_a_tick_allocates_nothing_once_its_like_was_done(self):
+    def test_a_tick_allocates_nothing_where_no_output_waits(self):
         folder = tempfile.TemporaryDirectory()
         self.addCleanup(folder.cleanup)
         library = c_library.build_counting(folder.name)
@@ -169,10 +169,12 @@ class Allocations(unittest.TestCase):
             self.assertEqual(channel.perform(line), DONE)
             channel.lines()
         library.begin_counting()
+        made = []
         for _ in range(TICKS):
-            self.assertEqual(channel.perform("T"), DONE)
-            self.assertEqual(len(channel.lines()), 3)
-        self.assertEqual(library.allocations(), 0)
+            for name, place in (("tick", 0), ("collect", 0), ("tick", 1), ("collect", 1)):
+                self.assertEqual(channel.at(name, place), DONE)
+                made += channel.lines()
+        self.assertEqual((len(made), library.allocations()), (3 * TICKS, 0))
 
 
 if __name__ == "__main__":

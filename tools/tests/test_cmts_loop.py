@@ -82,7 +82,7 @@ class Program(unittest.TestCase):
     def test_says_what_is_wrong(self):
         arrivals = FOLDER / "arrivals.list"
         self.assertEqual(self.run_program(), (2, [], "cmts_loop: usage: cmts_loop PLANT ARRIVALS FRAMES\n"))
-        self.assertEqual(self.run_program(arrivals, arrivals, "1"), (1, [], "cmts_loop: the plant file is refused: code 10 of melfjits.h\n"))
+        self.assertEqual(self.run_program(arrivals, arrivals, "1"), (1, [], "cmts_loop: the plant file is refused: the plant file is not TOML\n"))
 
 
 if __name__ == "__main__":
