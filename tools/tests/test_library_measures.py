@@ -103,17 +103,17 @@ class Memory(unittest.TestCase):
                     return end.code
 
     def test_growth_is_noticed(self):
-        self.assertIsNone(self.measured(["1 100", "2 164", "3 150"]))
-        self.assertEqual(self.measured(["1 100", "2 150", "3 165"]), "the memory has grown by 65 KB")
+        self.assertIsNone(self.measured(["1 100", "2 200", "3 264"]))
+        self.assertEqual(self.measured(["1 100", "2 100", "3 165"]), "the memory has grown by 65 KB in the second half")
         self.assertRegex(self.measured(["1 100", "2 100"], 1), "ended with status 1 after 2 rows")
         self.assertRegex(self.measured(["1 100"]), "after 1 rows")
 
     @unittest.skipUnless(c_library.is_built(), NOT_BUILT)
     def test_the_memory_is_measured(self):
-        words = [ROOT / "tools/measure/library_memory", "--hours", "0.001", "--every", "0.9"]
+        words = [ROOT / "tools/measure/library_memory", "--hours", "0.1", "--every", "90"]
         done = subprocess.run(words, capture_output=True, text=True, check=False)
         self.assertEqual((done.returncode, done.stderr), (0, ""))
-        self.assertEqual(re.findall(r"^\| 0\.00 \| ([\d,]+) \|", done.stdout, re.MULTILINE), ["450", "900", "1,350", "1,800"])
+        self.assertEqual(re.findall(r"^\| [\d.]+ \| ([\d,]+) \|", done.stdout, re.MULTILINE), ["45,000", "90,000", "135,000", "180,000"])
 
 
 if __name__ == "__main__":
