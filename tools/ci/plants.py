@@ -1,4 +1,4 @@
-"""Lists the wrong bodies that a crate's contracts let through, as `rt plant` does, with holes in place of the crate's proofs.
+"""Lists the wrong bodies that a crate's contracts let through, as `rt plant` does: with holes in place of the crate's proofs.
 
     tools/ci/plants [--libraries FOLDER] CRATE [--only WORD] [--max N] [--minutes N] [--all]
 

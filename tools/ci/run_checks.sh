@@ -1,7 +1,8 @@
 #!/bin/bash
 # Runs all checks of the repository but the proofs. Each prints what is wrong and ends this script.
 #
-#   - clauses, documents, lists of crates, pages of crates, doc comments, examples, and the texts and the number of must-fail edits
+#   - clauses, documents, lists of crates and of commands, pages of crates, doc comments, examples, and the texts and the number of must-fail
+#     edits
 #   - the cases of tests/, by the second implementation, and by the program if it is built
 #   - the generator: a seed gives the same case twice, and tools/compare/handwritten_inputs reaches each check of the rules
 #   - the program, if it is built: compared with the second implementation by each command, and the exit statuses and messages;
@@ -20,7 +21,7 @@ trap 'rm -rf "$work"' EXIT
 
 # Runs a command, and prints its output if it fails.
 quietly() {
-    "$@" >"$work/output" 2>&1 || { cat "$work/output" >&2; echo "failed: ${1#"$tools/"}" >&2; exit 1; }
+    "$@" >"$work/output" 2>&1 || { cat "$work/output" >&2; echo "failed: ${*#"$tools/"}" >&2; exit 1; }
 }
 
 # No clause has a line over 160 columns.
@@ -30,6 +31,7 @@ quietly "$tools/ci/crate_lists" --check
 quietly "$tools/reference_pages" --check
 quietly "$tools/ci/doc_comments"
 quietly "$tools/ci/edits" --check
+quietly "$tools/run" ci/commands --check
 # --version prints the version of CHANGELOG.md, and from the script plant_script also the kit that built the program.
 version=$(sed -n 's/^## \([0-9.]*\) .*/\1/p' "$tools/../CHANGELOG.md" | head -n 1)
 for option in --version -V; do

@@ -1,4 +1,4 @@
-"""Compares the program with the second implementation on cut and changed messages, and checks that the other operator is not affected.
+"""Compares the program with the second implementation on cut and changed messages. Checks that the other operator is not affected.
 
     tools/compare/crafted_messages [PROGRAM]
 

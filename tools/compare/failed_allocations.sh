@@ -1,6 +1,6 @@
 #!/bin/bash
-# Fails each allocation of the built program in turn (tools/compare/fail_each_allocation.sh), on the inputs of
-# tools/compare/handwritten_inputs, which reach every command and every step. A program that has the command `threads` runs the inputs of
+# Fails each allocation of the built program in turn on many inputs: those of tools/compare/handwritten_inputs, which reach every command
+# and every step. It calls tools/compare/fail_each_allocation.sh for each. A program that has the command `threads` runs the inputs of
 # `run` by it too. Prints a table: input, arguments, allocations, how many failures ended with status 5, after how many the output was
 # the right one, and how many runs were wrong (none may be). With --short it runs a few short inputs by `run` and `threads` alone: CI does
 # this.

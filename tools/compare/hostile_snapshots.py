@@ -1,4 +1,4 @@
-"""Gives spoiled snapshots to the built program, and judges each answer by rules of docs/FORMATS.md and by the second implementation.
+"""Gives spoiled snapshots to the built program, and judges each answer: by rules of docs/FORMATS.md and by the second implementation.
 
     tools/compare/hostile_snapshots FIRST COUNT --program PATH     the texts FIRST to FIRST + COUNT - 1
     tools/compare/hostile_snapshots FIRST COUNT                    the same by the second implementation alone

@@ -1,5 +1,5 @@
 #!/bin/bash
-# Measures what `run` costs on generated inputs, in instructions that valgrind's callgrind counts, and prints two tables, from which
+# Measures what `run` costs on generated inputs, in instructions that valgrind's callgrind counts. Prints two tables, from which
 # docs/PERFORMANCE.md says how cost grows: whole inputs (a script of 20,000 lines on 8 operators, half of it, and 10 and 110 ticks of one operator with 1,024 flows),
 # and single things, each from two inputs of which one has more of them. Last, the bytes of memory of a line of history.
 # Usage: tools/measure/cost.sh [PROGRAM]   Needs bash, python3, valgrind and GNU time.

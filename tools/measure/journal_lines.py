@@ -1,4 +1,4 @@
-"""Measures how many lines a second `serve --state` answers, compared with `serve` and with plain appends to a file of the same disk.
+"""Measures how many lines a second `serve --state` processes: compared with `serve` and with plain appends to a file of the same disk.
 
     tools/measure/journal_lines [--lines N] [--single N] [--folder FOLDER] [PROGRAM ..]
 

@@ -1,4 +1,4 @@
-"""Measures how long `serve` takes to answer a line, from before the line is written into a pipe until its answer is read from another.
+"""Measures how long `serve` takes to answer a line: from before the line is written into a pipe until its answer is read from another.
 
     tools/measure/latency [--fast] [PROGRAM [LINES]]
 

@@ -1,5 +1,5 @@
-"""Measures the seconds that `resume` takes to read a snapshot, to write one and to change the plant, five runs each in turn, and prints a table with
-the machine's load.
+"""Measures the seconds that `resume` takes to read a snapshot, to write one and to change the plant: five runs each in turn.
+Prints a table with the machine's load.
 
     tools/measure/snapshots [--program PROGRAM]
 

@@ -857,7 +857,7 @@ class Edits(unittest.TestCase):
 
     def is_noticed(self, case, test, module, old, new):
         with tempfile.TemporaryDirectory() as folder:
-            for name in ("__init__.py", "bridging", "reference", "watching", "plant_bridge"):
+            for name in ("__init__.py", "bridging", "reference", "watching", "run", "commands.txt"):
                 copy = shutil.copytree if (ROOT / "tools" / name).is_dir() else shutil.copy
                 (pathlib.Path(folder) / "tools").mkdir(exist_ok=True)
                 copy(ROOT / "tools" / name, pathlib.Path(folder, "tools", name))
