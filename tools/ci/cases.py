@@ -1,6 +1,6 @@
 """Runs the cases of tests/ with the second implementation, if it has the command, and with the program, if it is built.
 
-    tools/ci/cases [PROGRAM]     Prints each case that differs, with what was printed and what is expected; exits with 1 if one differs.
+    tools/run ci/cases [PROGRAM]     Prints each case that differs, with what was printed and what is expected; exits with 1 if one differs.
 
 A case is a command with its input, and the status and the output that it must give. CONTRIBUTING.md says how to write one.
 """

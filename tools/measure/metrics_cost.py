@@ -1,8 +1,8 @@
-"""Measures how much of a processor `tools/watch_channel` takes for a channel of 32 operators.
+"""Measures how much of a processor `tools/run watch_channel` takes for a channel of 32 operators.
 
-    tools/measure/metrics_cost [--seconds N] [--frames N] [--load quiet|busy] [--tool WORD ..] [--program FILE]
+    tools/run measure/metrics_cost [--seconds N] [--frames N] [--load quiet|busy] [--tool WORD ..] [--program FILE]
 
-The second implementation serves the plant of tools/measure/latency: 32 operators with 80 flows each, four messages or requests to a tick. Its
+The second implementation serves the plant of tools/run measure/latency: 32 operators with 80 flows each, four messages or requests to a tick. Its
 answers and its journal are then written again and again, so many frames a second (500), into files that the command follows. With --load busy
 each operator's frame has six elements with other lengths each time, which is nearly all that a MAP has room for.
 

@@ -1,7 +1,7 @@
 """Builds the Debian package of the proved program, and a tarball with the same files.
 
-    tools/build_package [--revision N] [--output FOLDER] [--proof-log FILE]
-    tools/build_package --unproved PROGRAM ..      packs another program, for a trial of the package
+    tools/run build_package [--revision N] [--output FOLDER] [--proof-log FILE]
+    tools/run build_package --unproved PROGRAM ..      packs another program, for a trial of the package
 
 The proved program is crates/plant_program/out/plant_program, as ./prove or .ci/run builds it. If it is missing, or older than one of its
 sources, nothing is built. A package of --unproved has +unproved in its version, and one of files that are not committed has +modified.
@@ -27,6 +27,8 @@ import tempfile
 from tools import ROOT
 from tools.manual.pages import VERSION
 
+from .packed_commands import write_commands
+
 PACKAGE = "plant-script"
 PROGRAM = "crates/plant_program/out/plant_program"
 PROVE_LOG = "crates/plant_program/out/prove.log"
@@ -35,10 +37,9 @@ MAINTAINER = re.compile(r"^Maintainer: (.*)$", re.MULTILINE)
 FILES = {"packaging/debian": "debian", "packaging/systemd": "systemd", "packaging/completions": "completions",
          "packaging/serve_channel": "serve_channel", "packaging/tick_channel": "tick_channel", "packaging/pass_reasons": "pass_reasons",
          "packaging/report_progress": "report_progress", "packaging/channel_group": "channel_group", "packaging/prometheus": "prometheus",
-         "packaging/operator_group": "operator_group", "tools/bridging": "tools/bridging", "tools/plant_bridge": "tools/plant_bridge",
+         "packaging/operator_group": "operator_group", "tools/bridging": "tools/bridging",
          "tools/reference": "tools/reference", "tools/watching": "tools/watching", "tools/__init__.py": "tools/__init__.py",
-         "tools/describe_state": "tools/describe_state", "tools/watch_channel": "tools/watch_channel", "tools/renumber_channel": "tools/renumber_channel",
-         "tools/viewing": "tools/viewing", "tools/messages": "tools/messages", "tools/plant_view": "tools/plant_view", "tools/dsx": "tools/dsx",
+         "tools/viewing": "tools/viewing", "tools/messages": "tools/messages",
          "docs": "docs", "examples": "examples", "README.md": "README.md", "CHANGELOG.md": "CHANGELOG.md"}
 COMMANDS = {"git": "git", "dpkg-buildpackage": "dpkg-dev", "dh": "debhelper"}
 
@@ -136,6 +137,7 @@ def proof_log(root, asked, program):
 
 
 def copy_files(root, program, folder):
+    write_commands(folder / "tools")
     for source, target in FILES.items():
         if (root / source).is_dir():
             shutil.copytree(root / source, folder / target, ignore=shutil.ignore_patterns("__pycache__", ".gitignore"))

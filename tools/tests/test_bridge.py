@@ -134,7 +134,7 @@ class Bridge(unittest.TestCase):
     def start_bridge(self, words=None, **environment):
         words = ["plant.toml", "in", "control.sock", "operators"] if words is None else words
         environment = {"PATH": PATH, "ANSWERS": str(self.answers), **environment}
-        self.bridge = self.start(TOP["tools"] / "tools/plant_bridge", *words, cwd=self.folder, env=environment)
+        self.bridge = self.start(TOP["tools"] / "tools/run", "plant_bridge", *words, cwd=self.folder, env=environment)
         return self.bridge
 
     def wait_for_sockets(self):
@@ -608,7 +608,7 @@ class Sockets(Bridge):
             os.dup2(made.fileno(), 3)
             os.environ["LISTEN_PID"] = str(os.getpid())
 
-        words = ["sh", "-c", 'LISTEN_PID=$$ exec "$@"', "sh", TOP["tools"] / "tools/plant_bridge", "plant.toml", "in", "passed.sock", "operators"]
+        words = ["sh", "-c", 'LISTEN_PID=$$ exec "$@"', "sh", TOP["tools"] / "tools/run", "plant_bridge", "plant.toml", "in", "passed.sock", "operators"]
         self.start(*words, cwd=self.folder, env={"PATH": PATH, "ANSWERS": str(self.answers), "LISTEN_FDS": "1"}, preexec_fn=pass_on, pass_fds=[3])
         owner = self.client("passed.sock")
         owner.write("T")

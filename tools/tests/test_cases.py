@@ -1,4 +1,4 @@
-"""Tests tools/ci/cases against what CONTRIBUTING.md says of the cases: its worked case, its tables of lines, and what each line means.
+"""Tests tools/run ci/cases against what CONTRIBUTING.md says of the cases: its worked case, its tables of lines, and what each line means.
 """
 
 import pathlib

@@ -1,4 +1,4 @@
-"""Runs the short trials of replicated channels, with RabbitMQ, where it is installed. tools/ci/replication_trials does the long ones."""
+"""Runs the short trials of replicated channels, with RabbitMQ, where it is installed. tools/run ci/replication_trials does the long ones."""
 
 import os
 import shutil

@@ -469,7 +469,7 @@ class Process(unittest.TestCase):
 
     def start(self, **environment):
         environment = {**os.environ, "ANSWERS": str(self.answers), "METRICS": str(self.folder), "PLANT_SCRIPT": "/nowhere", "METRICS_SECONDS": "0.5", **environment}
-        process = subprocess.Popen([ROOT / "tools/watch_channel", "east", "plant.toml", "in"], cwd=self.folder, env=environment, stderr=subprocess.PIPE, text=True)
+        process = subprocess.Popen([ROOT / "tools/run", "watch_channel", "east", "plant.toml", "in"], cwd=self.folder, env=environment, stderr=subprocess.PIPE, text=True)
         for done in (process.stderr.close, process.wait, process.terminate):
             self.addCleanup(done)
         wait_until(lambda: self.file.exists() or process.poll() is not None)
