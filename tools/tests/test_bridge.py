@@ -274,7 +274,7 @@ class Lines(Bridge):
         self.assertEqual(client.read(), [f"6 {reason}"])
         self.assertLess(self.memory() - before, 4_000_000)
 
-    def test_a_client_that_comes_again_begins_with_line_1(self):
+    def test_a_client_that_comes_again_counts_its_lines_anew(self):
         for _ in range(12):
             client = self.client("A")
             client.write("", f"M {ONE} {ADD}")
@@ -798,7 +798,7 @@ EDITS = [
     (Lines, "half_a_line_spoils_nothing_else", "connections", 'self.refuse(Refused("unfinished", "the line has no LF"))', 'self.take(self.splitter.rest)'),
     (Lines, "a_line_that_is_too_long_is_refused", "lines", "len(line) >= MOST_LINE else", "len(line) > MOST_LINE else"),
     (Lines, "a_line_that_is_too_long_is_refused", "lines", "self.is_too_long = self.is_too_long or len(rest) >= MOST_LINE", "self.is_too_long = False"),
-    (Lines, "a_client_that_comes_again_begins_with_line_1", "bridge", "        self.connections[connection.operator].remove(connection)\n", ""),
+    (Lines, "a_client_that_comes_again_counts_its_lines_anew", "bridge", "        self.connections[connection.operator].remove(connection)\n", ""),
     (Lines, "there_are_only_so_many_connections", "bridge", "if len(here) + leaving > MOST_CONNECTIONS:", "if False:"),
     (Lines, "a_client_that_only_reads_from_now_on_gets_its_answers", "connections", "        return True\n\n    # Lines", "        return False\n\n    # Lines"),
     (Lines, "a_client_that_only_reads_from_now_on_gets_its_answers", "connections", "return any(event", "return False and any(event"),

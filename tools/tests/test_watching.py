@@ -373,7 +373,7 @@ class Requests(unittest.TestCase):
         requests.answered(is_refused=True)
         self.assertEqual(self.asked(requests, 49, 50), [50])
 
-    def test_never_with_a_period_of_0(self):
+    def test_without_a_period_it_never_asks(self):
         self.assertEqual(self.asked(SnapshotRequests(self.pipe, 0, 0), 0, 100), [])
 
     def test_a_full_pipe_and_a_missing_one_are_not_waited_for(self):
