@@ -1,4 +1,4 @@
-# Completion of plant_script. tools/completions writes this file from the help of the program; do not edit it.
+# Completion of plant_script. tools/run completions writes this file from the help of the program; do not edit it.
 _plant_script() {
     local command='' words='' at
     local word=${COMP_WORDS[COMP_CWORD]} before=${COMP_WORDS[COMP_CWORD - 1]}

@@ -1,4 +1,4 @@
-# Completion of plant_script. tools/completions writes this file from the help of the program; do not edit it.
+# Completion of plant_script. tools/run completions writes this file from the help of the program; do not edit it.
 complete -c plant_script -f
 complete -c plant_script -n '__fish_use_subcommand' -l input -r -F -d 'Read FILE in place of standard input'
 complete -c plant_script -n '__fish_use_subcommand' -l json -d 'Write a JSON object for each line of the output'

@@ -1,6 +1,6 @@
 """Runs the cases of tests/ with the second implementation, if it has the command, and with the program, if it is built.
 
-    tools/ci/cases [PROGRAM]     Prints each case that differs, with what was printed and what is expected; exits with 1 if one differs.
+    tools/run ci/cases [PROGRAM]     Prints each case that differs, with what was printed and what is expected; exits with 1 if one differs.
 
 A case is a command with its input, and the status and the output that it must give. CONTRIBUTING.md says how to write one.
 """
@@ -23,6 +23,8 @@ PLANT = (EXAMPLES / "plant_p2.toml").read_text()
 EXPECTED = {"=": ("output", "", "\n"), "x": ("digits", "", ""), "check": ("checks", "  check ", "\n"), "!": ("errors", "", "\n")}
 OPTIONS = ("--input", "--json", "--strict", "--version", "-V", "--state", "--snapshot-every")
 SPELLED = {b"r": b"\r", b"t": b"\t"}
+# A row of a table: what `check` prints, the name of the case if it has one of its own, and the changes of the plant file.
+ROW = re.compile(r"\+ (ok|plant [^~]*?)(?: \((.*?)\))? ~ (.*)")
 # A number that is counted up, by how much where that is not 1, and how it is written.
 COUNTED = re.compile(r"\{([0-9]+)(?:\+([0-9]+))?(?::([0-9a-zA-Z]+))?\}")
 
@@ -47,13 +49,41 @@ class Case:
 def cases_of(path):
     """Returns the cases of a file. Its first line says how many they are, and no two have the same name."""
     first, *texts = re.split("^# ", path.read_text(encoding="utf-8"), flags=re.MULTILINE)
-    cases = [case_of(f"{path.name}: {name}", lines) for name, *lines in (text.split("\n") for text in texts)]
+    cases = [case for name, *lines in (text.split("\n") for text in texts) for case in cases_in(f"{path.name}: {name}", lines)]
     found = re.match("([0-9]+) cases: ", first)
     if found is None or int(found[1]) != len(cases):
         sys.exit(f"{path.name} has {len(cases)} cases, and begins with {first.strip()!r}")
     if len({case.name for case in cases}) != len(cases):
         sys.exit(f"{path.name} has two cases of one name")
     return cases
+
+
+def cases_in(name, lines):
+    """Returns the case of these lines, or of a table the case of each row."""
+    rows = [line for line in lines if line and not line.startswith("//")]
+    return [case_of_row(name, row) for row in rows] if rows and rows[0].startswith("+ ") else [case_of(name, lines)]
+
+
+def case_of_row(table, row):
+    """Returns the case of a row of a table: what `check` prints for a changed plant file. Its name is that of the row, or what is changed."""
+    found = ROW.fullmatch(row)
+    if found is None:
+        sys.exit(f"{table}: {row!r} is no row of a table")
+    result, name, changes = found[1], found[2], found[3].split(" ~ ")
+    name = f"{table}: {name or ', '.join(line for change in changes for line in added_lines(change))}"
+    expected = ["0 check", "= ok"] if result == "ok" else ["3 check", f"= fault: {result}"]
+    return case_of(name, [*(f"~ {change}" for change in changes), *expected])
+
+
+def added_lines(change):
+    """Returns the lines of the new text of a change that its old text does not have."""
+    old, _, new = parts_of(change)
+    return [line for line in new.split("|") if line and line not in old.split("|")]
+
+
+def parts_of(change):
+    """Returns the old text of a change, its sign, and its new text."""
+    return re.split(r" (\*?>) ", change, maxsplit=1)
 
 
 def case_of(name, lines):
@@ -112,7 +142,7 @@ def take_input(case, sign, text):
 
 def changed(plant, change):
     """Returns the plant with a change."""
-    old, sign, new = re.split(r" (\*?>) ", change.replace("|", "\n"), maxsplit=1)
+    old, sign, new = parts_of(change.replace("|", "\n"))
     found = re.search(pattern_of(old), plant, re.DOTALL)
     if found is None:
         sys.exit(f"the plant has no {old!r} to change")

@@ -12,5 +12,5 @@ PYTHONPATH=$top python3 -P -m tools.ci.check_examples "$@"
 isolation=$top/examples/isolation
 of_a() { grep -E '^([RS] 02000000000[12]|F A) ' "$1"; }
 cmp <(of_a "$isolation/run_flood.out") <(of_a "$isolation/run_alone.out")
-"$top/tools/plant_view" --plant "$isolation/run_flood.txt" --svg "A next to a flood of B=$isolation/run_flood.out" \
+"$top/tools/run" plant_view --plant "$isolation/run_flood.txt" --svg "A next to a flood of B=$isolation/run_flood.out" \
     "A alone=$isolation/run_alone.out" | cmp - "$top/docs/isolation.svg"

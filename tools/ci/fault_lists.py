@@ -1,6 +1,6 @@
 """Checks the faults that `check` lists on standard error, on plant files with random changes. Exits with 1 where a list is wrong.
 
-    tools/ci/fault_lists [FIRST [COUNT [PROGRAM]]]     numbers FIRST to FIRST + COUNT - 1, by default 0 and 200
+    tools/run ci/fault_lists [FIRST [COUNT [PROGRAM]]]     numbers FIRST to FIRST + COUNT - 1, by default 0 and 200
 
 Each number makes a file from examples/every_key with one to three changed keys. The list is right if
 

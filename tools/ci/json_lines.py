@@ -1,6 +1,6 @@
 """Compares the output of --json with the plain output, on each case of tests/ under check, run, trace and serve.
 
-    tools/ci/json_lines [PROGRAM]     Prints each difference; exits with 1 if there is one.
+    tools/run ci/json_lines [PROGRAM]     Prints each difference; exits with 1 if there is one.
 
 Each line of the plain output must have one object, in its order. Its member `text` must be the line, and the line that is made again
 of the other members must be the same. Statuses and standard error must be the same. The outputs of run, of trace and of serve must

@@ -1,6 +1,6 @@
-"""Lists the wrong bodies that a crate's contracts let through, as `rt plant` does, with holes in place of the crate's proofs.
+"""Lists the wrong bodies that a crate's contracts let through, as `rt plant` does: with holes in place of the crate's proofs.
 
-    tools/ci/plants [--libraries FOLDER] CRATE [--only WORD] [--max N] [--minutes N] [--all]
+    tools/run ci/plants [--libraries FOLDER] CRATE [--only WORD] [--max N] [--minutes N] [--all]
 
 All crates below have to be built: run `rt ci` first, or name a folder of crates where it was run. `rt plant` itself proves a crate and all
 crates below from their sources before it begins, which does not end on large crates. Here the real functions are left unproved: a wrong

@@ -1,9 +1,10 @@
 #!/bin/bash
 # Runs all checks of the repository but the proofs. Each prints what is wrong and ends this script.
 #
-#   - clauses, documents, lists of crates, pages of crates, doc comments, examples, and the texts and the number of must-fail edits
+#   - clauses, documents, lists of crates and of commands, pages of crates, doc comments, examples, and the texts and the number of must-fail
+#     edits
 #   - the cases of tests/, by the second implementation, and by the program if it is built
-#   - the generator: a seed gives the same case twice, and tools/compare/handwritten_inputs reaches each check of the rules
+#   - the generator: a seed gives the same case twice, and tools/run compare/handwritten_inputs reaches each check of the rules
 #   - the program, if it is built: compared with the second implementation by each command, and the exit statuses and messages;
 #     the completions for shells, compared with its help; served behind a socket if socat is installed; its captures read by tshark if
 #     that is installed; killed, with a folder for its state, if gcc is installed; and with each allocation of a few inputs failed in turn
@@ -20,16 +21,17 @@ trap 'rm -rf "$work"' EXIT
 
 # Runs a command, and prints its output if it fails.
 quietly() {
-    "$@" >"$work/output" 2>&1 || { cat "$work/output" >&2; echo "failed: ${1#"$tools/"}" >&2; exit 1; }
+    "$@" >"$work/output" 2>&1 || { cat "$work/output" >&2; echo "failed: ${*#"$tools/"}" >&2; exit 1; }
 }
 
 # No clause has a line over 160 columns.
-"$tools/ci/clause_widths" --most 0 || { "$tools/ci/clause_widths" --list >&2; exit 1; }
-quietly "$tools/ci/check_prose"
-quietly "$tools/ci/crate_lists" --check
-quietly "$tools/reference_pages" --check
-quietly "$tools/ci/doc_comments"
+"$tools/run" ci/clause_widths --most 0 || { "$tools/run" ci/clause_widths --list >&2; exit 1; }
+quietly "$tools/run" ci/check_prose
+quietly "$tools/run" ci/crate_lists --check
+quietly "$tools/run" reference_pages --check
+quietly "$tools/run" ci/doc_comments
 quietly "$tools/ci/edits" --check
+quietly "$tools/run" ci/commands --check
 # --version prints the version of CHANGELOG.md, and from the script plant_script also the kit that built the program.
 version=$(sed -n 's/^## \([0-9.]*\) .*/\1/p' "$tools/../CHANGELOG.md" | head -n 1)
 for option in --version -V; do
@@ -40,51 +42,51 @@ for option in --version -V; do
     }
 done
 quietly "$tools/ci/examples.sh"
-quietly "$tools/ci/cases"
-if "$tools/ci/cases" "$(type -P true)" >"$work/output"; then
-    echo 'tools/ci/cases does not notice a program that prints nothing' >&2
+quietly "$tools/run" ci/cases
+if "$tools/run" ci/cases "$(type -P true)" >"$work/output"; then
+    echo 'tools/run ci/cases does not notice a program that prints nothing' >&2
     exit 1
 fi
 [ "$(python3 "$tools/reference" check <"$tools/../examples/plant_p2.toml")" = ok ]
 
 for seed in 1 71 1011; do
-    "$tools/compare/generate_case" "$seed" >"$work/once"
-    PYTHONHASHSEED=$seed "$tools/compare/generate_case" "$seed" | cmp - "$work/once"
+    "$tools/run" compare/generate_case "$seed" >"$work/once"
+    PYTHONHASHSEED=$seed "$tools/run" compare/generate_case "$seed" | cmp - "$work/once"
 done
-"$tools/compare/handwritten_inputs" --met >"$work/met"
+"$tools/run" compare/handwritten_inputs --met >"$work/met"
 for check in DSA\ {1..9} DSA\ {13,14,15,17,18,19,20,21,22} DSC\ {1..16} DSC\ {19..22} DSD\ {1,2,3,10,11,12,22}; do
-    grep -q " ${check/ / check }\(:\|$\)" "$work/met" || { echo "tools/compare/handwritten_inputs does not reach $check" >&2; exit 1; }
+    grep -q " ${check/ / check }\(:\|$\)" "$work/met" || { echo "tools/run compare/handwritten_inputs does not reach $check" >&2; exit 1; }
 done
-quietly "$tools/compare/resumed_cases" 0 10
-quietly "$tools/compare/changed_cases" 0 25
-quietly "$tools/compare/renumbered_cases" 0 25
-quietly "$tools/compare/continued_cases" 0 50
-quietly "$tools/compare/hostile_snapshots" 0 2000
+quietly "$tools/run" compare/resumed_cases 0 10
+quietly "$tools/run" compare/changed_cases 0 25
+quietly "$tools/run" compare/renumbered_cases 0 25
+quietly "$tools/run" compare/continued_cases 0 50
+quietly "$tools/run" compare/hostile_snapshots 0 2000
 echo 'the second implementation agrees with the documents, and the generator with itself'
 
 if [ -x "$program" ]; then
-    "$tools/compare/generated_cases" 0 50
-    "$tools/compare/generated_cases" --threads 0 50
-    "$tools/compare/generated_cases" --capture 0 50
-    "$tools/compare/generated_cases" --trace 0 50
-    "$tools/compare/resumed_cases" 0 25 --program "$program"
-    "$tools/compare/changed_cases" 0 50 --program "$program"
-    "$tools/compare/renumbered_cases" 0 50 --program "$program"
-    "$tools/compare/continued_cases" 0 100 --program "$program"
-    "$tools/compare/hostile_snapshots" 0 1000 --program "$program"
-    quietly "$tools/compare/threads_as_run"
-    quietly "$tools/compare/handwritten_inputs" --compare
-    quietly "$tools/compare/odd_spellings"
+    "$tools/run" compare/generated_cases 0 50
+    "$tools/run" compare/generated_cases --threads 0 50
+    "$tools/run" compare/generated_cases --capture 0 50
+    "$tools/run" compare/generated_cases --trace 0 50
+    "$tools/run" compare/resumed_cases 0 25 --program "$program"
+    "$tools/run" compare/changed_cases 0 50 --program "$program"
+    "$tools/run" compare/renumbered_cases 0 50 --program "$program"
+    "$tools/run" compare/continued_cases 0 100 --program "$program"
+    "$tools/run" compare/hostile_snapshots 0 1000 --program "$program"
+    quietly "$tools/run" compare/threads_as_run
+    quietly "$tools/run" compare/handwritten_inputs --compare
+    quietly "$tools/run" compare/odd_spellings
     quietly "$tools/ci/statuses.sh"
-    quietly "$tools/compare/serve_as_run"
-    quietly "$tools/measure/latency" --fast "$program" 2000
-    quietly "$tools/ci/reasons"
-    quietly "$tools/ci/fault_lists" 0 25
-    quietly "$tools/completions" --check
-    quietly "$tools/ci/json_lines"
+    quietly "$tools/run" compare/serve_as_run
+    quietly "$tools/run" measure/latency --fast "$program" 2000
+    quietly "$tools/run" ci/reasons
+    quietly "$tools/run" ci/fault_lists 0 25
+    quietly "$tools/run" completions --check
+    quietly "$tools/run" ci/json_lines
     echo 'the program agrees with the second implementation'
     if command -v socat >/dev/null; then
-        quietly "$tools/compare/serve_behind_socat"
+        quietly "$tools/run" compare/serve_behind_socat
         echo 'a plant behind a socket, also one restored from its record, answers as run'
     else
         echo 'socat is not installed: no plant was served behind a socket'
@@ -94,7 +96,7 @@ if [ -x "$program" ]; then
     if [ $status = 2 ]; then
         echo 'the program has no option --state: no service with a folder was tried'
     elif command -v gcc >/dev/null; then
-        quietly "$tools/ci/crash_trials" --times 20 --step 10 --kinds kill,beginning,fail,power,limit,cut,change,two,both
+        quietly "$tools/run" ci/crash_trials --times 20 --step 10 --kinds kill,beginning,fail,power,limit,cut,change,two,both
         echo 'a service with a folder loses no answered line when it is killed, its calls fail or the power is lost'
     else
         echo 'gcc is not installed: no service with a folder was tried'
@@ -106,7 +108,7 @@ if [ -x "$program" ]; then
         echo 'gcc is not installed: no allocation of the program failed'
     fi
     if command -v tshark >/dev/null; then
-        quietly "$tools/compare/captures_in_tshark"
+        quietly "$tools/run" compare/captures_in_tshark
         echo 'tshark reads the captures of the examples as run prints them'
     else
         echo 'tshark is not installed: nothing has read the captures'

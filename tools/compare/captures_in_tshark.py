@@ -1,6 +1,6 @@
 """Compares what tshark reads in captures with what `run` prints, for each example that has a plant and a script.
 
-    tools/compare/captures_in_tshark [PROGRAM]     Needs python3 and tshark (Debian: apt-get install tshark).
+    tools/run compare/captures_in_tshark [PROGRAM]     Needs python3 and tshark (Debian: apt-get install tshark).
 
 tshark has to read a packet for each message of a modem, each reply and each MAP. Each has the right check of its header, and none of the
 CMTS's is malformed. Each has the sender, receiver, type, transaction ID and confirmation code of the script and of the lines of `run`. A

@@ -1,7 +1,7 @@
 """Changes the plant of generated scripts at random lines, and compares what an operator observes whose row stays as it is.
 
-    tools/compare/changed_cases FIRST COUNT                    the seeds FIRST to FIRST + COUNT - 1, by the second implementation alone
-    tools/compare/changed_cases FIRST COUNT --program PATH     the same by a built program, compared with the second implementation
+    tools/run compare/changed_cases FIRST COUNT                    the seeds FIRST to FIRST + COUNT - 1, by the second implementation alone
+    tools/run compare/changed_cases FIRST COUNT --program PATH     the same by a built program, compared with the second implementation
 
 For each seed that has a valid plant file and a script, one operator is watched. Plant files after lines `P` change the rows of others at
 random: their modems, limits, ranges and policies, which operators there are, and their order. They add classes, and give them another

@@ -1,8 +1,8 @@
 """Restarts the plant of short generated scripts at random lines, changes it for others and gives its frames other numbers.
 
-    tools/compare/continued_cases FIRST COUNT                    the seeds FIRST to FIRST + COUNT - 1, by the second implementation alone
-    tools/compare/continued_cases FIRST COUNT --program PATH     the same by a built program, compared with the second implementation
-    tools/compare/continued_cases FIRST COUNT .. --workers N     the same in N processes, in place of 1
+    tools/run compare/continued_cases FIRST COUNT                    the seeds FIRST to FIRST + COUNT - 1, by the second implementation alone
+    tools/run compare/continued_cases FIRST COUNT --program PATH     the same by a built program, compared with the second implementation
+    tools/run compare/continued_cases FIRST COUNT .. --workers N     the same in N processes, in place of 1
 
 Each seed is a plant of 1 to 4 operators and a script of about 10 to 60 lines, which follows the state of the plant. At random places of the
 script, each at least once:

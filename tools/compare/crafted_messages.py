@@ -1,6 +1,6 @@
-"""Compares the program with the second implementation on cut and changed messages, and checks that the other operator is not affected.
+"""Compares the program with the second implementation on cut and changed messages. Checks that the other operator is not affected.
 
-    tools/compare/crafted_messages [PROGRAM]
+    tools/run compare/crafted_messages [PROGRAM]
 
 Each run has one message to operator A of the plant of two operators, while a modem of B has a flow and sends a bandwidth request. The
 messages are every prefix of a message of each kind and every small change: every other value of every byte of a DSA-REQ, every single bit

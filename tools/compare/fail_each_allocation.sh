@@ -1,5 +1,5 @@
 #!/bin/bash
-# Fails the first, second, third .. allocation of the built program, each in a run of its own, until a run makes fewer allocations.
+# Fails each allocation of the built program in turn on one input: the first, the second and so on, until a run makes fewer allocations.
 # Each run has to print what the run without a failure prints (the route cache, for one, does without an entry). Or it has to end with
 # status 5, and print `fault: memory` last, or nothing if the arguments themselves found no memory. A run that has not ended after 60
 # seconds is wrong. Prints how many runs there were of each kind.

@@ -1,6 +1,6 @@
 #!/bin/bash
-# Fails each allocation of the built program in turn (tools/compare/fail_each_allocation.sh), on the inputs of
-# tools/compare/handwritten_inputs, which reach every command and every step. A program that has the command `threads` runs the inputs of
+# Fails each allocation of the built program in turn on many inputs: those of tools/run compare/handwritten_inputs, which reach every command
+# and every step. It calls tools/compare/fail_each_allocation.sh for each. A program that has the command `threads` runs the inputs of
 # `run` by it too. Prints a table: input, arguments, allocations, how many failures ended with status 5, after how many the output was
 # the right one, and how many runs were wrong (none may be). With --short it runs a few short inputs by `run` and `threads` alone: CI does
 # this.
@@ -36,7 +36,7 @@ fail_each() {
 }
 
 threads=
-"$here/handwritten_inputs" frames >"$work/input"
+"$here/../run" compare/handwritten_inputs frames >"$work/input"
 if "$program" threads <"$work/input" >"$work/out"; then threads=yes; fi
 if [ "$short" != ' ' ] && [ ! "$threads" ]; then
     echo "$program has no command threads" >&2
@@ -47,11 +47,11 @@ fi
 printf "$row" input arguments allocations 'status 5' right wrong
 while read -r name words; do
     if [ "$short" != ' ' ] && [[ $short != *" $name "* || $words != run ]]; then continue; fi
-    "$here/handwritten_inputs" "$name" >"$work/input"
+    "$here/../run" compare/handwritten_inputs "$name" >"$work/input"
     read -ra words <<<"$words"
     fail_each "$name" "${words[@]}"
     if [ "$threads" ] && [ "${words[0]}" = run ]; then fail_each "$name" threads; fi
-done < <("$here/handwritten_inputs")
+done < <("$here/../run" compare/handwritten_inputs)
 # shellcheck disable=SC2059
 printf "$row" "$inputs inputs" '' "$allocations" "$memory" "$right" "$wrong"
 [ "$wrong" = 0 ] && [ "$memory" -gt 0 ]

@@ -1,6 +1,6 @@
 """Fails each allocation of `resume` in turn, on an input that changes the plant, and checks what is answered.
 
-    tools/compare/failed_changes [PROGRAM]     Needs gcc; takes less than 10 seconds.
+    tools/run compare/failed_changes [PROGRAM]     Needs gcc; takes less than 10 seconds.
 
 In the first run the first allocation fails, in the second run the second, up to the last. Each run is one of these:
 

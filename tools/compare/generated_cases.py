@@ -1,10 +1,10 @@
 """Compares the built program with the second implementation on generated cases.
 
-    tools/compare/generated_cases FIRST COUNT [PROGRAM]    the cases of the seeds FIRST to FIRST + COUNT - 1, in two processes
-    tools/compare/generated_cases --shrink SEED [PROGRAM]  shrinks the case of one seed
-    tools/compare/generated_cases --threads FIRST COUNT [PROGRAM]   the same cases, with `threads` in place of `run`
-    tools/compare/generated_cases --capture FIRST COUNT [PROGRAM]   the same, with `capture`
-    tools/compare/generated_cases --trace FIRST COUNT [PROGRAM]     the same, with `trace`: the lines of checks and faults are compared
+    tools/run compare/generated_cases FIRST COUNT [PROGRAM]    the cases of the seeds FIRST to FIRST + COUNT - 1, in two processes
+    tools/run compare/generated_cases --shrink SEED [PROGRAM]  shrinks the case of one seed
+    tools/run compare/generated_cases --threads FIRST COUNT [PROGRAM]   the same cases, with `threads` in place of `run`
+    tools/run compare/generated_cases --capture FIRST COUNT [PROGRAM]   the same, with `capture`
+    tools/run compare/generated_cases --trace FIRST COUNT [PROGRAM]     the same, with `trace`: the lines of checks and faults are compared
 
 Output and exit status are compared whole. Prints how many cases agree, by command and status. If a case differs, it shrinks the one with
 the lowest seed: it leaves out lines, tables and keys while the two still differ. It prints that case with both answers, and exits with 1.

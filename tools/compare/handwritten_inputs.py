@@ -1,9 +1,9 @@
 """Writes named inputs that reach every command and every step of the program: written by hand, a few lines each.
 
-    tools/compare/handwritten_inputs            the names, each with the arguments it is for
-    tools/compare/handwritten_inputs NAME       the input of this name
-    tools/compare/handwritten_inputs --met      what the second implementation reached in all of them, and how often
-    tools/compare/handwritten_inputs --compare [PROGRAM]    compares the built program with the second implementation on all of them
+    tools/run compare/handwritten_inputs            the names, each with the arguments it is for
+    tools/run compare/handwritten_inputs NAME       the input of this name
+    tools/run compare/handwritten_inputs --met      what the second implementation reached in all of them, and how often
+    tools/run compare/handwritten_inputs --compare [PROGRAM]    compares the built program with the second implementation on all of them
 
 tools/compare/failed_allocations.sh runs the program on them.
 """

@@ -1,10 +1,10 @@
-"""Gives spoiled snapshots to the built program, and judges each answer by rules of docs/FORMATS.md and by the second implementation.
+"""Gives spoiled snapshots to the built program, and judges each answer: by rules of docs/FORMATS.md and by the second implementation.
 
-    tools/compare/hostile_snapshots FIRST COUNT --program PATH     the texts FIRST to FIRST + COUNT - 1
-    tools/compare/hostile_snapshots FIRST COUNT                    the same by the second implementation alone
-    tools/compare/hostile_snapshots .. --workers N                 in N processes, in place of 2
-    tools/compare/hostile_snapshots .. --compared N                compares each N-th text with the second implementation, in place of all
-    tools/compare/hostile_snapshots --show N                       prints text N
+    tools/run compare/hostile_snapshots FIRST COUNT --program PATH     the texts FIRST to FIRST + COUNT - 1
+    tools/run compare/hostile_snapshots FIRST COUNT                    the same by the second implementation alone
+    tools/run compare/hostile_snapshots .. --workers N                 in N processes, in place of 2
+    tools/run compare/hostile_snapshots .. --compared N                compares each N-th text with the second implementation, in place of all
+    tools/run compare/hostile_snapshots --show N                       prints text N
 
 A hundred texts are made of one snapshot, which is that of a small generated plant after a generated script. Messages and requests are put
 into its inboxes. Bits, bytes, numbers and fields are changed, and lines and operators are cut, swapped and repeated

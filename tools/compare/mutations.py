@@ -1,6 +1,6 @@
 """Edits the second implementation, one rule at a time, and reports at which seed a generated case first notices each edit.
 
-    tools/compare/mutations COUNT      the seeds 0 to COUNT - 1; 2,000 take about a minute and a half
+    tools/run compare/mutations COUNT      the seeds 0 to COUNT - 1; 2,000 take about a minute and a half
 
 A case notices an edit if the edited implementation prints something else. Exits with 1 if no case notices an edit.
 """

@@ -1,6 +1,6 @@
 """Compares the program with the second implementation on odd spellings of TOML, hexadecimal, the line `---` and arguments.
 
-    tools/compare/odd_spellings [PROGRAM]
+    tools/run compare/odd_spellings [PROGRAM]
 
 The generator seldom writes these. Prints how many there are and each that differs; exits with 1 if one does.
 

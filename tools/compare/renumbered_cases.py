@@ -1,7 +1,7 @@
-"""Gives frames other numbers at random lines of generated scripts, and compares the output with that of the scripts without them.
+"""Gives frames other numbers at random lines of generated scripts. Compares the output with that of the scripts without them.
 
-    tools/compare/renumbered_cases FIRST COUNT                    the seeds FIRST to FIRST + COUNT - 1, by the second implementation alone
-    tools/compare/renumbered_cases FIRST COUNT --program PATH     the same by a built program, compared with the second implementation
+    tools/run compare/renumbered_cases FIRST COUNT                    the seeds FIRST to FIRST + COUNT - 1, by the second implementation alone
+    tools/run compare/renumbered_cases FIRST COUNT --program PATH     the same by a built program, compared with the second implementation
 
 For each seed that has a valid plant file and a script, lines `N` come at random places. Most have a number that keeps the Alloc Start Time.
 Lines `Z` after them count by the new numbers. Then:

@@ -1,8 +1,8 @@
 """Cuts generated scripts at a random line, and compares what a plant outputs with what it outputs if it is resumed there.
 
-    tools/compare/resumed_cases FIRST COUNT                    the seeds FIRST to FIRST + COUNT - 1, by the second implementation alone
-    tools/compare/resumed_cases FIRST COUNT --program PATH     the same by a built program, compared with the second implementation
-    tools/compare/resumed_cases FIRST COUNT .. --spoiled N     with N spoiled snapshots of each script, in place of 20
+    tools/run compare/resumed_cases FIRST COUNT                    the seeds FIRST to FIRST + COUNT - 1, by the second implementation alone
+    tools/run compare/resumed_cases FIRST COUNT --program PATH     the same by a built program, compared with the second implementation
+    tools/run compare/resumed_cases FIRST COUNT .. --spoiled N     with N spoiled snapshots of each script, in place of 20
 
 For each seed that has a valid plant file and a script:
 

@@ -1,6 +1,6 @@
 """Compares `serve` with `run` on each example that has a plant and a script.
 
-    tools/compare/serve_as_run [PROGRAM]
+    tools/run compare/serve_as_run [PROGRAM]
 
 `serve` has to print what `run` prints, and to continue after an invalid line. Then each valid script gets invalid lines between its
 lines: `serve` has to print the same, and one line more for each of them, with its number. Last, the lines are written one at a time

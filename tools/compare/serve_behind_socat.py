@@ -1,6 +1,6 @@
 """Compares the answers of plants that are served behind a Unix socket with what `run` prints for the same lines.
 
-    tools/compare/serve_behind_socat [PROGRAM]     Needs bash, socat, flock and ps; takes less than 20 seconds.
+    tools/run compare/serve_behind_socat [PROGRAM]     Needs bash, socat, flock and ps; takes less than 20 seconds.
 
 examples/serving/serve_plant.sh serves each plant in a folder of its own. The lines are compared in the order in which they arrived:
 

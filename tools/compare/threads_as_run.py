@@ -1,6 +1,6 @@
 """Compares `threads` with `run` on each example that has a plant and a script.
 
-    tools/compare/threads_as_run [PROGRAM]
+    tools/run compare/threads_as_run [PROGRAM]
 
 `threads` has to print the same lines of each operator in the same order, and the same MAPs. If `run` ends with an error line, `threads`
 has to print that line alone. One script of 2,000 lines on 8 operators is run a hundred times. Prints a line for each input; exits with 1

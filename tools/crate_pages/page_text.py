@@ -10,7 +10,7 @@ from .crate_items import TYPES
 WIDTH = 100
 # A clause without a comment is shown by its text if that has at most so many columns.
 WIDEST_CLAUSE = 100
-MARK = "<!-- Written by tools/reference_pages from the sources. Do not edit. -->"
+MARK = "<!-- Written by tools/run reference_pages from the sources. Do not edit. -->"
 ITEM = re.compile(r"[-*] |\d+\. ")
 SPAN = re.compile("`[^`]*`")
 # Of each folder of edits, when they are tried.

@@ -1,8 +1,8 @@
 """Writes docs/reference: a page for each crate of crates.txt, from its sources alone, and a list of the pages.
 
-    tools/reference_pages                    writes the pages, and removes those of crates that are gone
-    tools/reference_pages --check            compares the pages with the sources, and exits with 1 if one differs
-    tools/reference_pages --root FOLDER ..   does the same in another folder
+    tools/run reference_pages                    writes the pages, and removes those of crates that are gone
+    tools/run reference_pages --check            compares the pages with the sources, and exits with 1 if one differs
+    tools/run reference_pages --root FOLDER ..   does the same in another folder
 
 A page has what the crate makes public: its types, traits, functions and constants with their signatures, doc comments and clauses, its laws,
 its definitions, and its edits that must fail. A clause is shown by the comment `//` above it. Without one it is shown by its text if that has
@@ -120,13 +120,13 @@ def differences(root, pages):
     for name, text in sorted(pages.items()):
         path = root / FOLDER / name
         if not path.exists():
-            found.append(f"{FOLDER}/{name} is not there; tools/reference_pages writes it")
+            found.append(f"{FOLDER}/{name} is not there; tools/run reference_pages writes it")
         elif (there := path.read_text()) != text:
             line = first_difference(there.splitlines(), text.splitlines())
-            found.append(f"{FOLDER}/{name} differs from the sources in line {line}; tools/reference_pages writes it anew")
+            found.append(f"{FOLDER}/{name} differs from the sources in line {line}; tools/run reference_pages writes it anew")
     for path in sorted((root / FOLDER).glob("*")):
         if path.name not in pages:
-            found.append(f"{FOLDER}/{path.name} is a page of no crate; tools/reference_pages removes it")
+            found.append(f"{FOLDER}/{path.name} is a page of no crate; tools/run reference_pages removes it")
     return found
 
 
@@ -145,7 +145,7 @@ def write(root, pages):
     for path in sorted(folder.glob("*")):
         if path.name not in pages:
             if MARK not in path.read_text():
-                raise WrongSource(f"{FOLDER}/{path.name} is not written by tools/reference_pages; move it to another folder")
+                raise WrongSource(f"{FOLDER}/{path.name} is not written by tools/run reference_pages; move it to another folder")
             path.unlink()
 
 

@@ -1,6 +1,6 @@
 """Tries a service with a folder (`serve --state`): kills it, lets calls fail, takes the power away, and damages its journal.
 
-    tools/ci/crash_trials [--times N] [--kinds KIND,..] [--seed N] [--step N] [--keep FOLDER] [PROGRAM ..]
+    tools/run ci/crash_trials [--times N] [--kinds KIND,..] [--seed N] [--step N] [--keep FOLDER] [PROGRAM ..]
 
 PROGRAM is the program with its first arguments, or the built program. Without one, the second implementation is tried. In each trial the
 program is given lines, and what it prints is compared with what `serve` prints for all lines in one run that is not interrupted. Each kind

@@ -1,11 +1,11 @@
 """Writes the generated case of a seed: the arguments and the input of the program.
 
-    tools/compare/generate_case SEED              prints the input
-    tools/compare/generate_case --words SEED      prints the arguments, separated by blanks
-    tools/compare/generate_case --met FIRST COUNT runs the second implementation on so many cases, and prints how often it reached what,
+    tools/run compare/generate_case SEED              prints the input
+    tools/run compare/generate_case --words SEED      prints the arguments, separated by blanks
+    tools/run compare/generate_case --met FIRST COUNT runs the second implementation on so many cases, and prints how often it reached what,
                                                   the rarest first
 
-The same seed gives the same case. tools/compare/generated_cases uses `case`.
+The same seed gives the same case. tools/run compare/generated_cases uses `case`.
 """
 
 import random

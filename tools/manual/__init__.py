@@ -1,1 +1,1 @@
-"""Makes the manual pages of tools/man_pages from the help texts and the documents."""
+"""Makes the manual pages of tools/run man_pages from the help texts and the documents."""

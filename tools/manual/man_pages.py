@@ -1,8 +1,8 @@
 """Builds the manual pages docs/man: plant_script.1, plant_script-serve.1, plant.toml.5, describe_state.1, plant_view.1 and dsx.1.
 
-    tools/man_pages              builds the pages; it needs pandoc
-    tools/man_pages --check      tests whether the pages are those of the sources, and exits with 1 if one is not
-    tools/man_pages --markdown NAME      prints a page as pandoc reads it
+    tools/run man_pages              builds the pages; it needs pandoc
+    tools/run man_pages --check      tests whether the pages are those of the sources, and exits with 1 if one is not
+    tools/run man_pages --markdown NAME      prints a page as pandoc reads it
 
 The sources are the table of commands and the help texts in crates/command_line/src, docs/FORMATS.md, docs/OPERATING.md, docs/MONITORING.md,
 README.md, CHANGELOG.md and examples/plant_p2.toml. tools/manual/pages/ says what a page takes from them.
@@ -32,7 +32,7 @@ WIDEST_CODE = 66
 INDENTATION = "    "
 ESCAPE = re.compile(r"\\(?:\[\w+\]|.)")
 COMMAND_LINE = re.compile(r"\(|cp |describe_state|plant_script|sed |systemctl|tools/|\./")
-HEAD = re.compile(r'\.\\" Built by tools/man_pages with pandoc (\S+)\. Do not edit\.\n\.\\" Read: (\w+)\n\.\\" Wrote: (\w+)\n')
+HEAD = re.compile(r'\.\\" Built by tools/run man_pages with pandoc (\S+)\. Do not edit\.\n\.\\" Read: (\w+)\n\.\\" Wrote: (\w+)\n')
 
 
 def sum_of(text):
@@ -58,7 +58,7 @@ def built(root, name, version):
     if done.returncode:
         raise NoPage(f"{name}: pandoc ended with {done.returncode}: {done.stderr}")
     body = title_of(root, name) + cleaned(done.stdout)
-    head = f'.\\" Built by tools/man_pages with pandoc {version}. Do not edit.\n.\\" Read: {sum_of(read_of(root, name))}\n.\\" Wrote: {sum_of(body)}\n'
+    head = f'.\\" Built by tools/run man_pages with pandoc {version}. Do not edit.\n.\\" Read: {sum_of(read_of(root, name))}\n.\\" Wrote: {sum_of(body)}\n'
     return head + body
 
 
@@ -97,7 +97,7 @@ def difference(root, name):
     page = path.read_text()
     head = HEAD.search(page)
     if head is None:
-        return "has no head of tools/man_pages"
+        return "has no head of tools/run man_pages"
     version, read, wrote = head.groups()
     if wrote != sum_of(page[:head.start()] + page[head.end():]):
         return "was changed by hand"
@@ -113,7 +113,7 @@ def check(root):
     found = {name: difference(root, name) for name in NAMES}
     for name, what in found.items():
         if what:
-            print(f"{FOLDER}/{name} {what}; tools/man_pages builds it")
+            print(f"{FOLDER}/{name} {what}; tools/run man_pages builds it")
     return sum(what is not None for what in found.values())
 
 

@@ -1,6 +1,6 @@
 """Measures what plant_bridge adds to the time of an answer, and how many lines a second it passes on.
 
-    tools/measure/bridge [--echo] [--single N] [--lines N] [PROGRAM ..]
+    tools/run measure/bridge [--echo] [--single N] [--lines N] [PROGRAM ..]
 
 A channel runs packaging/serve_channel with PROGRAM, or with the proved program if it is built, otherwise with the second implementation. With
 --echo, a process that answers each line at once takes its place, so that nearly all of the time is that of the bridge. Each line is the same
@@ -73,7 +73,7 @@ class Place:
         (self.folder / "program").write_text(f'#!/bin/sh\nexec {" ".join(self.program)} "$@"\n')
         (self.folder / "program").chmod(0o755)
         self.pipe = os.open(self.folder / "in", os.O_RDWR)
-        self.start([ROOT / "tools/plant_bridge", "plant.toml", "in", "control.sock", "operators"])
+        self.start([ROOT / "tools/run", "plant_bridge", "plant.toml", "in", "control.sock", "operators"])
         if self.program:
             self.start([ROOT / "packaging/serve_channel", "plant.toml"], stdin=self.pipe)
         else:

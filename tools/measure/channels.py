@@ -1,6 +1,6 @@
 """Measures how long many channels on one machine take to answer a line T, the frame of all operators.
 
-    tools/measure/channels [--channels N[,N..]] [--seconds N] [--state FOLDER] [--writers N] [--plant FILE] [PROGRAM]
+    tools/run measure/channels [--channels N[,N..]] [--seconds N] [--state FOLDER] [--writers N] [--plant FILE] [PROGRAM]
 
 Each channel is a process of `serve`, and with --state one of `serve --state` with a folder of its own in FOLDER, on the disk that is
 measured. A line T comes each frame (frame_us of the plant file, 2 ms by default), whether or not the one before is answered. The channels

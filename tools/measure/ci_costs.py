@@ -1,6 +1,6 @@
 """Runs a command that proves crates, and prints what each crate took of the processors: its proof, its tests and its must-fail edits.
 
-    tools/measure/ci_costs [COMMAND ..]
+    tools/run measure/ci_costs [COMMAND ..]
 
 The command is `rt ci` if none is given, and runs where this one is started. All checks of the machine are counted, so let no others run.
 Prints processor seconds of each crate, the dearest first; then the dearest checks of edits, and what all took by the clock and by the

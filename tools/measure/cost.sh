@@ -1,5 +1,5 @@
 #!/bin/bash
-# Measures what `run` costs on generated inputs, in instructions that valgrind's callgrind counts, and prints two tables, from which
+# Measures what `run` costs on generated inputs, in instructions that valgrind's callgrind counts. Prints two tables, from which
 # docs/PERFORMANCE.md says how cost grows: whole inputs (a script of 20,000 lines on 8 operators, half of it, and 10 and 110 ticks of one operator with 1,024 flows),
 # and single things, each from two inputs of which one has more of them. Last, the bytes of memory of a line of history.
 # Usage: tools/measure/cost.sh [PROGRAM]   Needs bash, python3, valgrind and GNU time.
@@ -13,11 +13,11 @@ instructions() {
     valgrind --tool=callgrind --callgrind-out-file=/dev/null "$program" run <"$1" 2>&1 >/dev/null | awk '/Collected/ {print $4}'
 }
 
-"$here/large_script" operators >"$work/20,000 lines, 8 operators"
+"$here/../run" measure/large_script operators >"$work/20,000 lines, 8 operators"
 awk '/^---$/ {behind = 1; print; next} behind {if (++lines <= 10000) print; next} {print}' \
     "$work/20,000 lines, 8 operators" >"$work/10,000 lines, 8 operators"
-"$here/large_script" flows 10 >"$work/10 ticks, 1,024 flows"
-"$here/large_script" flows 110 >"$work/110 ticks, 1,024 flows"
+"$here/../run" measure/large_script flows 10 >"$work/10 ticks, 1,024 flows"
+"$here/../run" measure/large_script flows 110 >"$work/110 ticks, 1,024 flows"
 echo '| input | millions of instructions |'
 echo '|---|---|'
 for input in "$work"/*; do
@@ -26,8 +26,8 @@ done
 
 # each MODE SMALL LARGE MORE: the thousands of instructions of one of the MORE things that the large input has beyond the small one
 each() {
-    "$here/large_script" $1 >"$work/small"
-    "$here/large_script" $2 >"$work/large"
+    "$here/../run" measure/large_script $1 >"$work/small"
+    "$here/../run" measure/large_script $2 >"$work/large"
     awk -v small="$(instructions "$work/small")" -v large="$(instructions "$work/large")" -v more="$3" \
         'BEGIN {printf "%.1f", (large - small) / more / 1000}'
 }
@@ -52,8 +52,8 @@ memory() {
     awk '{print 1024 * $1}' "$work/memory"
 }
 
-"$here/large_script" standing 10 2000 >"$work/small"
-"$here/large_script" standing 10 4000 >"$work/large"
+"$here/../run" measure/large_script standing 10 2000 >"$work/small"
+"$here/../run" measure/large_script standing 10 4000 >"$work/large"
 echo
 awk -v small="$(memory "$work/small")" -v large="$(memory "$work/large")" -v few="$(wc -l <"$work/small")" -v many="$(wc -l <"$work/large")" \
     'BEGIN {printf "bytes of memory for each line of a history: %d\n", (large - small) / (many - few)}'

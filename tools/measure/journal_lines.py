@@ -1,6 +1,6 @@
-"""Measures how many lines a second `serve --state` answers, compared with `serve` and with plain appends to a file of the same disk.
+"""Measures how many lines a second `serve --state` processes: compared with `serve` and with plain appends to a file of the same disk.
 
-    tools/measure/journal_lines [--lines N] [--single N] [--folder FOLDER] [PROGRAM ..]
+    tools/run measure/journal_lines [--lines N] [--single N] [--folder FOLDER] [PROGRAM ..]
 
 Each line is the same request, which gets the cached response. They are given all at once, so that the program reads as many as it can, and one
 at a time, each after the answer to the one before. The appends add the same line to a file, each with as many fdatasync as it says: a batch of

@@ -1,9 +1,9 @@
 """Writes large inputs of `run`, with which the program is measured.
 
-    tools/measure/large_script operators [OPERATORS]
-    tools/measure/large_script flows TICKS [FLOWS]
-    tools/measure/large_script standing FLOWS ROUNDS
-    tools/measure/large_script maps OPERATORS FLOWS TICKS
+    tools/run measure/large_script operators [OPERATORS]
+    tools/run measure/large_script flows TICKS [FLOWS]
+    tools/run measure/large_script standing FLOWS ROUNDS
+    tools/run measure/large_script maps OPERATORS FLOWS TICKS
 
 `operators` has OPERATORS operators (8 by default, at most 32) with 16 modems each, and a script of 20,000 lines, about one megabyte. Each
 modem adds a flow, then sends bandwidth requests and changes the flow in turn. All frames are ticked after each round. The operators share

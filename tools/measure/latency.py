@@ -1,6 +1,6 @@
-"""Measures how long `serve` takes to answer a line, from before the line is written into a pipe until its answer is read from another.
+"""Measures how long `serve` takes to answer a line: from before the line is written into a pipe until its answer is read from another.
 
-    tools/measure/latency [--fast] [PROGRAM [LINES]]
+    tools/run measure/latency [--fast] [PROGRAM [LINES]]
 
 Prints the median, the 99.9th percentile and the worst in microseconds, of messages and of ticks, with the machine and its load.
 

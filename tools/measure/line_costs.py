@@ -1,9 +1,9 @@
 """Measures what a line costs `serve`, whatever else the machine does: instructions, allocations and system calls.
 
-    tools/measure/line_costs [PROGRAM [LINES]]
+    tools/run measure/line_costs [PROGRAM [LINES]]
 
 Prints for each kind of line the median and the most of instructions and of allocations, and the system calls of a line, and then the
-dearest line. The plant and the lines are those of tools/measure/latency; 3,200 lines, the default, are ten lives of a flow of each of 32
+dearest line. The plant and the lines are those of tools/run measure/latency; 3,200 lines, the default, are ten lives of a flow of each of 32
 operators, and take some minutes. Each line is written when the one before is answered, so the program reads each by itself. A message
 without a reply is written together with an invalid line, whose cost is in its own row: take it off.
 

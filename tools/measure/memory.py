@@ -1,6 +1,6 @@
 """Measures the memory of `serve` by the numbers of modems and of service flows, and what one of each takes.
 
-    tools/measure/memory [PROGRAM]
+    tools/run measure/memory [PROGRAM]
 
 The plant has 32 operators. Each modem has so many provisioned flows. Two frames are given out, and then the input ends. Prints the greatest
 resident memory of each process, and what it grows by for each modem and each flow. The table of cached responses has its whole size from

@@ -1,8 +1,8 @@
-"""Measures how much of a processor `tools/watch_channel` takes for a channel of 32 operators.
+"""Measures how much of a processor `tools/run watch_channel` takes for a channel of 32 operators.
 
-    tools/measure/metrics_cost [--seconds N] [--frames N] [--load quiet|busy] [--tool FILE] [--program FILE]
+    tools/run measure/metrics_cost [--seconds N] [--frames N] [--load quiet|busy] [--tool WORD ..] [--program FILE]
 
-The second implementation serves the plant of tools/measure/latency: 32 operators with 80 flows each, four messages or requests to a tick. Its
+The second implementation serves the plant of tools/run measure/latency: 32 operators with 80 flows each, four messages or requests to a tick. Its
 answers and its journal are then written again and again, so many frames a second (500), into files that the command follows. With --load busy
 each operator's frame has six elements with other lengths each time, which is nearly all that a MAP has room for.
 
@@ -121,7 +121,7 @@ def maps_counted(path):
 
 def measured_share(tool, folder, environment, writer, seconds):
     """Returns the share of a processor, how many frames a second were written, what part of their MAPs was counted, and the memory in KB."""
-    words, path = [tool, "east", folder / "plant.toml", folder / "in"], folder / "melfjits_east.prom"
+    words, path = [*tool, "east", folder / "plant.toml", folder / "in"], folder / "melfjits_east.prom"
     with subprocess.Popen(words, env=environment) as process:
         while not path.exists():
             time.sleep(WAKE_SECONDS)
@@ -168,7 +168,7 @@ def main():
     ask.add_argument("--seconds", type=int, default=30, help="how long it measures (30)")
     ask.add_argument("--frames", type=int, default=500, help="frames a second (500)")
     ask.add_argument("--load", choices=("quiet", "busy"), default="quiet", help="what the frames have")
-    ask.add_argument("--tool", default=ROOT / "tools/watch_channel", help="the command, such as that of another checkout")
+    ask.add_argument("--tool", nargs="+", default=[ROOT / "tools/run", "watch_channel"], metavar="WORD", help="the command, such as that of another checkout")
     ask.add_argument("--program", help="the program that computes states")
     asked = ask.parse_args()
     with tempfile.TemporaryDirectory() as folder:

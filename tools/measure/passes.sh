@@ -1,5 +1,5 @@
 #!/bin/bash
-# Measures how many calls a second 1, 2, 4 and 8 threads make on a cell of passes, and on a book behind a lock, and prints the table of
+# Measures how many calls a second 1, 2, 4 and 8 threads make on a cell of passes, and on a book behind a lock. Prints the table of
 # docs/PERFORMANCE.md: the best of RUNS runs, 10 by default. Each run makes 48,000 calls on each: an arrival, work and a tick in turn.
 # Usage: tools/measure/passes.sh [RUNS]   Needs bash, awk, and `rt test` in crates/test_threads.
 set -euo pipefail

@@ -1,6 +1,6 @@
 """Measures how long a channel with a folder takes for a reload: another plant file while it runs.
 
-    tools/measure/reload [--operators N] [--modems N] [--reloads N] [--folder FOLDER] [PROGRAM]
+    tools/run measure/reload [--operators N] [--modems N] [--reloads N] [--folder FOLDER] [PROGRAM]
 
 The channel is packaging/serve_channel, as the unit runs it, with a folder in FOLDER, on the disk that is measured. Each modem has a flow. Each
 reload adds a modem or removes it again. It takes from before the call until `serve_channel --change` returns. The gap takes from the last

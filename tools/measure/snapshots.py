@@ -1,7 +1,7 @@
-"""Measures the seconds that `resume` takes to read a snapshot, to write one and to change the plant, five runs each in turn, and prints a table with
-the machine's load.
+"""Measures the seconds that `resume` takes to read a snapshot, to write one and to change the plant: five runs each in turn.
+Prints a table with the machine's load.
 
-    tools/measure/snapshots [--program PROGRAM]
+    tools/run measure/snapshots [--program PROGRAM]
 
 A snapshot has 32 operators or fewer, each with 16 modems, so many flows and 256 cached responses. A run that ends after the snapshot reads it,
 and one with a line `K` writes it too. The snapshot that is written has to be the one that was read. The time of a start with the plant file

@@ -1,6 +1,6 @@
 """Measures the seconds of `threads` and of `run`, five runs each in turn, and prints a table with the machine's load.
 
-    tools/measure/threads [--program PROGRAM] [INPUT ..]
+    tools/run measure/threads [--program PROGRAM] [INPUT ..]
 
 Without INPUT it measures 20,000 lines on 2, 8 and 32 operators, and 110 ticks of one operator with 1,024 flows. The load of a row is
 the system's average of the last minute, taken before its runs: what else the machine did then. `taskset -c 0,1` in front measures on two

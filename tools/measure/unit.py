@@ -8,7 +8,7 @@ starts it: the same command line, variables and limits, a pipe of the same size,
 A client writes a line T each 2 ms, whether or not the one before is answered. In the middle of each fourth frame it writes a line of a modem of
 the first operator, in turn DSA-REQ, DSA-ACK, a bandwidth request, DSC-REQ and so on. A quiet neighbour writes nothing. A flooding one is a modem
 of the second operator, for which as many lines a second are written (--flood), twice in a frame, right before the client's lines: so these wait
-for them. They request all minislots, add flows without an acknowledgement, and are malformed. Each operator has 80 flows (tools/measure/latency).
+for them. They request all minislots, add flows without an acknowledgement, and are malformed. Each operator has 80 flows (tools/run measure/latency).
 
 Prints a row for each number of channels and of operators, with both neighbours: of the ticks, until the MAP is read, and of the requests with a
 reply, how many there were, and the median, the 99th percentile and the worst in microseconds. Besides, how late the latest line was written, and

@@ -1,7 +1,7 @@
 """Writes the completions for bash, zsh and fish in packaging/completions from the help of the program.
 
-    tools/completions [PROGRAM]              writes the files
-    tools/completions --check [PROGRAM]      tests whether they are what the help lists, and exits with 1 if one is not
+    tools/run completions [PROGRAM]              writes the files
+    tools/run completions --check [PROGRAM]      tests whether they are what the help lists, and exits with 1 if one is not
 
 PROGRAM is the built program, or the one that is given. The commands, options and operands are those that `PROGRAM --help` and
 `PROGRAM COMMAND --help` list.
@@ -107,7 +107,7 @@ def read_program(program):
 
 
 def first_lines(mark="#"):
-    return f"{mark} Completion of {NAME}. tools/completions writes this file from the help of the program; do not edit it.\n"
+    return f"{mark} Completion of {NAME}. tools/run completions writes this file from the help of the program; do not edit it.\n"
 
 
 def spellings_of(options):
@@ -200,7 +200,7 @@ def check(root, read):
         path = root / FOLDER / name
         if not path.exists() or path.read_text() != written(*read):
             wrong.append(name)
-            print(f"{FOLDER}/{name} is not what the help lists; tools/completions writes it")
+            print(f"{FOLDER}/{name} is not what the help lists; tools/run completions writes it")
     return len(wrong)
 
 

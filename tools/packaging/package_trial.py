@@ -2,7 +2,7 @@
 
     tools/ci/package_trial PACKAGE.deb [--base FOLDER] [--keep] [--only TRIAL ..]
 
-PACKAGE.deb is what tools/build_package built; the tarball must be next to it. The newer package of the upgrade is the same one with a
+PACKAGE.deb is what tools/run build_package built; the tarball must be next to it. The newer package of the upgrade is the same one with a
 later version. FOLDER is a Debian system that debootstrap filled before with the packages that container.py names; it is copied. Without
 --base, debootstrap fetches one. --keep keeps the copy, and prints where it is. With --only, only these trials of unit_trials.py run, in a
 container in which the package is installed.

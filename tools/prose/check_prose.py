@@ -1,8 +1,8 @@
 """Checks the prose of the documents: README.md, CHANGELOG.md, CONTRIBUTING.md, docs/*.md, docs/reference/*.md, packaging/README.md,
 tools/README.md, bindings/README.md and the README.md of each example.
 
-    tools/ci/check_prose [FILE..]          checks the documents, or these files
-    tools/ci/check_prose --words < TEXT    checks the words of standard input alone, such as help or messages
+    tools/run ci/check_prose [FILE..]          checks the documents, or these files
+    tools/run ci/check_prose --words < TEXT    checks the words of standard input alone, such as help or messages
 
 Prints a line for each finding, and exits with 1 if there is one.
 
@@ -18,7 +18,7 @@ It finds
 
 Code spans, code blocks and quoted text may have any words. Tables and code may have any width, also a line that is one code span. Names of
 files are looked for everywhere. In the pages of docs/reference, words and sentences are not checked: they are those of comments in the
-sources, from which tools/reference_pages writes the pages.
+sources, from which tools/run reference_pages writes the pages.
 """
 
 import pathlib

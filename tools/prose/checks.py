@@ -12,7 +12,7 @@ MOST_WORDS = 35
 # The documents that have another limit of words in a sentence.
 MOST_WORDS_OF = {"README.md": 30, "docs/ARCHITECTURE.md": 25, "docs/THEOREM.md": 25}
 END_OF_SENTENCE = re.compile(r"(?<=[.!?])[\"')*]*\s+(?=[\"'(*]*[A-Z\d" + CODE + COMMAND + "])")
-# The folder of the pages that tools/reference_pages writes. Their words and sentences are those of comments in the sources.
+# The folder of the pages that tools/run reference_pages writes. Their words and sentences are those of comments in the sources.
 GENERATED = "docs/reference/"
 # A line that is one code span, perhaps as an item of a list: nothing of it can go to the next line.
 CODE_LINE = re.compile(r"\s*(?:[-*] )?`[^`]*`")

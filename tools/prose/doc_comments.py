@@ -1,6 +1,6 @@
 """Checks the doc comments of the crates.
 
-    tools/ci/doc_comments [--list] [--count] [--root FOLDER] [CRATE..]
+    tools/run ci/doc_comments [--list] [--count] [--root FOLDER] [CRATE..]
 
 Prints a line for each finding in the crates that are checked, and exits with 1 if there is one. It finds
 

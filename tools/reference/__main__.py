@@ -1,6 +1,6 @@
 """Runs the second implementation with the arguments of the program: python3 tools/reference COMMAND .. < INPUT
 
-Python that is started with a folder does not find the package around it. So it is started again, as the wrappers start the other tools.
+Python that is started with a folder does not find the package around it. So it is started again, as tools/run starts the other tools.
 """
 
 import os

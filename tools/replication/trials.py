@@ -1,6 +1,6 @@
 """Tries replicated channels on one machine: kills replicas and nodes of RabbitMQ and cuts machines off, and compares all answers.
 
-    tools/ci/replication_trials [--short] [--times N] [--channels N] [--kinds KIND,..] ..
+    tools/run ci/replication_trials [--short] [--times N] [--channels N] [--kinds KIND,..] ..
 
 Three network namespaces of this machine are three machines, each with a node of a RabbitMQ cluster and replicas. Each channel has two
 replicas on two machines, a load of script lines and ticks, and a reader of its answers. Each kind of trial has channels of its own:

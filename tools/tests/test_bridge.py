@@ -134,7 +134,7 @@ class Bridge(unittest.TestCase):
     def start_bridge(self, words=None, **environment):
         words = ["plant.toml", "in", "control.sock", "operators"] if words is None else words
         environment = {"PATH": PATH, "ANSWERS": str(self.answers), **environment}
-        self.bridge = self.start(TOP["tools"] / "tools/plant_bridge", *words, cwd=self.folder, env=environment)
+        self.bridge = self.start(TOP["tools"] / "tools/run", "plant_bridge", *words, cwd=self.folder, env=environment)
         return self.bridge
 
     def wait_for_sockets(self):
@@ -274,7 +274,7 @@ class Lines(Bridge):
         self.assertEqual(client.read(), [f"6 {reason}"])
         self.assertLess(self.memory() - before, 4_000_000)
 
-    def test_a_client_that_comes_again_begins_with_line_1(self):
+    def test_a_client_that_comes_again_counts_its_lines_anew(self):
         for _ in range(12):
             client = self.client("A")
             client.write("", f"M {ONE} {ADD}")
@@ -608,7 +608,7 @@ class Sockets(Bridge):
             os.dup2(made.fileno(), 3)
             os.environ["LISTEN_PID"] = str(os.getpid())
 
-        words = ["sh", "-c", 'LISTEN_PID=$$ exec "$@"', "sh", TOP["tools"] / "tools/plant_bridge", "plant.toml", "in", "passed.sock", "operators"]
+        words = ["sh", "-c", 'LISTEN_PID=$$ exec "$@"', "sh", TOP["tools"] / "tools/run", "plant_bridge", "plant.toml", "in", "passed.sock", "operators"]
         self.start(*words, cwd=self.folder, env={"PATH": PATH, "ANSWERS": str(self.answers), "LISTEN_FDS": "1"}, preexec_fn=pass_on, pass_fds=[3])
         owner = self.client("passed.sock")
         owner.write("T")
@@ -798,7 +798,7 @@ EDITS = [
     (Lines, "half_a_line_spoils_nothing_else", "connections", 'self.refuse(Refused("unfinished", "the line has no LF"))', 'self.take(self.splitter.rest)'),
     (Lines, "a_line_that_is_too_long_is_refused", "lines", "len(line) >= MOST_LINE else", "len(line) > MOST_LINE else"),
     (Lines, "a_line_that_is_too_long_is_refused", "lines", "self.is_too_long = self.is_too_long or len(rest) >= MOST_LINE", "self.is_too_long = False"),
-    (Lines, "a_client_that_comes_again_begins_with_line_1", "bridge", "        self.connections[connection.operator].remove(connection)\n", ""),
+    (Lines, "a_client_that_comes_again_counts_its_lines_anew", "bridge", "        self.connections[connection.operator].remove(connection)\n", ""),
     (Lines, "there_are_only_so_many_connections", "bridge", "if len(here) + leaving > MOST_CONNECTIONS:", "if False:"),
     (Lines, "a_client_that_only_reads_from_now_on_gets_its_answers", "connections", "        return True\n\n    # Lines", "        return False\n\n    # Lines"),
     (Lines, "a_client_that_only_reads_from_now_on_gets_its_answers", "connections", "return any(event", "return False and any(event"),
@@ -857,7 +857,7 @@ class Edits(unittest.TestCase):
 
     def is_noticed(self, case, test, module, old, new):
         with tempfile.TemporaryDirectory() as folder:
-            for name in ("__init__.py", "bridging", "reference", "watching", "plant_bridge"):
+            for name in ("__init__.py", "bridging", "reference", "watching", "run", "commands.txt"):
                 copy = shutil.copytree if (ROOT / "tools" / name).is_dir() else shutil.copy
                 (pathlib.Path(folder) / "tools").mkdir(exist_ok=True)
                 copy(ROOT / "tools" / name, pathlib.Path(folder, "tools", name))

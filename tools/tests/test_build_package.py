@@ -1,4 +1,4 @@
-"""Tests tools/build_package: what it refuses, its versions, and what is in the package and the tarball.
+"""Tests tools/run build_package: what it refuses, its versions, and what is in the package and the tarball.
 
 A package is built from a script in place of the program, if dpkg-dev, debhelper and git are installed. No test needs root or installs
 anything; tools/ci/package_trial does.
@@ -201,7 +201,7 @@ class Package(unittest.TestCase):
         example = place / "usr/share/doc/plant-script/examples/isolation"
         output = (example / "run_flood.out").read_text()
         self.assertEqual(self.printed(place / "usr/bin/plant_view", "--plant", example / "run_flood.txt", given=output),
-                         self.printed(ROOT / "tools/plant_view", "--plant", EXAMPLES / "isolation/run_flood.txt", given=output))
+                         self.printed(ROOT / "tools/run", "plant_view", "--plant", EXAMPLES / "isolation/run_flood.txt", given=output))
         message = "0F0001180A010200010601060F0102"
         self.assertEqual(self.printed(place / "usr/bin/dsx", *"dsa tid=1 ref=1 set=6 type=be".split()), message + "\n")
         self.assertEqual(self.printed(place / "usr/bin/dsx", "words", message), "dsa tid=1 ref=1 set=6 type=be\n")

@@ -1,4 +1,4 @@
-"""Tests tools/ci/cases against what CONTRIBUTING.md says of the cases: its worked case, its tables of lines, and what each line means.
+"""Tests tools/run ci/cases against what CONTRIBUTING.md says of the cases: its worked case, its tables of lines, and what each line means.
 """
 
 import pathlib
@@ -26,7 +26,8 @@ def text_of(*lines):
 
 class Document(unittest.TestCase):
     def test_worked_case(self):
-        block = textwrap.dedent("\n".join(line for line in SECTION.splitlines() if line.startswith("    ")))
+        first = SECTION.split("\nCases of `check`")[0]
+        block = textwrap.dedent("\n".join(line for line in first.splitlines() if line.startswith("    ")))
         self.assertIn(f"\n{block}\n\n", (ROOT / "tests/rules.txt").read_text())
         self.assertTrue(block.startswith("# ") and len(block.splitlines()) > 10)
 
@@ -113,14 +114,34 @@ class Expected(unittest.TestCase):
 
 
 class Files(unittest.TestCase):
-    def cases_of(self, text):
+    def read(self, text):
         with tempfile.TemporaryDirectory() as folder:
             path = pathlib.Path(folder) / "some.txt"
             path.write_text(text)
-            return [case.name for case in cases.cases_of(path)]
+            return cases.cases_of(path)
+
+    def cases_of(self, text):
+        return [case.name for case in self.read(text)]
 
     def test_count_and_names(self):
         self.assertEqual(self.cases_of("2 cases: some.\n\n# a\n0 run\n\n# b\n0 run\n"), ["some.txt: a", "some.txt: b"])
         for text in ("3 cases: some.\n\n# a\n0 run\n\n# b\n0 run\n", "2 cases: some.\n\n# a\n0 run\n\n# a\n0 run\n", "some.\n\n# a\n0 run\n"):
             with self.assertRaises(SystemExit):
                 self.cases_of(text)
+
+    def test_tables(self):
+        rows = re.findall(r"^    (\+ .*)$", SECTION, re.MULTILINE)
+        self.assertEqual(len(rows), 3)
+        found = self.read("4 cases: some.\n\n# a\n" + "\n// A comment.\n".join(rows) + "\n\n# b\n0 run\n")
+        self.assertEqual([case.name for case in found], ["some.txt: a: head = 73", "some.txt: a: frame_us = 1000000", "some.txt: a: one name twice", "some.txt: b"])
+        self.assertEqual([(case.status, case.words, case.output) for case in found[:3]], [
+            (3, ["check"], "fault: plant 3 plant.head\n"), (0, ["check"], "ok\n"), (3, ["check"], "fault: plant 3 operator[1].name\n")])
+        self.assertEqual([case.plant for case in found[:2]], [cases.PLANT.replace("head = 8", "head = 73"), cases.PLANT.replace("us = 2000", "us = 1000000")])
+        changed = self.read("1 cases: some.\n\n# a\n+ ok ~ head = 8 > head = 9|hold = 2 ~ head = 9 *> 2 #|\n")[0]
+        self.assertEqual((changed.name, changed.plant), ("some.txt: a: head = 9, hold = 2, 2 #", cases.PLANT.replace("head = 8", "#\n#\n\nhold = 2")))
+        self.assertEqual((changed.status, changed.output), (0, "ok\n"))
+
+    def test_other_lines_of_a_table_are_refused(self):
+        for row in ("0 check", "+ maybe ~ head = 8 > head = 9", "+ ok", "+ ok head = 8 > head = 9", "+ ok ~ no such text > x"):
+            with self.assertRaises(SystemExit):
+                self.read(f"2 cases: some.\n\n# a\n+ ok ~ head = 8 > head = 9\n{row}\n")

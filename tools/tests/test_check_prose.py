@@ -1,4 +1,4 @@
-"""Tests tools/ci/check_prose: it finds each kind of mistake in its line, and nothing where there is none."""
+"""Tests tools/run ci/check_prose: it finds each kind of mistake in its line, and nothing where there is none."""
 
 import pathlib
 import subprocess
@@ -105,12 +105,12 @@ class Program(unittest.TestCase):
         with tempfile.NamedTemporaryFile("w", suffix=".md") as file:
             file.write(text)
             file.flush()
-            done = subprocess.run([ROOT / "tools/ci/check_prose", file.name], capture_output=True, text=True, check=False)
+            done = subprocess.run([ROOT / "tools/run", "ci/check_prose", file.name], capture_output=True, text=True, check=False)
         return done.returncode, done.stdout
 
     def test_words_of_standard_input(self):
         for text, status, out in (("It ends.\n\n    it stands\n", 0, ""), ("It ends.\nIt stands.\n", 1, "1: word: 'stands': write")):
-            done = subprocess.run([ROOT / "tools/ci/check_prose", "--words"], input=text, capture_output=True, text=True, check=False)
+            done = subprocess.run([ROOT / "tools/run", "ci/check_prose", "--words"], input=text, capture_output=True, text=True, check=False)
             self.assertEqual((done.returncode, done.stdout[:len(out)]), (status, out))
 
     def test_statuses(self):

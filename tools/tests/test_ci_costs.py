@@ -1,4 +1,4 @@
-"""Tests of how tools/measure/ci_costs tells the checks of a CI run apart, and adds them up."""
+"""Tests of how tools/run measure/ci_costs tells the checks of a CI run apart, and adds them up."""
 
 import unittest
 

@@ -1,16 +1,28 @@
-"""Tests that the commands of tools/ work from another folder and through a symbolic link, and that no file changes Python's path."""
+"""Tests tools/run and the table of its commands: they work from another folder and through a symbolic link, and each says what it does. No file
+changes Python's path.
+"""
 
 import os
 import pathlib
+import re
 import subprocess
 import sys
 import tempfile
 import unittest
 
 from tools import EXAMPLES, ROOT
+from tools.ci.commands import commands
 
 FILES = [path for path in (ROOT / "tools").glob("**/*") if path.is_file() and "__pycache__" not in path.parts and path.name != ".gitignore"]
-COMMANDS = [path for path in FILES if not path.suffix]
+RUN = ROOT / "tools/run"
+# Paths that stay beside tools/run.
+ENTRIES = [path for path in FILES if not path.suffix and path != RUN]
+STARTED_BY_OTHERS = {"tools/ci/check_examples.py", "tools/replication/reference_program.py"}
+
+
+def folded(text):
+    """Returns a text in one line of small letters, as parsers of arguments wrap it anew."""
+    return " ".join(text.split()).lower()
 
 
 class Commands(unittest.TestCase):
@@ -26,16 +38,50 @@ class Commands(unittest.TestCase):
         done = subprocess.run(words, cwd=self.folder, input=given, capture_output=True, text=True, check=False)
         return done.returncode, done.stdout, done.stderr
 
-    def test_help(self):
-        self.assertGreater(len(COMMANDS), 20)
-        for command in COMMANDS:
+    def run_through_link(self, path, *words):
+        link = self.folder / "a link"
+        link.symlink_to(path)
+        try:
+            return self.run_here(link, *words)
+        finally:
+            link.unlink()
+
+    def test_each_command_says_what_it_does(self):
+        self.assertGreater(len(commands()), 60)
+        for command in commands():
             with self.subTest(command.name):
-                link = self.folder / "a link"
-                link.symlink_to(command)
-                status, output, errors = self.run_here(link, "--help")
-                link.unlink()
+                status, output, errors = self.run_through_link(RUN, command.name, "--help")
                 self.assertEqual((status, errors), (0, ""))
-                self.assertGreater(len(output), 50)
+                self.assertIn(folded(command.purpose()), folded(output))
+                self.assertLess(len(command.purpose()), 121)
+
+    def test_a_path_is_one_of_a_command(self):
+        names = [str(path.relative_to(ROOT / "tools")) for path in ENTRIES]
+        self.assertEqual(set(names) - {command.name for command in commands()}, set())
+        self.assertLess(len(names), 15)
+        for name, path in zip(names, ENTRIES):
+            with self.subTest(name):
+                self.assertEqual(self.run_through_link(path, "--help"), self.run_here(RUN, name, "--help"))
+
+    def test_arguments_input_and_status_are_those_of_the_command(self):
+        self.assertEqual(self.run_here(RUN, "dsx", "lines", given="T A\nT\n"), (0, "T A\nT\n", ""))
+        status, output, errors = self.run_here(RUN, "plant_view", "--two  blanks")
+        self.assertEqual((status, output), (2, ""))
+        self.assertIn("unrecognized arguments: --two  blanks\n", errors)
+
+    def test_other_names_are_refused(self):
+        for name in ("dsy", "tools/dsx", "dsx.py", "*", "."):
+            self.assertEqual(self.run_here(RUN, name), (2, "", f"run: no command {name}; tools/run lists the commands\n"))
+
+    def test_without_a_name_it_lists_the_commands(self):
+        listed = self.run_here(RUN)
+        self.assertEqual((listed[0], listed[2]), (0, ""))
+        self.assertEqual(self.run_here(RUN, "--help"), listed)
+        for command in commands():
+            self.assertRegex(listed[1], f"(?m)^{re.escape(command.name)} +{re.escape(command.purpose())}$")
+
+    def test_the_list_of_the_page_is_compared(self):
+        self.assertEqual(self.run_here(RUN, "ci/commands", "--check"), (0, "", ""))
 
     def test_the_second_implementation(self):
         (self.folder / "reference").symlink_to(ROOT / "tools/reference")
@@ -49,6 +95,19 @@ class Commands(unittest.TestCase):
                 self.assertEqual(self.run_here("bash", "-n", path), (0, "", ""), path)
 
 
+class Table(unittest.TestCase):
+    def test_each_module_that_can_be_started_is_a_command_and_each_script(self):
+        paths = [command.path for command in commands()]
+        self.assertEqual(len(paths), len(set(paths)))
+        programs = {path for path in FILES if path.suffix == ".sh" or path.suffix == ".py" and '\nif __name__ == "__main__":\n' in path.read_text()}
+        others = {path for path in programs ^ set(paths) if "tests" not in path.parts}
+        self.assertEqual({str(path.relative_to(ROOT)) for path in others}, STARTED_BY_OTHERS)
+
+    def test_names_are_sorted_by_folder(self):
+        names = [command.name for command in commands()]
+        self.assertEqual(names, sorted(names, key=lambda name: ("/" in name, name)))
+
+
 class Files(unittest.TestCase):
     def test_none_changes_the_path(self):
         for path in FILES:
@@ -58,3 +117,5 @@ class Files(unittest.TestCase):
     def test_commands_are_executable_and_modules_are_not(self):
         for path in FILES:
             self.assertEqual(os.access(path, os.X_OK) if path.suffix in ("", ".sh") else not path.stat().st_mode & 0o111, True, path)
+
+

@@ -1,4 +1,4 @@
-"""Tests tools/completions with a program of its own, whose help is typed here, and the files of packaging/completions.
+"""Tests tools/run completions with a program of its own, whose help is typed here, and the files of packaging/completions.
 
 The files are compared with the help of the built program by tools/ci/run_checks.sh. Here their commands are compared with the source of the
 help. What zsh and fish read is tested if they are installed.

@@ -1,4 +1,4 @@
-"""Tests tools/ci/crash_trials: the second implementation loses nothing, and services that lose something are noticed."""
+"""Tests tools/run ci/crash_trials: the second implementation loses nothing, and services that lose something are noticed."""
 
 import argparse
 import os
@@ -64,7 +64,7 @@ class Trials(unittest.TestCase):
         self.addCleanup(lambda: os.environ.pop("PYTHONPATH") if before is None else os.environ.update(PYTHONPATH=before))
 
     def test_the_second_implementation_loses_nothing(self):
-        done = subprocess.run([ROOT / "tools/ci/crash_trials", "--times", "2", "--step", "90", "--kinds", "kill,beginning,fail,power,limit,cut,change,two,both",
+        done = subprocess.run([ROOT / "tools/run", "ci/crash_trials", "--times", "2", "--step", "90", "--kinds", "kill,beginning,fail,power,limit,cut,change,two,both",
                                *REFERENCE], capture_output=True, text=True, timeout=600, check=False)
         self.assertEqual(done.returncode, 0, done.stdout + done.stderr)
         rows = [[cell.strip() for cell in line.strip("|\n").split("|")] for line in done.stdout.splitlines()][2:]

@@ -1,4 +1,4 @@
-"""Tests tools/ci/crate_lists: what it writes into a small repository, and that it notices each kind of difference."""
+"""Tests tools/run ci/crate_lists: what it writes into a small repository, and that it notices each kind of difference."""
 
 import pathlib
 import subprocess
@@ -35,7 +35,7 @@ class Lists(unittest.TestCase):
         (self.root / "crates.txt").write_text(CRATES)
 
     def run_tool(self, *options):
-        done = subprocess.run([ROOT / "tools/ci/crate_lists", "--root", self.root, *options], capture_output=True, text=True, check=False)
+        done = subprocess.run([ROOT / "tools/run", "ci/crate_lists", "--root", self.root, *options], capture_output=True, text=True, check=False)
         return done.returncode, done.stdout + done.stderr
 
     def written(self, block):

@@ -1,4 +1,4 @@
-"""Tests tools/ci/doc_comments: it notices each kind of finding in a small crate, and nothing in good comments."""
+"""Tests tools/run ci/doc_comments: it notices each kind of finding in a small crate, and nothing in good comments."""
 
 import pathlib
 import subprocess
@@ -33,7 +33,7 @@ class Comments(unittest.TestCase):
             source = pathlib.Path(folder) / "crates" / "small" / "src" / "lib.rt"
             source.parent.mkdir(parents=True)
             source.write_text(text)
-            done = subprocess.run([ROOT / "tools/ci/doc_comments", "--root", folder], capture_output=True, text=True, check=False)
+            done = subprocess.run([ROOT / "tools/run", "ci/doc_comments", "--root", folder], capture_output=True, text=True, check=False)
         lines = done.stdout.splitlines()[:-1]
         return [line.split(": ")[1] for line in lines], done.returncode
 

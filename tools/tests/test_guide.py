@@ -15,7 +15,7 @@ from tools import ROOT
 PROGRAM = ROOT / "crates/plant_program/out/plant_program"
 DOCUMENTS = ("README.md", "docs/GUIDE.md", "docs/CONNECT.md")
 # Not run: what proves, installs or serves.
-NOT_RUN = ("./prove", ".ci/run", "tools/build_package", "apt-get", "systemctl")
+NOT_RUN = ("./prove", ".ci/run", "tools/run build_package", "apt-get", "systemctl")
 # Files of the reader, with those that replace them.
 OF_THE_READER = {"my_channel.txt": "examples/every_key/check.txt", "INPUT": "examples/two_operators.txt"}
 

@@ -1,4 +1,4 @@
-"""Tests of what tools/measure/line_costs reads from a profile, and of how it calls a line."""
+"""Tests of what tools/run measure/line_costs reads from a profile, and of how it calls a line."""
 
 import unittest
 

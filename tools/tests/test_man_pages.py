@@ -1,4 +1,4 @@
-"""Tests tools/man_pages: the pages of docs/man are those of the sources, and each has what it should have.
+"""Tests tools/run man_pages: the pages of docs/man are those of the sources, and each has what it should have.
 
 Pages are built again if pandoc is installed in the version that built them. They are checked if mandoc is installed, and formatted if man is.
 The help texts of the source are compared with those of the program if it is built. A test that is skipped says what was left out.
@@ -101,7 +101,7 @@ class Pages(unittest.TestCase):
 
     def test_options_of_plant_view(self):
         """The page has the options that the command lists, and no other."""
-        listed = subprocess.run([ROOT / "tools/plant_view", "--help"], capture_output=True, text=True, check=True).stdout
+        listed = subprocess.run([ROOT / "tools/run", "plant_view", "--help"], capture_output=True, text=True, check=True).stdout
         options = set(re.findall(r"--[a-z]+", listed.partition("\noptions:\n")[2]))
         terms = set(re.findall(r"--[a-z]+", " ".join(self.terms("plant_view.1", "OPTIONS"))))
         self.assertEqual((terms, "--plant" in terms), (options, True))
@@ -146,7 +146,7 @@ class Check(unittest.TestCase):
 
     def test_pages(self):
         self.assertEqual(self.changed("docs/man/plant.toml.5", "is TOML", "is JSON"), [None, None, "was changed by hand", None, None, None])
-        self.assertEqual(self.changed("docs/man/plant.toml.5", "Built by", "Made by"), [None, None, "has no head of tools/man_pages", None, None, None])
+        self.assertEqual(self.changed("docs/man/plant.toml.5", "Built by", "Made by"), [None, None, "has no head of tools/run man_pages", None, None, None])
         with tempfile.TemporaryDirectory() as folder:
             root = copied(folder)
             (root / "docs/man/plant_script.1").unlink()
@@ -154,7 +154,7 @@ class Check(unittest.TestCase):
             printed = io.StringIO()
             with contextlib.redirect_stdout(printed):
                 self.assertEqual(TOOL.check(root), 1)
-            self.assertEqual(printed.getvalue(), "docs/man/plant_script.1 is not there; tools/man_pages builds it\n")
+            self.assertEqual(printed.getvalue(), "docs/man/plant_script.1 is not there; tools/run man_pages builds it\n")
 
     def test_missing_sources(self):
         with self.assertRaises(NoPage) as found:

@@ -1,5 +1,5 @@
 """Tests tools/messages/words.py: words and bytes typed from docs/FORMATS.md, and each fault by its text. Every message in the repository, in
-the inputs of tools/compare/handwritten_inputs and in generated cases, with its replies, and random bytes are translated to words and back.
+the inputs of tools/run compare/handwritten_inputs and in generated cases, with its replies, and random bytes are translated to words and back.
 """
 
 import random

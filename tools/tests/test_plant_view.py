@@ -1,4 +1,4 @@
-"""Tests tools/plant_view.
+"""Tests tools/run plant_view.
 
 Sums, times and slice changes are typed by hand from a few lines of output, and so is what a service prints. What the page's script reads is
 compared with the frames, what is committed with a whole run, and the kind of each grant with the flow that a whole run gives it to. No two of
@@ -525,7 +525,7 @@ class Browser(unittest.TestCase):
 
 class Tool(unittest.TestCase):
     def tool(self, *words, given=""):
-        done = subprocess.run([ROOT / "tools/plant_view", *words], input=given, capture_output=True, text=True, check=False)
+        done = subprocess.run([ROOT / "tools/run", "plant_view", *words], input=given, capture_output=True, text=True, check=False)
         return done.returncode, done.stdout, done.stderr
 
     def test_csv(self):

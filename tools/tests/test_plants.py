@@ -1,4 +1,4 @@
-"""Tests of tools/ci/plants: `rt plant` over holes in place of proofs. A file that does as little stands in for `rt plant`."""
+"""Tests of tools/run ci/plants: `rt plant` over holes in place of proofs. A file that does as little stands in for `rt plant`."""
 
 import contextlib
 import io

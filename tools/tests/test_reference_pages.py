@@ -1,4 +1,4 @@
-"""Tests tools/reference_pages: what it writes of small crates, and that it notices each kind of difference."""
+"""Tests tools/run reference_pages: what it writes of small crates, and that it notices each kind of difference."""
 
 import contextlib
 import io
@@ -230,7 +230,7 @@ class Pages(unittest.TestCase):
         for name in ("ARCHITECTURE", "THEOREM"):
             (self.root / f"docs/{name}.md").write_text(f"# {name}\n")
         (self.root / "tools").mkdir()
-        (self.root / "tools/reference_pages").write_text("")
+        (self.root / "tools/run").write_text("")
         for name, text in SOURCES.items():
             self.write(name, text)
 
@@ -274,7 +274,7 @@ class Pages(unittest.TestCase):
 class Items(Pages):
     def test_head(self):
         self.assertTrue(self.written("low").startswith(
-            "# low\n\n<!-- Written by tools/reference_pages from the sources. Do not edit. -->\n\n"
+            "# low\n\n<!-- Written by tools/run reference_pages from the sources. Do not edit. -->\n\n"
             "The lowest crate. It says more.\n\n- A first point.\n- A second one.\n\nDepends on no other crate.\n\n## Types\n"
         ))  # fmt: skip
         self.assertIn("\nDepends on [low](low.md), `toml`.\n", self.written("high"))
@@ -411,7 +411,7 @@ class Check(Pages):
     def test_the_command(self):
         self.page("high.md").unlink()
         for option, status in (("--check", 1), (None, 0), ("--check", 0)):
-            words = [ROOT / "tools/reference_pages", "--root", self.root, *([option] if option else [])]
+            words = [ROOT / "tools/run", "reference_pages", "--root", self.root, *([option] if option else [])]
             self.assertEqual(subprocess.run(words, capture_output=True, check=False).returncode, status)
 
     def test_a_stale_page(self):
@@ -419,7 +419,7 @@ class Check(Pages):
         self.write("low/src/laws.rt", SOURCES["low/src/laws.rt"].replace("small.", "less than 3."))
         line = before.splitlines().index("States that a code is small.") + 1
         self.assertEqual(self.run_tool("--check"),
-                         (1, f"docs/reference/low.md differs from the sources in line {line}; tools/reference_pages writes it anew\n"))
+                         (1, f"docs/reference/low.md differs from the sources in line {line}; tools/run reference_pages writes it anew\n"))
         self.assertEqual(self.page("low.md").read_text(), before)
 
     def test_a_page_that_ends_early(self):
@@ -430,13 +430,13 @@ class Check(Pages):
 
     def test_a_page_that_is_not_there(self):
         self.page("high.md").unlink()
-        self.assertEqual(self.run_tool("--check"), (1, "docs/reference/high.md is not there; tools/reference_pages writes it\n"))
+        self.assertEqual(self.run_tool("--check"), (1, "docs/reference/high.md is not there; tools/run reference_pages writes it\n"))
 
     def test_a_page_of_a_crate_that_is_gone(self):
         (self.root / "crates.txt").write_text(CRATES.replace("high staticlib: low toml\n", ""))
         self.assertEqual(self.run_tool("--check"), (1, "\n".join((
-            f"docs/reference/README.md differs from the sources in line {self.index_line('## High ones')}; tools/reference_pages writes it anew",
-            "docs/reference/high.md is a page of no crate; tools/reference_pages removes it\n",
+            f"docs/reference/README.md differs from the sources in line {self.index_line('## High ones')}; tools/run reference_pages writes it anew",
+            "docs/reference/high.md is a page of no crate; tools/run reference_pages removes it\n",
         ))))  # fmt: skip
         self.assertEqual(self.run_tool(), (0, ""))
         self.assertFalse(self.page("high.md").exists())
@@ -447,7 +447,7 @@ class Check(Pages):
 
     def test_a_file_of_somebody_else(self):
         self.page("NOTES.md").write_text("# Notes\n")
-        self.assertEqual(self.run_tool("--check"), (1, "docs/reference/NOTES.md is a page of no crate; tools/reference_pages removes it\n"))
+        self.assertEqual(self.run_tool("--check"), (1, "docs/reference/NOTES.md is a page of no crate; tools/run reference_pages removes it\n"))
         self.assertEqual(self.run_tool(),
-                         (1, "reference_pages: docs/reference/NOTES.md is not written by tools/reference_pages; move it to another folder\n"))
+                         (1, "reference_pages: docs/reference/NOTES.md is not written by tools/run reference_pages; move it to another folder\n"))
         self.assertTrue(self.page("NOTES.md").exists())

@@ -1,4 +1,4 @@
-"""Tests tools/renumber_channel: on a channel that the second implementation serves, and its numbers by the rules of docs/FORMATS.md."""
+"""Tests tools/run renumber_channel: on a channel that the second implementation serves, and its numbers by the rules of docs/FORMATS.md."""
 
 import contextlib
 import os
@@ -105,7 +105,7 @@ class Channel(unittest.TestCase):
     def renumber(self, **settings):
         environment = {**os.environ, "ANSWERS": str(self.top / "answers"), "FOLDER": str(self.top / "folder"), **settings}
         environment.pop("JOURNAL_STREAM", None)
-        done = subprocess.run([ROOT / "tools/renumber_channel", self.top / "plant.toml", self.top / "in"], capture_output=True, text=True, check=False, env=environment)
+        done = subprocess.run([ROOT / "tools/run", "renumber_channel", self.top / "plant.toml", self.top / "in"], capture_output=True, text=True, check=False, env=environment)
         self.assertEqual(done.stdout, "")
         return done.returncode, done.stderr
 

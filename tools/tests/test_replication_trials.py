@@ -1,4 +1,4 @@
-"""Runs the short trials of replicated channels, with RabbitMQ, where it is installed. tools/ci/replication_trials does the long ones."""
+"""Runs the short trials of replicated channels, with RabbitMQ, where it is installed. tools/run ci/replication_trials does the long ones."""
 
 import os
 import shutil
@@ -10,7 +10,7 @@ from tools import ROOT
 from tools.compare.program import PROGRAM
 
 SECONDS = 1_800
-COMMAND = ROOT / "tools/ci/replication_trials"
+COMMAND = (ROOT / "tools/run", "ci/replication_trials")
 REFERENCE = f"env PYTHONPATH={ROOT} {sys.executable} -P -m tools.replication.reference_program"
 ENGINE = "/usr/lib/rabbitmq/bin/rabbitmq-server"
 
@@ -34,7 +34,7 @@ def what_is_missing():
 class Trials(unittest.TestCase):
     def test_killed_replicas_and_nodes(self):
         program = PROGRAM if os.access(PROGRAM, os.X_OK) else REFERENCE
-        done = subprocess.run([COMMAND, "--short", "--kinds", "replica,both,node", "--seconds", "600", "--program", program], capture_output=True, text=True,
+        done = subprocess.run([*COMMAND, "--short", "--kinds", "replica,both,node", "--seconds", "600", "--program", program], capture_output=True, text=True,
                               timeout=SECONDS, check=False)
         self.assertEqual(done.returncode, 0, done.stdout + done.stderr)
         rows = [[cell.strip() for cell in line.strip("|\n").split("|")] for line in done.stdout.splitlines()][2:]

@@ -373,7 +373,7 @@ class Requests(unittest.TestCase):
         requests.answered(is_refused=True)
         self.assertEqual(self.asked(requests, 49, 50), [50])
 
-    def test_never_with_a_period_of_0(self):
+    def test_without_a_period_it_never_asks(self):
         self.assertEqual(self.asked(SnapshotRequests(self.pipe, 0, 0), 0, 100), [])
 
     def test_a_full_pipe_and_a_missing_one_are_not_waited_for(self):
@@ -469,7 +469,7 @@ class Process(unittest.TestCase):
 
     def start(self, **environment):
         environment = {**os.environ, "ANSWERS": str(self.answers), "METRICS": str(self.folder), "PLANT_SCRIPT": "/nowhere", "METRICS_SECONDS": "0.5", **environment}
-        process = subprocess.Popen([ROOT / "tools/watch_channel", "east", "plant.toml", "in"], cwd=self.folder, env=environment, stderr=subprocess.PIPE, text=True)
+        process = subprocess.Popen([ROOT / "tools/run", "watch_channel", "east", "plant.toml", "in"], cwd=self.folder, env=environment, stderr=subprocess.PIPE, text=True)
         for done in (process.stderr.close, process.wait, process.terminate):
             self.addCleanup(done)
         wait_until(lambda: self.file.exists() or process.poll() is not None)

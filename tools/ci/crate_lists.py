@@ -1,9 +1,8 @@
-#!/usr/bin/env python3
 """Writes the lists of crates in the documents, from crates.txt.
 
-    tools/ci/crate_lists            writes the generated blocks of README.md, CONTRIBUTING.md and docs/*.md
-    tools/ci/crate_lists --check    compares them instead, prints each block that differs, and exits with 1 if there is one
-    tools/ci/crate_lists --root FOLDER [--check]    does the same in another folder
+    tools/run ci/crate_lists            writes the generated blocks of README.md, CONTRIBUTING.md and docs/*.md
+    tools/run ci/crate_lists --check    compares them instead, prints each block that differs, and exits with 1 if there is one
+    tools/run ci/crate_lists --root FOLDER [--check]    does the same in another folder
 
 A generated block begins with a line `<!-- generated: NAME -->` and ends with a line `<!-- end -->`. NAME is one of
 
@@ -151,7 +150,7 @@ def main():
         elif new != text:
             path.write_text(new)
     if differs:
-        sys.exit("the lists differ: run tools/ci/crate_lists")
+        sys.exit("the lists differ: run tools/run ci/crate_lists")
 
 
 if __name__ == "__main__":

@@ -1,7 +1,6 @@
-#!/usr/bin/env python3
 """Counts names in the crates that a reader has to read twice.
 
-    tools/measure/count_names [--list]
+    tools/run measure/count_names [--list]
 
 Prints a line for each count; --list prints what is counted, too. It is a measure, not a test: it exits with 0.
 

@@ -1,7 +1,6 @@
-#!/usr/bin/env python3
 """Counts the clauses of contracts in the crates and those that are wide, and exits with 1 if too many are.
 
-    tools/ci/clause_widths [--most N] [--list] [--joined] [FOLDER..]
+    tools/run ci/clause_widths [--most N] [--list] [--joined] [FOLDER..]
 
 A clause is the text in the braces of `requires`, `ensures` or `ghost` in a .rt file. Its width is that of its widest line, and a second
 count has the width of the clause joined to one line. Too many are wide if more than N have a line over 160 columns; N is 0 by default.

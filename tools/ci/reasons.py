@@ -1,7 +1,6 @@
-#!/usr/bin/env python3
 """Checks what the built program writes to standard error, by one case for each mistake.
 
-    tools/ci/reasons [PROGRAM]     Prints each case that differs, and exits with 1 if one does.
+    tools/run ci/reasons [PROGRAM]     Prints each case that differs, and exits with 1 if one does.
 """
 
 import pathlib

@@ -1,7 +1,6 @@
-#!/usr/bin/env python3
 """Prints which proofs of a crate took how long, from the times of the files that its last check kept.
 
-    tools/measure/proof_times CRATE [LEAST]     Prints the seconds of each function or file of lemmas that took LEAST or more, 5 by default.
+    tools/run measure/proof_times CRATE [LEAST]     Prints the seconds of each function or file of lemmas that took LEAST or more, 5 by default.
 
 A check keeps what it has proved file by file in the crate's out/incremental, one after the other. The time from one file to the next is
 what the next one took. So the crate has to be checked from nothing (no out/ before) with `--jobs 1`. A name without a function is the
