@@ -2,7 +2,7 @@
  *
  * The calls are the exports of the crate channel_c. Each does what the clauses of its export say;
  * the clauses are proved. Nothing checks this header, except for tools/tests/test_channel_c.py.
- * A program is linked with libmelfjits.a or libmelfjits.so.0, which tools/build_library builds from
+ * A program is linked with libmelfjits.a or libmelfjits.so.0, which tools/run build_library builds from
  * what tools/ci/build_channel_c has built.
  *
  * The caller has to ensure this:

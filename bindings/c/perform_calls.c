@@ -2,7 +2,7 @@
  * look. It is a test of the header, and an example of its use.
  *
  * It allocates nothing itself, and makes a call that runs out of memory once more. So its output is
- * the same whichever allocation fails (tools/compare/checked_library_calls). The call `change` puts
+ * the same whichever allocation fails (tools/run compare/checked_library_calls). The call `change` puts
  * the plant file of the case in force again. */
 #include "melfjits.h"
 

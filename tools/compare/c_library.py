@@ -32,7 +32,7 @@ def is_built():
 
 
 def build_shared(folder):
-    """Links the library as a shared one in a folder, as tools/build_library does, and returns it."""
+    """Links the library as a shared one in a folder, as tools/run build_library does, and returns it."""
     return ctypes.CDLL(str(link_shared(libraries(), folder)))
 
 

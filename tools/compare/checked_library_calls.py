@@ -1,6 +1,6 @@
 """Makes calls of the library for C under valgrind, under AddressSanitizer, and with each allocation failed in turn.
 
-    tools/compare/checked_library_calls [COUNT] [--failed N]
+    tools/run compare/checked_library_calls [COUNT] [--failed N]
 
 The calls are those of COUNT generated cases, 200 by default, as bindings/c/perform_calls.c makes them. These are all calls of the header.
 Each run has to print what an ordinary one does, and end with status 0:

@@ -1,4 +1,4 @@
-/* Targets of libFuzzer for the library for C. tools/ci/fuzz_library builds one of them by -DTARGET=fuzz_open or -DTARGET=fuzz_arrive.
+/* Targets of libFuzzer for the library for C. tools/run ci/fuzz_library builds one of them by -DTARGET=fuzz_open or -DTARGET=fuzz_arrive.
  *
  * The library is not instrumented, so libFuzzer does not see which of its code runs. What it sees are the counters below, by which this
  * program reports the numbers that calls return, and what the outputs are. */

@@ -1,6 +1,6 @@
 """Fuzzes the library for C by libFuzzer: texts that are opened, and what modems send.
 
-    tools/ci/fuzz_library [--seconds N] [--target open|arrive] [--output FOLDER]
+    tools/run ci/fuzz_library [--seconds N] [--target open|arrive] [--output FOLDER]
 
     open      a text is opened as a plant file, or as a snapshot if it begins as one. A channel that opens makes three frames, is saved,
               and opened again: then it is saved as the same text

@@ -1,8 +1,8 @@
 """Measures what calls of the library for C take, and the same lines through the pipes of `serve`.
 
-    tools/measure/library [--lines N] [--counted N] [--program PROGRAM]
+    tools/run measure/library [--lines N] [--counted N] [--program PROGRAM]
 
-Plant and lines are those of tools/measure/latency: 32 operators with 80 flows each. A call is one line, with its outputs fetched: a message
+Plant and lines are those of tools/run measure/latency: 32 operators with 80 flows each. A call is one line, with its outputs fetched: a message
 that is replied to, an acknowledgement, a bandwidth request, or a tick of all operators with their frames and the MAP. Prints for each kind
 the nanoseconds of 100,000 lines (or of --lines), the mean of instructions of 3,200 lines (or of --counted), and the allocations of a call.
 The row `clock` is what the measurement itself takes. The second table begins with the library's call for a request, and has below each

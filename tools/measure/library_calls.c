@@ -1,4 +1,4 @@
-/* Makes calls of the library for C, and measures them. tools/measure/library and library_memory start it.
+/* Makes calls of the library for C, and measures them. tools/run measure/library and library_memory start it.
  *
  *     library_calls PLANT LINES                 prints a line for each call: its kind, nanoseconds, and allocations
  *     library_calls PLANT LINES FRAMES EVERY    repeats the lines for so many frames, and prints after each EVERY of them how many there were,

@@ -1,8 +1,8 @@
 """Measures whether a channel of the library for C takes more memory from hour to hour.
 
-    tools/measure/library_memory [--hours N] [--operators N] [--every SECONDS]
+    tools/run measure/library_memory [--hours N] [--operators N] [--every SECONDS]
 
-A process opens a channel of two operators (or of --operators) with 80 flows each, as tools/measure/latency has them, and makes the frames
+A process opens a channel of two operators (or of --operators) with 80 flows each, as tools/run measure/latency has them, and makes the frames
 of 24 hours (or of --hours), of 2 milliseconds each, as fast as it can. Before every fourth frame a modem of each operator adds, changes or
 deletes a flow, or requests minislots. Prints the resident memory after the frames of each hour (or of --every seconds).
 

@@ -1,6 +1,6 @@
 """Builds the shared library for C from the static one, and puts both where a compiler finds them.
 
-    tools/build_library [--archive ARCHIVE] [--output FOLDER]
+    tools/run build_library [--archive ARCHIVE] [--output FOLDER]
 
 ARCHIVE is what tools/ci/build_channel_c built, crates/channel_c/out/libchannel_c.a. FOLDER, out/library at the top if not given, gets
 

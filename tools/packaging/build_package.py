@@ -1,8 +1,8 @@
 """Builds the Debian package of the proved program, and a tarball with the same files. Or builds those of the library for C.
 
-    tools/build_package [--revision N] [--output FOLDER] [--proof-log FILE]
-    tools/build_package --unproved PROGRAM ..             packs another program, for a trial of the package
-    tools/build_package --library [--unproved ARCHIVE] [--revision N] [--output FOLDER]
+    tools/run build_package [--revision N] [--output FOLDER] [--proof-log FILE]
+    tools/run build_package --unproved PROGRAM ..             packs another program, for a trial of the package
+    tools/run build_package --library [--unproved ARCHIVE] [--revision N] [--output FOLDER]
 
 The proved program is crates/plant_program/out/plant_program, as ./prove or .ci/run builds it. If it is missing, or older than one of its
 sources, nothing is built. A package of --unproved has +unproved in its version, and one of files that are not committed has +modified.

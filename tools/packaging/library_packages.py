@@ -1,4 +1,4 @@
-"""Builds the Debian packages of the library for C: libmelfjits0, libmelfjits-dev and python3-melfjits. tools/build_package starts it."""
+"""Builds the Debian packages of the library for C: libmelfjits0, libmelfjits-dev and python3-melfjits. tools/run build_package starts it."""
 
 import os
 import pathlib

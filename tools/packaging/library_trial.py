@@ -1,8 +1,8 @@
 """Tries the packages of the library for C in a clean Debian system: installs them, builds and runs their examples, and purges them.
 
-    tools/ci/library_trial FOLDER [--base FOLDER] [--keep]
+    tools/run ci/library_trial FOLDER [--base FOLDER] [--keep]
 
-FOLDER is what tools/build_package --library filled. The system is one that debootstrap fetches, with g++, pkg-config and python3, or a copy
+FOLDER is what tools/run build_package --library filled. The system is one that debootstrap fetches, with g++, pkg-config and python3, or a copy
 of --base, which debootstrap filled with these before. --keep keeps the copy, and prints where it is.
 
 Needs root, the network (without --base), and Debian's packages debootstrap and lintian. It is no part of .ci/run. Prints a line for each

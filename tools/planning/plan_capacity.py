@@ -11,7 +11,7 @@ next one, and the same of best effort flows, next to N calls if --calls is given
 budget, elements, flows, or numbers for flows. `plant_script trace` says which.
 
 WORDS are those of a flow encoding, as tools/dsx takes them. A voice call is by default 232 bytes each 20 ms, which is G.711 with its headers.
-LIBRARY is a shared library, by default out/library/lib/libmelfjits.so.0 if tools/build_library has built it, or else the one that the
+LIBRARY is a shared library, by default out/library/lib/libmelfjits.so.0 if tools/run build_library has built it, or else the one that the
 bindings for Python find.
 
 Exit status: 0 success, 2 wrong words, 3 the plant file is refused, 6 a file or the library cannot be read.

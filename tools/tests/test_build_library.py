@@ -1,4 +1,4 @@
-"""Tests tools/build_library on a library whose calls do nothing: names, what is exported, and programs that are linked both ways."""
+"""Tests tools/run build_library on a library whose calls do nothing: names, what is exported, and programs that are linked both ways."""
 
 import os
 import pathlib

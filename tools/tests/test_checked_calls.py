@@ -1,4 +1,4 @@
-"""Tests tools/compare/checked_library_calls: what it notices, and the library for C if that is built."""
+"""Tests tools/run compare/checked_library_calls: what it notices, and the library for C if that is built."""
 
 import pathlib
 import subprocess
@@ -45,7 +45,7 @@ class Checks(unittest.TestCase):
 
     @unittest.skipUnless(c_library.is_built(), "the library for C is not built (tools/ci/build_channel_c): no call of it was checked")
     def test_the_library(self):
-        done = subprocess.run([ROOT / "tools/compare/checked_library_calls", "6", "--failed", "1"], capture_output=True, text=True, check=False)
+        done = subprocess.run([ROOT / "tools/run", "compare/checked_library_calls", "6", "--failed", "1"], capture_output=True, text=True, check=False)
         self.assertEqual((done.returncode, done.stderr), (0, ""))
         self.assertRegex(done.stdout, r"AddressSanitizer and UndefinedBehaviorSanitizer: no finding\n[1-9]\d* allocations of 1 cases failed")
 

@@ -1,4 +1,4 @@
-"""Tests tools/ci/fuzz_library: the inputs it begins with, that a wrong library fails, and the library for C if that is built."""
+"""Tests tools/run ci/fuzz_library: the inputs it begins with, that a wrong library fails, and the library for C if that is built."""
 
 import contextlib
 import io
@@ -44,7 +44,7 @@ class Targets(unittest.TestCase):
     @unittest.skipUnless(c_library.is_built(), "the library for C is not built (tools/ci/build_channel_c): it was not fuzzed")
     def test_the_library(self):
         with tempfile.TemporaryDirectory() as folder:
-            words = [ROOT / "tools/ci/fuzz_library", "--seconds", "2", "--output", folder]
+            words = [ROOT / "tools/run", "ci/fuzz_library", "--seconds", "2", "--output", folder]
             done = subprocess.run(words, capture_output=True, text=True, check=False)
         self.assertEqual((done.returncode, done.stderr, done.stdout.count(", 0 findings\n")), (0, "", 2), done.stdout)
 

@@ -1,4 +1,4 @@
-"""Tests tools/measure/library and library_memory: what they read of a profile, their lines, and that growing memory is noticed."""
+"""Tests tools/run measure/library and library_memory: what they read of a profile, their lines, and that growing memory is noticed."""
 
 import contextlib
 import io
@@ -72,7 +72,7 @@ class Calls(unittest.TestCase):
 
     @unittest.skipUnless(c_library.is_built(), NOT_BUILT)
     def test_the_library_is_measured(self):
-        words = [ROOT / "tools/measure/library", "--lines", "1", "--counted", "1", "--program", "/nowhere"]
+        words = [ROOT / "tools/run", "measure/library", "--lines", "1", "--counted", "1", "--program", "/nowhere"]
         done = subprocess.run(words, capture_output=True, text=True, check=False)
         self.assertEqual((done.returncode, done.stderr), (0, ""))
         rows = re.findall(r"^\| ([a-z0-9 ]+) \| (\d+|1,000) \| [\d,]+ \|", done.stdout, re.MULTILINE)
@@ -110,7 +110,7 @@ class Memory(unittest.TestCase):
 
     @unittest.skipUnless(c_library.is_built(), NOT_BUILT)
     def test_the_memory_is_measured(self):
-        words = [ROOT / "tools/measure/library_memory", "--hours", "0.1", "--every", "90"]
+        words = [ROOT / "tools/run", "measure/library_memory", "--hours", "0.1", "--every", "90"]
         done = subprocess.run(words, capture_output=True, text=True, check=False)
         self.assertEqual((done.returncode, done.stderr), (0, ""))
         self.assertEqual(re.findall(r"^\| [\d.]+ \| ([\d,]+) \|", done.stdout, re.MULTILINE), ["45,000", "90,000", "135,000", "180,000"])

@@ -1,6 +1,6 @@
-"""Tests tools/build_package --library on a library whose calls do nothing: what it refuses, and what is in the packages.
+"""Tests tools/run build_package --library on a library whose calls do nothing: what it refuses, and what is in the packages.
 
-tools/ci/library_trial installs packages in a clean system.
+tools/run ci/library_trial installs packages in a clean system.
 """
 
 import os
