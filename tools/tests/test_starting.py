@@ -157,8 +157,8 @@ class Place:
 
 @contextlib.contextmanager
 def in_session(words, **how):
-    """Starts a process in a session of its own, and kills at the end what is left there."""
-    with subprocess.Popen(words, start_new_session=True, **how) as process:
+    """Starts a process in a session of its own, and kills at the end what is left there. It is interrupted by SIGINT, even if we are not."""
+    with subprocess.Popen(words, start_new_session=True, preexec_fn=lambda: signal.signal(signal.SIGINT, signal.SIG_DFL), **how) as process:
         try:
             yield process
         finally:
