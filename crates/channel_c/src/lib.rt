@@ -258,8 +258,10 @@ pub extern "C" fn melfjits_next_output(
     grants: &mut [Grant],
 ) -> u32
     // The head, and the bytes and grants at the beginning of the buffers. If they do not fit nothing changes.
-    ensures { InHandle result (FetchEnds result head.new bytes.old bytes.new grants.old grants.new)
+    ensures ends { InHandle result (FetchEnds result head.new bytes.old bytes.new grants.old grants.new)
         handle.old.home handle.new.home }
+    // With a closed handle nothing is written.
+    ensures closed { handle.old.home ≡ None → (head.new ≡ head.old) × (bytes.new ≡ bytes.old) × (grants.new ≡ grants.old) }
 {
     match handle.take(alloc) {
         Some(channel) => {
@@ -286,8 +288,10 @@ pub extern "C" fn melfjits_save(
 ) -> u32
     // A closed handle stays closed, with 2. The text of an open one is written, and nothing of the channel changes. 1, out
     // of memory, comes only where the channel rests.
-    ensures { InHandle result (λ old new. SaveEnds result length.old length.new bytes.old bytes.new old × IsSame old new)
+    ensures ends { InHandle result (λ old new. SaveEnds result length.old length.new bytes.old bytes.new old × IsSame old new)
         handle.old.home handle.new.home }
+    // With a closed handle nothing is written.
+    ensures closed { handle.old.home ≡ None → (length.new ≡ length.old) × (bytes.new ≡ bytes.old) }
 {
     match handle.take(alloc) {
         Some(channel) => {
