@@ -35,6 +35,7 @@ impl Held {
         // It is of an action that some book took, whose state is the replay of its history.
         ensures some_book { IfOk result (IsOfSomeBook action) }
         ensures book { OnOk result (cell_book self.new ≡ book_after_action (cell_book self.old) action) }
+        // The frames of the action wait after the others.
         ensures waiting { OnOk result (waiting_of self.new
             ≡ waiting_of self.old ++ frames_of (own_step (operator_of_book (cell_book self.old)) action).outputs) }
         // Each refusal comes exactly in its case.

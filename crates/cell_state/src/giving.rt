@@ -113,6 +113,7 @@ pub fn reslice(
     rows: &[SliceRow],
 ) -> Result<Vec<Told>, CoreFault>
     requires { vec_len helds.old < 2 ^ 64 }
+    // Each book has taken its row.
     ensures books { OnOk result (HaveTaken from rows.now (map cell_book helds.old.items) (map cell_book helds.new.items)) }
     ensures waiting { map waiting_of helds.new.items ≡ map waiting_of helds.old.items }
     // Each receipt is of the slice change of that operator's book.

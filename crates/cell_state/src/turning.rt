@@ -37,6 +37,7 @@ impl Held {
         ensures receipt { IfOk result (IsReceiptOf (cell_book self.old) action) }
         ensures some_book { IfOk result (IsOfSomeBook action) }
         ensures book { OnOk result (cell_book self.new ≡ book_after_action (cell_book self.old) action) }
+        // The frames of the action wait after the others.
         ensures waiting { OnOk result (waiting_of self.new
             ≡ waiting_of self.old ++ frames_of (own_step (operator_of_book (cell_book self.old)) action).outputs) }
         ensures goes_on { OnOk result (self.new.stopped ≡ false) }

@@ -36,6 +36,7 @@ pub fn redo_lines(
     service: &mut DurableState,
     lines: &[Vec<u8>],
 ) -> Result<(), LineFailure>
+    // The core is that of a restart from a saved state.
     requires restarted { (plant : PlantFields) × (saved : Snapshot) × IsRestarted plant saved.frame (states_of saved) (live_view service.old.core) }
     ensures reached { OnOk result (IsReachableFromStart (live_view service.new.core)) }
     // What the journal stands for leads to the core.

@@ -84,6 +84,7 @@ pub fn begin_state<D: Device>(
     device: &mut D,
     file: Bytes,
 ) -> Result<SavedState, DurableFault>
+    // The file has the state that is returned, and no line since.
     ensures found { IfOk result (λ state. StandsForState (journal_content (D.seen device.new)) 0 state.start.plant state.start.saved []) }
     ensures settled { IfOk result (λ state. IsJournalSettled D.seen D.may_leave device.new state.gate) }
     ensures new { IfOk result (λ state. (state.start.count ≡ 0) × (state.lines.items ≡ [])) }

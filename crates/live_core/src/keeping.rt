@@ -38,6 +38,7 @@ impl LiveCore {
 
     /// States that each machine has the policy of the plant's row at its place. Does nothing.
     pub fn always_policies(&self)
+        // Each machine has the policy of the row at its place.
         ensures { map (λ book. book.row.policy) (live_view self.now).books
             ≡ map (λ row. row.policy) (live_view self.now).plant.rows }
     {

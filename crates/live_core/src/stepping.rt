@@ -137,6 +137,7 @@ impl LiveCore {
         ranking: &R,
         outs: &mut Vec<Out>,
     ) -> Result<(), CoreFault>
+        // The ranking follows the policy of the operator's row.
         requires { (book : BookView) → slice_get (live_view self.old).books op ≡ Some book
             → R.policy ranking.now ≡ book.row.policy }
         // The tick is the same step as with the policy of the row.
@@ -192,6 +193,7 @@ impl LiveCore {
     /// one.
     #[inline(always)]
     pub fn collect(&mut self, alloc: Global, op: Op, outs: &mut Vec<Out>) -> Result<(), CoreFault>
+        // The step is done to the core as it is, with the outputs that are added.
         ensures ok { OnOk result ((now : List Out) × (outs.new.items ≡ outs.old.items ++ now)
             × Performs (Collects op) (live_view self.old) (live_view self.new) now) }
         ensures outs { OnErr result (outs.new.items ≡ outs.old.items) }

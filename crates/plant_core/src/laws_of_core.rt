@@ -39,6 +39,7 @@ impl PlantCore {
 
     /// Returns all that an operator did, in order; none past the last operator. Takes no memory.
     pub fn history(&self, op: Op) -> Option<&[Entry]>
+        // The history of this operator's book, if there is one.
         ensures { option_map (λ history. history.now) result
             ≡ option_map (λ book. book.history) (slice_get (core_view self.now).books op) }
     {

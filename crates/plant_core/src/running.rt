@@ -52,6 +52,7 @@ impl PlantCore {
         ensures stopped { IfErr result (λ stop. LeadsOn (core_view self.old) (take stop.at steps.now) stop.outs.items
             (core_view self.new)) }
         ensures within { IfErr result (λ stop. stop.at < length steps.now) }
+        // The step at which it stopped is refused for this fault.
         ensures fault { IfErr result (λ stop. (step : Step) → slice_get steps.now stop.at ≡ Some step
             → IsReported {A = Unit {0}} (Err stop.fault) (step_fault (core_view self.new) step)) }
     {

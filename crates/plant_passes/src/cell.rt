@@ -35,6 +35,7 @@ impl PassedCell {
         passes: usize,
     ) -> Result<(PassedCell, Vec<Pass>), AllocError>
         requires { (0 < passes) × (passes ≤ 64) }
+        // The cell has so many passes, and is of the book.
         ensures cell { IfOk result (λ r. ((cell_of r.0).passes ≡ passes)
             × ((cell_of r.0).origin ≡ origin_of (view_of book))) }
         ensures of { IfOk result (λ r. All (λ p. IsOfCell (cell_of r.0) (pass_of p)) r.1.items) }
@@ -104,6 +105,7 @@ impl PassedCell {
         ensures not_mine { (stranger : Modem) → (result ≡ Err (refusals.Book (faults.NotMine stranger)))
             ↔ (stranger_of (cell_of self.now).origin.row (actions.Arrive modem heard) ≡ Some stranger) }
         ensures not_spent { result ≢ Err (refusals.Book faults.FramesSpent) }
+        // A pass that knows the cell closed is refused so.
         ensures shut { (pass_of pass.old).closed ≡ true
             → stranger_of (cell_of self.now).origin.row (actions.Arrive modem heard) ≡ None
             → result ≡ Err refusals.Closed }

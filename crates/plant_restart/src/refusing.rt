@@ -86,6 +86,7 @@ pub fn refused_states(
     core: &LiveCore,
     plant: &Plant,
 ) -> Result<Vec<RefusedState>, AllocError>
+    // If the core rests, these are the faults of all states under the rows of the plant.
     ensures rests { IfOk result (λ refused. (frame : ℕ) → Rests (live_view core.now) frame
         → refused.items ≡ refused_states plant.now (states_by_name (live_view core.now))) }
     ensures restless { IfOk result (λ refused. ((frame : ℕ) → ¬ Rests (live_view core.now) frame) → refused.items ≡ []) }

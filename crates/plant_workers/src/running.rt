@@ -145,6 +145,7 @@ pub fn run_workers_on<R: Threads + Wait + Sync, G: Gate<R> + Sync>(
         IsOutcome plant steps.items (map view_of s.books.items) s.receipts.items s.maps.items) }
     ensures walked { OnOk result (IsServable plant steps.items) }
     ensures walk { (fault : CoreFault) → IsFirstUnserved plant steps.items fault → result ≡ Err (Core fault) }
+    // A Tick past the last frame number before any slice change is reported before a thread starts.
     ensures spent { (place : ℕ) → IsServable plant steps.items
         → IsFirstSpent plant (before_reslice steps.items) place → result ≡ Err (Core (Book FramesSpent)) }
     ensures err { IfErr result (IsFault plant steps.items) }

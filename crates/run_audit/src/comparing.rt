@@ -83,6 +83,7 @@ pub fn compare(
     ensures books { IfOk result (λ s. s.books ≡ settled.books) }
     ensures receipts { IfOk result (λ s. s.receipts ≡ settled.receipts) }
     ensures maps { IfOk result (λ s. s.maps.items ≡ assembly.maps) }
+    // What was put is what the steps collect, operator by operator.
     ensures put { OnOk result ((assembly.plant ≡ plant.now)
         × ArePut steps.now (map view_of settled.books.items) assembly.placings) }
     // Otherwise exactly the first fault.

@@ -43,6 +43,7 @@ pub fn settle(
     // A receipt that strays, and an entry that was not reported just once, are reported also if memory runs out.
     ensures strayed { (op index : ℕ) → (result ≡ Err (Strayed op index))
         ↔ IsFirstStrayed (map view_of books.items) receipts.items op index }
+    // An entry that has no receipt, or two, is reported exactly in its case.
     ensures short { (op : ℕ) → (result ≡ Err (Short op))
         ↔ IsFirstFault (map view_of books.items) receipts.items maps.items (Short op) }
 {
