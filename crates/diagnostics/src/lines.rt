@@ -6,8 +6,8 @@ use crate::joint::name_of;
 use crate::reason::{GapText, Reason};
 use crate::report::Report;
 use crate::values::say_address;
+use line_service::{FieldError, FieldFault, LineStep, NumberName, message_in, put_line};
 use plant::{OperatorRow, Plant, Routes};
-use script_format::{FieldError, FieldFault, LineStep, NumberName, message_in, put_line};
 
 /// Returns the field of a line, counted from 0; an empty one where there is none.
 fn field_of(line: &str, field: usize) -> &str {

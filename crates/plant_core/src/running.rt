@@ -3,12 +3,12 @@
 ghost use Rattle.std.specs.Prelude.{◌≡◌, ◌<◌, [], ◌∷◌, take, length, slice_get, Some, Err, IfOk, IfErr, OnOk, OnErr};
 ghost use Rattle.run_model.specs.declared.step.Step.{Step};
 ghost use Rattle.run_model.specs.Steps.{Steps};
-ghost use Rattle.live_core.specs.Faults.{step_fault, IsReported};
-ghost use Rattle.live_core.specs.Reachable.{LeadsOn};
+ghost use Rattle.plant_core.specs.live.Faults.{step_fault, IsReported};
+ghost use Rattle.plant_core.specs.live.Reachable.{LeadsOn};
 ghost use Rattle.plant_core.specs.CoreView.{core_view};
 
 use crate::held::PlantCore;
-use live_core::CoreFault;
+use crate::live::CoreFault;
 use run_model::{Out, Step};
 use std::alloc::Global;
 

@@ -7,7 +7,7 @@ ghost use Rattle.operator_model.specs.declared.action.Action.TheVariants as acti
 ghost use Rattle.operator_model.specs.Machine.{stranger_of};
 ghost use Rattle.operator_book.specs.ViewOf.{view_of};
 ghost use Rattle.operator_book.specs.declared.book.BookFault.TheVariants as faults;
-ghost use Rattle.cell_state.specs.declared.cell_fault.CellFault.TheVariants as refusals;
+ghost use Rattle.plant_workers.specs.declared.cell_state.cell_fault.CellFault.TheVariants as refusals;
 ghost use Rattle.plant_passes.specs.Runs.{origin_of};
 ghost use Rattle.plant_passes.specs.Histories.{mark_entries};
 ghost use Rattle.plant_passes.specs.Passes.{IsOfCell, state_seen, first_passes, ActsInTurn, LooksOn};
@@ -19,11 +19,10 @@ use crate::pass::{Pass, PassedCell};
 use crate::steps::{CopyStep, JoinStep, LookStep};
 use crate::turns;
 use crate::view::BookParts;
-use cell_state::CellFault;
 use dsx_messages::Modem;
 use operator_book::{Action, Book, BookFault, Heard};
 use plant::is_listed;
-use run_receipts::Receipt;
+use plant_workers::{CellFault, Receipt};
 use std::alloc::{AllocError, Global};
 use std::sync::Wait;
 
