@@ -12,7 +12,8 @@ use crate::values::{
 use crate::wanted::{bounds_of, say_must, say_wanted};
 use dsx_messages::Modem;
 use hex::FromHex;
-use slice_table::{Field, Key, Place, class_fields, flow_fields, operator_fields, plant_fields};
+use plant_file_laws::{class_fields, flow_fields, operator_fields, plant_fields};
+use slice_table::{Field, Key, Place};
 use toml::{Table, Value};
 
 /// Adds what is wrong in a table, if something is said.

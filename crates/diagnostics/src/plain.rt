@@ -2,7 +2,8 @@
 //! most plant files are ASCII; where the end of a text is not, `str` decides what white space is.
 
 use memchr::{memchr, memchr_iter};
-use slice_table::{Field, class_fields, flow_fields, operator_fields, plant_fields};
+use plant_file_laws::{class_fields, flow_fields, operator_fields, plant_fields};
+use slice_table::Field;
 use std::iter::once;
 
 /// Whether a plant file has a `{` anywhere.

@@ -1,4 +1,3 @@
--- What a rank is computed from, and its ranges (implementation-specific).
 use Rattle.std.specs.Prelude.{ℕ, ◌≤◌, ◌<◌, ◌^◌}
 
 -- what a rank is computed from: the traffic priority, the frames waited (held at 255),

@@ -1,4 +1,3 @@
--- What contracts see of a device in memory (implementation-specific).
 use Rattle.std.specs.Prelude.{ℕ, List}
 use Rattle.line_journal.specs.declared.memory.Memory.{Memory}
 

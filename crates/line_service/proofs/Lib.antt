@@ -1,4 +1,3 @@
-pub mod ScriptLemmas
 mod Common
 pub mod FrontLemmas
 pub mod LeftLemmas

@@ -1,4 +1,3 @@
-pub mod script
 pub mod Bytes
 pub mod Ends
 pub mod Front

@@ -1,4 +1,3 @@
-pub mod ComparisonLemmas
 mod Common
 pub mod Addresses
 pub mod Holders

@@ -1,4 +1,3 @@
-pub mod comparison
 pub mod Name
 pub mod Classes
 pub mod Consts

@@ -1,4 +1,3 @@
-pub mod LiveLemmas
 mod Common
 pub mod WaitingLemmas
 pub mod RecordLemmas

@@ -1,4 +1,3 @@
-pub mod live
 pub mod Waiting
 pub mod Recorded
 pub mod RecordView

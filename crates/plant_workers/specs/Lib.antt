@@ -1,7 +1,3 @@
-pub mod receipts
-pub mod cell_state
-pub mod audit
-pub mod plan
 pub mod Parts
 pub mod Refusing
 pub mod Faulting

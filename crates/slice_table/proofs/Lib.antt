@@ -1,4 +1,3 @@
-pub mod FileKeysLemmas
 mod Common
 pub mod Trees
 pub mod EachValue

@@ -1,4 +1,3 @@
-pub mod file_keys
 pub use Rattle.plant.specs.Name
 pub use Rattle.plant.specs.Classes
 pub use Rattle.plant.specs.Consts

@@ -1,5 +1,3 @@
-pub mod ResumedLemmas
-pub mod DurableLemmas
 mod Common
 pub mod ReadLemmas
 pub mod CommandLemmas

@@ -1,5 +1,3 @@
-pub mod resumed
-pub mod durable
 pub mod Commands
 pub mod Taking
 pub mod Serving

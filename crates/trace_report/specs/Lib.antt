@@ -1,5 +1,3 @@
-pub mod table
-pub mod checks
 pub mod Decision
 pub mod Names
 pub mod Quotes

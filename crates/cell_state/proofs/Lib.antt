@@ -1,0 +1,4 @@
+mod Common
+pub mod TakeLemmas
+mod ReceiptLemmas
+mod RoomLemmas

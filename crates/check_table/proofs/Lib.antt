@@ -1,0 +1,19 @@
+mod Common
+pub mod ListLemmas
+pub mod EntryLemmas
+pub mod TableLemmas
+pub mod FlowLemmas
+pub mod EncodingLemmas
+pub mod SetLemmas
+pub mod RoomLemmas
+pub mod AdditionLemmas
+pub mod ChangeLemmas
+pub mod DeletionLemmas
+pub mod RequestLemmas
+pub mod OnceLemmas
+pub mod MessageLemmas
+pub mod ExampleLemmas
+pub mod HandledLemmas
+pub mod WaitLemmas
+pub mod PendingFlowLemmas
+pub mod StepLemmas

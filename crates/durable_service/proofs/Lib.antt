@@ -1,0 +1,4 @@
+mod Common
+pub mod DoneLemmas
+pub mod ListLemmas
+pub mod LeadLemmas

@@ -1,4 +1,0 @@
-pub mod Common
-pub mod TakeLemmas
-pub mod ReceiptLemmas
-pub mod RoomLemmas
