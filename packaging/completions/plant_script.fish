@@ -2,7 +2,7 @@
 complete -c plant_script -f
 complete -c plant_script -n '__fish_use_subcommand' -l input -r -F -d 'Read FILE in place of standard input'
 complete -c plant_script -n '__fish_use_subcommand' -l json -d 'Write a JSON object for each line of the output'
-complete -c plant_script -n '__fish_use_subcommand' -l strict -d 'Refuse unknown keys, with status 3 and `fault: plant 12 KEY`'
+complete -c plant_script -n '__fish_use_subcommand' -l strict -d 'Refuse what is warned of, with status 3 and `fault: plant 12 KEY`'
 complete -c plant_script -n '__fish_use_subcommand' -l state -x -a '(__fish_complete_directories)' -d 'Keep the lines and the state in FOLDER, which is there already'
 complete -c plant_script -n '__fish_use_subcommand' -l snapshot-every -x -d 'With --state, save the state each N lines (10,000)'
 complete -c plant_script -n '__fish_use_subcommand' -s h -l help -d 'Print help'
@@ -23,7 +23,7 @@ complete -c plant_script -n '__fish_seen_subcommand_from one; and not __fish_see
 complete -c plant_script -n '__fish_seen_subcommand_from one; and not __fish_seen_subcommand_from help' -s h -l help -d 'Print help'
 complete -c plant_script -n '__fish_seen_subcommand_from check; and not __fish_seen_subcommand_from help' -l input -r -F -d 'Read FILE in place of standard input'
 complete -c plant_script -n '__fish_seen_subcommand_from check; and not __fish_seen_subcommand_from help' -l json -d 'Write a JSON object for each line of the output'
-complete -c plant_script -n '__fish_seen_subcommand_from check; and not __fish_seen_subcommand_from help' -l strict -d 'Refuse unknown keys, with status 3 and `fault: plant 12 KEY`'
+complete -c plant_script -n '__fish_seen_subcommand_from check; and not __fish_seen_subcommand_from help' -l strict -d 'Refuse what is warned of, with status 3 and `fault: plant 12 KEY`'
 complete -c plant_script -n '__fish_seen_subcommand_from check; and not __fish_seen_subcommand_from help' -s h -l help -d 'Print help'
 complete -c plant_script -n '__fish_seen_subcommand_from run; and not __fish_seen_subcommand_from help' -l input -r -F -d 'Read FILE in place of standard input'
 complete -c plant_script -n '__fish_seen_subcommand_from run; and not __fish_seen_subcommand_from help' -l json -d 'Write a JSON object for each line of the output'

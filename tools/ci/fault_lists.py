@@ -57,8 +57,10 @@ def changed(changes):
 
 
 def check(program, lines):
+    """Returns standard output, and the list on standard error, which has no warnings."""
     done = subprocess.run([program, "check"], input="\n".join(lines).encode(), capture_output=True, timeout=60, check=False)
-    return done.stdout.decode(), done.stderr.decode()
+    listed = (line for line in done.stderr.decode().splitlines(keepends=True) if not line.startswith("warning: "))
+    return done.stdout.decode(), "".join(listed)
 
 
 def first_fault(output):

@@ -12,6 +12,8 @@ PROGRAM = str(HERE.parent / "crates/plant_program/out/plant_program")
 PLANT = (HERE.parent / "examples/plant_p2.toml").read_text()
 NO_BAR = "no line is ---, so the whole input was read as the plant file: write --- before the script\n"
 USAGE = "The program reads a plant file and a script from standard input: plant_script run < script.txt\n"
+NO_BACKOFF = ("warning: plant, line {}: data_start and data_end are 0: modems whose requests collide repeat them at the same minislot, and collide again: "
+              "write greater ones, as data_start = 2 and data_end = 8\n")
 UNKNOWN = 'unknown operator "C": the operators are A, B'
 
 
@@ -42,7 +44,8 @@ CASES = [
     ("run", "[plant]\nT\n", 3, "..\n" + NO_BAR),
     ("run", "[plant]\r\n---\r\n", 3, "..\nline 2: --- is followed by a carriage return (CRLF): end lines with LF alone\n"),
     ("run", PLANT, 0, NO_BAR),
-    ("check", PLANT, 0, ""),
+    ("check", PLANT, 0, NO_BACKOFF.format(1)),
+    ("check", changed("ucd_count = 1", "ucd_count = 1\ndata_end = 8"), 0, ""),
     ("check", changed("[plant]", "[plant"), 3, '..: "[plant"\n' + NO_BAR),
     ("check", changed("frame_us = 2000\n", ""), 3, "plant, line 1: frame_us is missing: it must be an integer from 1 to 1000000\n"),
     ("check", changed("inbox = 4", "inbox = 0"), 3, "operator[0] (A), line 17: inbox must be an integer from 1 to 256, not 0\n"),
@@ -65,7 +68,8 @@ CASES = [
     ("run", changed("head = 8", "head = 8\nack_wayt = 9") + "---\n", 0, "warning: line 4: unknown key plant.ack_wayt (did you mean ack_wait?)\n"),
     ("threads", changed("[plant]", "[[flow]]\n[plant]") + "---\n", 0,
      "warning: line 1: unknown table [[flow]] (did you mean [[operator.flow]]?)\n"),
-    ("check", changed("[plant]", "[[classes]]\n[plant]"), 0, "warning: line 1: unknown table [[classes]] (did you mean class?)\n"),
+    ("check", changed("[plant]", "[[classes]]\n[plant]"), 0,
+     "warning: line 1: unknown table [[classes]] (did you mean class?)\n" + NO_BACKOFF.format(2)),
     ("check", script("T", "T C"), 4, line(2, "T C", UNKNOWN)),
     ("run", script("T\r"), 4, line(1, "T\\r", "it ends in a carriage return (CRLF): end lines with LF alone")),
     ("run", script("T\tA"), 4, line(1, "T\\tA", "it has a tab: separate fields by one space")),
@@ -81,6 +85,8 @@ CASES = [
      line(2, "Z 1 8/32/32 40/32/32", "operator A is at frame 1: new slices must start at a later frame, not at 1")),
     ("trace", script("T", "Z 1 8/32/32 40/32/32"), 4,
      line(2, "Z 1 8/32/32 40/32/32", "operator A is at frame 1: new slices must start at a later frame, not at 1")),
+    ("run", script("K"), 4, line(1, "K", "K is a line of serve --state, resume, restore and snapshot: a script after a plant file has M, Q, T and Z")),
+    ("run plant.toml", "", 2, "..\nA command reads standard input, or a file with the option --input: plant_script run --input script.txt\n"),
     ("trace", changed("head = 8", "head = 8\nack_wayt = 9") + "---\n", 0, "warning: line 4: unknown key plant.ack_wayt (did you mean ack_wait?)\n"),
     ("trace", PLANT, 0, NO_BAR),
     ("history A", script("T", "Z 2 8/32/33 40/32/32"), 4,

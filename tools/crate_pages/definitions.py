@@ -36,15 +36,15 @@ class Section:
 
 @dataclass
 class SpecsFile:
-    """A file of definitions: its name, its first comment, and its sections."""
+    """A file of definitions: its path below specs/, its first comment, and its sections."""
 
     name: str
     comment: str
     sections: list
 
 
-def read_file(path):
-    """Returns what a file defines."""
+def read_file(folder, path):
+    """Returns what a file defines. Its name is its path below the folder of definitions."""
     comment, sections = "", [Section("")]
     for number, chunk in enumerate(chunks_of(flat(path.read_text().splitlines()))):
         comments = [line for line in chunk if line.startswith("--")]
@@ -55,7 +55,7 @@ def read_file(path):
             comment = comment_of(comments)
         elif len(comments) == len(chunk):
             sections.append(Section(comment_of(comments)))
-    return SpecsFile(path.name, comment, [it for it in sections if it.definitions])
+    return SpecsFile(path.relative_to(folder).as_posix(), comment, [it for it in sections if it.definitions])
 
 
 def flat(lines):

@@ -75,7 +75,7 @@ def edits_of(folder):
 
 def specs_of(folder):
     """Returns the files of definitions of a crate that have any, by their names."""
-    files = [read_file(path) for path in sorted((folder / "specs").glob("*.antt"))]
+    files = [read_file(folder / "specs", path) for path in sorted((folder / "specs").rglob("*.antt"))]
     return [file for file in files if file.sections]
 
 

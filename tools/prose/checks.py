@@ -123,7 +123,7 @@ def file_findings(document, root, path):
 def names_of_crates(root):
     """Returns all words of the crates' sources and definitions, and the names of crates and of their files."""
     names = {path.name for path in root.iterdir()}
-    for path in [*root.glob("crates/*"), *root.glob("crates/*/*"), *root.glob("crates/*/specs/*"), *root.glob("crates/*/src/*")]:
+    for path in [*root.glob("crates/*"), *root.glob("crates/*/*"), *root.glob("crates/*/specs/**/*"), *root.glob("crates/*/src/**/*")]:
         names |= {path.name, path.stem}
         if path.suffix in (".rt", ".antt"):
             names.update(re.findall(r"\w+", path.read_text()))

@@ -29,14 +29,15 @@ SECONDS = 10
 # A test that waits fails after this time, once the script has an edit.
 SECONDS_OF_EDIT = 2
 MOST_EXPOSURE = 3.0
-# `check` refuses a plant with the word bad. `serve` answers each line; `die` kills it, `slow` keeps it busy, and `hold` until there is a file `go`. `resume` begins with a
+# `check` refuses a plant with the word bad, and warns of one with the word warned. `serve` answers each line; `die` kills it, `slow` keeps it busy, and `hold` until there is a file `go`. `resume` begins with a
 # plant file or a snapshot, and answers K by a snapshot with the plant file of the tests. It answers P by the plant file on a line and the
 # line of a change, unless the file is empty or has the word refused. A line `noise` gives 4,000 reasons. `serve` gives one at its end.
 # `serve --state` keeps lines in a journal, and goes on after them. It refuses a plant file with the word refused, and one in a file `slow`
 # takes a while. Of each line that it answers it says which plant file it has.
 PROGRAM = r"""#!/bin/sh
 case $1:$2 in
-check:*) cat >"$PLACE/checked"; if grep -q bad "$PLACE/checked"; then echo fault: plant 1; echo a reason >&2; exit 3; fi; echo ok ;;
+check:*) cat >"$PLACE/checked"; if grep -q bad "$PLACE/checked"; then echo fault: plant 1; echo a reason >&2; exit 3; fi
+    if grep -q warned "$PLACE/checked"; then echo warning: a key >&2; fi; echo ok ;;
 serve:--state) journal=$3/journal file='' text=''
     exec 8>"$3/lock"
     flock --nonblock 8 || { echo in use >&2; echo fault: io; exit 6; }
@@ -404,6 +405,12 @@ class Channel(unittest.TestCase):
         status, errors = self.refused(self.start(plant="bad", **self.JOURNAL))
         self.assertEqual((status, errors.splitlines()[:2]), (3, ["<3>fault: plant 1", "<3>a reason"]))
         self.assertIn("<3>serve_channel: the plant file ", errors)
+
+    def test_a_warning_of_the_check_is_one_in_the_journal(self):
+        process = self.start(plant="warned\n", **self.JOURNAL)
+        self.wait_for("P warned\n")
+        self.stop(process)
+        self.assertEqual(process.stderr.read(), "<4>warning: a key\nok\n<3>a last reason\n")
 
     def test_a_refused_reload_is_a_warning(self):
         self.start_and_send()
@@ -847,6 +854,7 @@ EDITS = [
     ("reasons_have_priorities_in_the_journal", "trap - TERM && give_input) 2> >(pass_on)", "trap - TERM && give_input)"),
     ("reasons_have_priorities_in_the_journal", "/^ok\\$/!s", "s"),
     ("reasons_have_priorities_in_the_journal", 'check_plant 3\n', 'check_plant 4\n'),
+    ("a_warning_of_the_check_is_one_in_the_journal", "; s/^<.>warning: /<4>warning: /", ""),
     ("a_refused_reload_is_a_warning", "    check_plant 4\n    before", "    check_plant 3\n    before"),
     ("a_refused_reload_is_a_warning", "${JOURNAL_STREAM:+<$1>}serve_channel", "serve_channel"),
     ("reasons_are_held_back", "end_cut_file; echo K) 2> >(pass_on)", "end_cut_file; echo K)"),

@@ -112,6 +112,7 @@ impl Ledger {
     pub fn add(&mut self, sfid: u32, budget: Budget) -> Result<(), LedgerFault>
         ensures ok { OnOk result (self.new
             ≡ record self.old { rows = insert_entry nat_cmp self.old.rows sfid budget }) }
+        // There was room, and no row of this SFID.
         ensures was_free { OnOk result ((length self.old.rows < self.old.room)
             × IsNone (lookup (is_at (nat_cmp sfid)) self.old.rows)) }
 
@@ -179,8 +180,10 @@ impl Ledger {
     /// Returns whether the totals, with this row in place of the one of `sfid`, if any, stay within
     /// `limit`.
     pub fn fits(&self, limit: Budget, sfid: u32, budget: Budget) -> Result<(), Over>
+        // Refused so exactly if more elements would be committed than the limit.
         ensures elements { let after = insert_entry nat_cmp self.now.rows sfid budget in (result ≡ Err Over.Elements)
             ↔ (limit.elements < total_elements after) }
+        // Refused so exactly if more minislots would be committed than the limit.
         ensures minislots { let after = insert_entry nat_cmp self.now.rows sfid budget in (result
             ≡ Err Over.Minislots) ↔ ((total_elements after ≤ limit.elements) × (limit.minislots < total_minislots after)) }
         ensures ok { let after = insert_entry nat_cmp self.now.rows sfid budget in IsOk result

@@ -8,11 +8,11 @@ use Rattle.lists.specs.Results.{Fails}
 use Rattle.slice_table.specs.Tree.{PlantResult, plant_cause}
 use Rattle.operator_book.specs.declared.book.BookFault.{BookFault}
 use Rattle.operator_book.specs.declared.book.BookFault.TheVariants as books
-use Rattle.live_core.specs.declared.core_fault.ResliceFault.{ResliceFault}
-use Rattle.live_core.specs.declared.core_fault.ResliceFault.TheVariants as reslices
-use Rattle.live_core.specs.declared.core_fault.CoreFault.{CoreFault}
-use Rattle.live_core.specs.declared.core_fault.CoreFault.TheVariants as cores
-use Rattle.live_core.specs.Faults.{IsReported}
+use Rattle.plant_core.specs.declared.live.core_fault.ResliceFault.{ResliceFault}
+use Rattle.plant_core.specs.declared.live.core_fault.ResliceFault.TheVariants as reslices
+use Rattle.plant_core.specs.declared.live.core_fault.CoreFault.{CoreFault}
+use Rattle.plant_core.specs.declared.live.core_fault.CoreFault.TheVariants as cores
+use Rattle.plant_core.specs.live.Faults.{IsReported}
 use Rattle.channel_c.specs.Codes.{plant_code, reslice_code, core_code, IsOpenCode, IsStepCode}
 
 -- the least number of a fault is 1

@@ -8,11 +8,11 @@ use Rattle.run_model.specs.IsStateAfter.{CoreView}
 use Rattle.run_model.specs.Steps.{Steps}
 use Rattle.run_model.specs.declared.step.Step.{Step}
 use Rattle.run_model.specs.declared.step.Step.TheVariants as steps
-use Rattle.live_core.specs.After.{LeadsOnFromStart}
-use Rattle.live_core.specs.Faults.{step_fault, arrive_fault, IsReported}
-use Rattle.live_core.specs.Performing.{Performs}
-use Rattle.live_core.specs.declared.core_fault.CoreFault.{CoreFault}
-use Rattle.live_core.specs.declared.core_fault.CoreFault.TheVariants as cores
+use Rattle.plant_core.specs.live.After.{LeadsOnFromStart}
+use Rattle.plant_core.specs.live.Faults.{step_fault, arrive_fault, IsReported}
+use Rattle.plant_core.specs.live.Performing.{Performs}
+use Rattle.plant_core.specs.declared.live.core_fault.CoreFault.{CoreFault}
+use Rattle.plant_core.specs.declared.live.core_fault.CoreFault.TheVariants as cores
 use Rattle.channel_c.specs.declared.channel.OpenChannel.{OpenChannel}
 use Rattle.channel_c.specs.Answers.{InHandle, StepEnds, ArrivalEnds, OrNoMemory}
 use Rattle.channel_c.specs.Codes.{core_code, IsStepCode}

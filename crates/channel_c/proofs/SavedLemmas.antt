@@ -6,8 +6,8 @@ use Rattle.slice_table.specs.declared.plant_fault.PlantFault.{PlantFault}
 use Rattle.slice_table.specs.Tree.{PlantResult, plant_cause}
 use Rattle.lists.specs.Results.{Fails}
 use Rattle.run_model.specs.IsStateAfter.{CoreView}
-use Rattle.live_core.specs.declared.rest_fault.RestFault.{RestFault}
-use Rattle.live_core.specs.declared.rest_fault.RestFault.TheVariants as rests
+use Rattle.plant_core.specs.declared.live.rest_fault.RestFault.{RestFault}
+use Rattle.plant_core.specs.declared.live.rest_fault.RestFault.TheVariants as rests
 use Rattle.snapshot_format.specs.declared.saved.Snapshot.{Snapshot}
 use Rattle.snapshot_format.specs.declared.fault.SnapshotFault.{SnapshotFault}
 use Rattle.snapshot_format.specs.declared.fault.SnapshotFault.TheVariants as snapshots
@@ -27,7 +27,7 @@ use Rattle.plant_restart.specs.Restarted.{IsRestoreFault}
 use Rattle.channel_c.specs.declared.channel.OpenChannel.{OpenChannel}
 use Rattle.channel_c.specs.Codes.{IsOpenCode, plant_code, rest_code, save_code, restart_code, change_code, snapshot_code, restore_code}
 use Rattle.channel_c.specs.PlantText.{plant_said}
-use Rattle.live_core.specs.Resting.{Rests}
+use Rattle.plant_core.specs.live.Resting.{Rests}
 use Rattle.channel_c.specs.Saved.{IsSavedText, IsSaveRefusal, IsSaveCode, SaveEnds, IsChanged, IsChangeCode, ChangeEnds, IsRestoreCode, IsRefusedCode, IsReopenCode, IsReopenCodeOf}
 use Rattle.channel_c.specs.Waiting.{view_of, text_of, waiting_of, IsSame}
 use Rattle.channel_c.proofs.CodeLemmas.{open_refused, plant_more}

@@ -17,9 +17,9 @@ use Rattle.slice_table.specs.declared.plant_fault.PlantFault.{PlantFault}
 use Rattle.slice_table.specs.declared.plant_fault.PlantFault.TheVariants.{NotToml}
 use Rattle.slice_table.specs.ReadPlant.{text_plant}
 use Rattle.run_model.specs.IsStateAfter.{CoreView}
-use Rattle.live_core.specs.After.{IsAfter}
-use Rattle.live_core.specs.Performing.{Performs}
-use Rattle.live_core.proofs.GoLemmas.{after_more}
+use Rattle.plant_core.specs.live.After.{IsAfter}
+use Rattle.plant_core.specs.live.Performing.{Performs}
+use Rattle.plant_core.proofs.LiveLemmas.GoLemmas.{after_more}
 use Rattle.channel_c.specs.declared.channel.OpenChannel.{OpenChannel}
 use Rattle.channel_c.specs.PlantText.{plant_said}
 use Rattle.channel_c.specs.Waiting.{view_of, text_of, waiting_of, IsOpenedFrom, IsSame, GoesOn}

@@ -6,7 +6,7 @@ use Rattle.operator_model.specs.declared.action.SliceRow.{SliceRow}
 use Rattle.operator_model.specs.declared.heard.Heard.{Heard}
 use Rattle.run_model.specs.declared.step.Step.{Step}
 use Rattle.run_model.specs.declared.step.Step.TheVariants as steps
-use Rattle.live_core.specs.Faults.{step_fault}
+use Rattle.plant_core.specs.live.Faults.{step_fault}
 use Rattle.channel_c.specs.declared.channel.OpenChannel.{OpenChannel}
 use Rattle.channel_c.specs.declared.slices.SliceBudget.{SliceBudget}
 use Rattle.channel_c.specs.Codes.{IsStepCode}

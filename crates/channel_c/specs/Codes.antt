@@ -6,12 +6,12 @@ use Rattle.slice_table.specs.declared.plant_fault.PlantFault.{PlantFault}
 use Rattle.slice_table.specs.declared.plant_fault.PlantFault.TheVariants as plants
 use Rattle.slice_table.specs.Tree.{PlantResult}
 use Rattle.operator_book.specs.declared.book.BookFault.TheVariants as books
-use Rattle.live_core.specs.declared.core_fault.ResliceFault.{ResliceFault}
-use Rattle.live_core.specs.declared.core_fault.ResliceFault.TheVariants as reslices
-use Rattle.live_core.specs.declared.core_fault.CoreFault.{CoreFault}
-use Rattle.live_core.specs.declared.core_fault.CoreFault.TheVariants as cores
-use Rattle.live_core.specs.declared.rest_fault.RestFault.{RestFault}
-use Rattle.live_core.specs.declared.rest_fault.RestFault.TheVariants as rests
+use Rattle.plant_core.specs.declared.live.core_fault.ResliceFault.{ResliceFault}
+use Rattle.plant_core.specs.declared.live.core_fault.ResliceFault.TheVariants as reslices
+use Rattle.plant_core.specs.declared.live.core_fault.CoreFault.{CoreFault}
+use Rattle.plant_core.specs.declared.live.core_fault.CoreFault.TheVariants as cores
+use Rattle.plant_core.specs.declared.live.rest_fault.RestFault.{RestFault}
+use Rattle.plant_core.specs.declared.live.rest_fault.RestFault.TheVariants as rests
 use Rattle.snapshot_format.specs.declared.fault.SnapshotFault.{SnapshotFault}
 use Rattle.snapshot_format.specs.declared.fault.SnapshotFault.TheVariants as snapshots
 use Rattle.plant_restart.specs.declared.fault.SaveFault.{SaveFault}

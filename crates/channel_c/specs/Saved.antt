@@ -3,8 +3,8 @@ use Rattle.std.specs.Prelude.{◌≡◌, ◌≢◌, ◌⊎◌, ℕ, ◌<◌, Lis
 use Rattle.plant.specs.declared.plant.PlantFields.{PlantFields}
 use Rattle.slice_table.specs.Tree.{PlantResult}
 use Rattle.run_model.specs.IsStateAfter.{CoreView}
-use Rattle.live_core.specs.declared.rest_fault.RestFault.{RestFault}
-use Rattle.live_core.specs.Resting.{Rests, IsRestFault}
+use Rattle.plant_core.specs.declared.live.rest_fault.RestFault.{RestFault}
+use Rattle.plant_core.specs.live.Resting.{Rests, IsRestFault}
 use Rattle.snapshot_format.specs.declared.saved.Snapshot.{Snapshot}
 use Rattle.snapshot_format.specs.declared.fault.SnapshotFault.{SnapshotFault}
 use Rattle.snapshot_format.specs.Snapshot.{snapshot_of}

@@ -6,9 +6,9 @@ use Rattle.run_model.specs.declared.step.Out.{Out}
 use Rattle.run_model.specs.IsStateAfter.{CoreView}
 use Rattle.run_model.specs.Opened.{opened_core}
 use Rattle.run_model.specs.Steps.{Steps}
-use Rattle.live_core.specs.After.{IsAfter, LeadsOnFromStart}
-use Rattle.live_core.specs.LiveView.{live_view}
-use Rattle.live_core.specs.Performing.{Performs}
+use Rattle.plant_core.specs.live.After.{IsAfter, LeadsOnFromStart}
+use Rattle.plant_core.specs.live.LiveView.{live_view}
+use Rattle.plant_core.specs.live.Performing.{Performs}
 use Rattle.channel_c.specs.declared.channel.OpenChannel.{OpenChannel}
 use Rattle.channel_c.specs.PlantText.{plant_said}
 

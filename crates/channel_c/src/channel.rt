@@ -2,7 +2,7 @@
 
 ghost use Rattle.std.specs.Prelude.{◌≤◌, length};
 
-use live_core::LiveCore;
+use plant_core::LiveCore;
 use run_model::Out;
 use tlv24::Bytes;
 

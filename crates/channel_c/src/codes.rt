@@ -3,8 +3,8 @@
 ghost use Rattle.std.specs.Prelude.{◌≡◌};
 ghost use Rattle.channel_c.specs.Codes.{change_code, core_code, plant_code, reslice_code, rest_code, restart_code, restore_code, save_code};
 
-use live_core::{CoreFault, ResliceFault, RestFault};
 use operator_book::BookFault;
+use plant_core::{CoreFault, ResliceFault, RestFault};
 use plant_restart::{ChangeFault, RestartFault, RestoreFault, SaveFault};
 use slice_table::PlantFault;
 

@@ -32,7 +32,8 @@ Exit status: 0 success, 4 invalid line, 5 out of memory, 6 I/O error.";
 pub(crate) const CHECK_INPUT: &str =
     "Standard input: a plant file, a line --- and a script; the script may be left out.
 Standard output: `ok`, or a line `fault:` with the first fault.
-Standard error: all faults, each with its line number, and warnings of unknown keys. They do not change the status.
+Standard error: all faults, each with its line number, and warnings of unknown keys and of plants that cannot work. Warnings
+do not change the status.
 
     plant_script check < script.txt
 

@@ -131,7 +131,7 @@ pub enum OptionName {
     Input,
     /// Writes objects of JSON in place of lines.
     Json,
-    /// Refuses unknown keys.
+    /// Refuses what `check` warns of.
     Strict,
     /// Keeps a journal in a folder.
     State,
@@ -158,7 +158,8 @@ impl OptionName {
         match self {
             OptionName::Input => "Read FILE in place of standard input",
             OptionName::Json => "Write a JSON object for each line of the output",
-            OptionName::Strict => "Refuse unknown keys, with status 3 and `fault: plant 12 KEY`",
+            OptionName::Strict =>
+                "Refuse what is warned of, with status 3 and `fault: plant 12 KEY`",
             OptionName::State => "Keep the lines and the state in FOLDER, which is there already",
             OptionName::SnapshotEvery => "With --state, save the state each N lines (10,000)",
         }

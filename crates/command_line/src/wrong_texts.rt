@@ -15,6 +15,10 @@ use std::alloc::{AllocError, Global};
 const WHERE_INPUT_IS: &str =
     "\nThe program reads a plant file and a script from standard input: plant_script run < script.txt\n";
 
+/// How a file is given, after a message of clap about an operand.
+const HOW_FILE_IS_GIVEN: &str =
+    "\nA command reads standard input, or a file with the option --input: plant_script run --input script.txt\n";
+
 /// Returns the commands that have an option, as a sentence says them.
 fn commands_with(option: OptionName) -> &'static str {
     match option {
@@ -58,6 +62,14 @@ fn options_text(alloc: Global, fault: OptionsFault) -> Result<String, AllocError
     }
 }
 
+/// Returns what is said after a message of clap: of an operand, which no command takes but `history`, how a file is given.
+fn text_after_clap(kind: ErrorKind, message: &str) -> &'static str {
+    match kind {
+        ErrorKind::UnknownArgument if !message.contains("argument '-") => HOW_FILE_IS_GIVEN,
+        _ => WHERE_INPUT_IS,
+    }
+}
+
 /// Returns the message of an error of clap.
 fn error_text(alloc: Global, error: &Error) -> Result<String, AllocError> {
     if let Some(fault) = option_fault(alloc, error)? {
@@ -68,9 +80,10 @@ fn error_text(alloc: Global, error: &Error) -> Result<String, AllocError> {
             alloc,
             "the option --version is alone on the command line\n",
         ),
-        _ => {
+        kind => {
             let mut text = format!(in alloc; "{error}")?;
-            text.push_str(WHERE_INPUT_IS)?;
+            let after = text_after_clap(kind, text.as_str());
+            text.push_str(after)?;
             Ok(text)
         }
     }

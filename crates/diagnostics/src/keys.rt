@@ -12,8 +12,7 @@ use crate::values::{
 use crate::wanted::{bounds_of, say_must, say_wanted};
 use dsx_messages::Modem;
 use hex::FromHex;
-use plant_file_laws::{class_fields, flow_fields, operator_fields, plant_fields};
-use slice_table::{Field, Key, Place};
+use slice_table::{Field, Key, Place, class_fields, flow_fields, operator_fields, plant_fields};
 use toml::{Table, Value};
 
 /// Adds what is wrong in a table, if something is said.

@@ -6,8 +6,8 @@ use crate::joint::name_of;
 use crate::reason::{GapText, Reason};
 use crate::report::Report;
 use crate::values::say_address;
+use line_service::{FieldError, FieldFault, LineStep, NumberName, message_in, put_line};
 use plant::{OperatorRow, Plant, Routes};
-use script_format::{FieldError, FieldFault, LineStep, NumberName, message_in, put_line};
 
 /// Returns the field of a line, counted from 0; an empty one where there is none.
 fn field_of(line: &str, field: usize) -> &str {
@@ -123,6 +123,15 @@ fn say_field_count(reason: &mut Reason, plant: &Plant, line: &str) {
     }
 }
 
+/// Says that a first field is a line of other commands.
+fn say_service_line(reason: &mut Reason, word: &str, commands: &str) {
+    reason.say("{} is a line of ", &[GapText::Words(word)]);
+    reason.say(
+        "{}: a script after a plant file has M, Q, T and Z",
+        &[GapText::Words(commands)],
+    );
+}
+
 /// Says that a first field is not a command of a script.
 fn say_no_word(reason: &mut Reason, word: &str) {
     match word {
@@ -134,6 +143,8 @@ fn say_no_word(reason: &mut Reason, word: &str) {
             "unknown command {}: write it as a capital letter",
             &[GapText::Quoted(word)],
         ),
+        "K" | "N" => say_service_line(reason, word, "serve --state, resume, restore and snapshot"),
+        "P" => say_service_line(reason, word, "resume, restore and snapshot"),
         _ if word.starts_with('#') => reason.say("a script has no comments: remove the line", &[]),
         _ => reason.say(
             "unknown command {}: a line must begin with M, Q, T or Z",

@@ -2,8 +2,7 @@
 //! most plant files are ASCII; where the end of a text is not, `str` decides what white space is.
 
 use memchr::{memchr, memchr_iter};
-use plant_file_laws::{class_fields, flow_fields, operator_fields, plant_fields};
-use slice_table::Field;
+use slice_table::{Field, class_fields, flow_fields, operator_fields, plant_fields};
 use std::iter::once;
 
 /// Whether a plant file has a `{` anywhere.

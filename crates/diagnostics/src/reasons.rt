@@ -9,9 +9,10 @@ use crate::reason::{GapText, Reason};
 use crate::refusals::refused_of;
 use crate::report::Report;
 use crate::unread::say_all_unread;
+use crate::unworkable::say_unworkable;
 use command_line::{BatchWord, RunReport, Word, text_of_wrong};
+use line_service::LineStep;
 use plant::{Plant, Routes};
-use script_format::LineStep;
 use slice_table::{PlantFault, read_plant};
 use std::alloc::{AllocError, Global};
 use toml::Table;
@@ -101,10 +102,11 @@ fn is_of_script(word: Word<'_>, status: u8) -> bool {
     }
 }
 
-/// Says why a valid plant has a status, where that is not about its script.
+/// Says why a valid plant has a status, where that is not about its script, and what `check` warns of.
 fn say_beside_script(
     reason: &mut Reason,
     word: Word<'_>,
+    file: &File<'_>,
     plant: &Plant,
     parts: &InputParts<'_>,
     status: u8,
@@ -114,6 +116,7 @@ fn say_beside_script(
             say_stranger(reason, plant.rows(), operator);
             reason.say("\n", &[]);
         }
+        (Word::Batch(BatchWord::Check), 0) => say_unworkable(reason, file, plant),
         (Word::Serve, _) | (Word::Batch(BatchWord::Check), _) => {}
         (_, 0) => say_no_bar(reason, parts),
         _ => {}
@@ -124,6 +127,7 @@ fn say_beside_script(
 fn say_behind_plant(
     reason: &mut Reason,
     word: Word<'_>,
+    file: &File<'_>,
     plant: Plant,
     parts: &InputParts<'_>,
     status: u8,
@@ -131,7 +135,7 @@ fn say_behind_plant(
     if is_of_script(word, status) {
         say_script(reason, plant, parts);
     } else {
-        say_beside_script(reason, word, &plant, parts, status);
+        say_beside_script(reason, word, file, &plant, parts, status);
     }
 }
 
@@ -172,9 +176,17 @@ fn say_status(
     status: u8,
 ) {
     match read_plant(reason.alloc, parts.plant) {
-        Ok(plant) => say_behind_plant(reason, word, plant, parts, status),
+        Ok(plant) => say_behind_plant(reason, word, file, plant, parts, status),
         Err(PlantFault::NoMemory) => reason.is_lost = true,
         Err(fault) => say_plant(reason, file, parts, fault),
+    }
+}
+
+/// Returns whether of a plant file and its status nothing is said but which keys are not known.
+fn is_accepted(word: Word<'_>, parts: &InputParts<'_>, status: u8) -> bool {
+    match word {
+        Word::Batch(BatchWord::Check) => false,
+        _ => status == 0 && parts.script.is_some(),
     }
 }
 
@@ -188,7 +200,7 @@ fn say_document(
 ) {
     let file = File::new(reason, document, parts.plant);
     say_all_unread(reason, &file);
-    if status != 0 || parts.script.is_none() {
+    if !is_accepted(word, parts, status) {
         say_status(reason, word, &file, parts, status);
     }
 }
@@ -206,7 +218,7 @@ fn say_no_table(reason: &mut Reason, parts: &InputParts<'_>, error: &toml::de::E
 /// Says why an input of a plant and a script has a status.
 fn say_of_plant(reason: &mut Reason, word: Word<'_>, input: &str, status: u8) {
     let parts = parts_under(word, input);
-    if status == 0 && parts.script.is_some() && is_plain(parts.plant) {
+    if is_accepted(word, &parts, status) && is_plain(parts.plant) {
         return;
     }
     match toml::table_from_str(reason.alloc, parts.plant) {
@@ -222,8 +234,8 @@ fn say_of_one(reason: &mut Reason, input: &str) {
     report.say(reason, "invalid line", "invalid lines");
 }
 
-/// Returns why an input has a status under a command, and warnings of unknown keys of its plant file. Empty where there is
-/// nothing to say. All invalid keys of a plant file are named, and all invalid lines of a script, up to a limit. The input of
+/// Returns why an input has a status under a command, and warnings of its plant file: of unknown keys, and under `check` of keys
+/// with which no channel works. Empty where there is nothing to say. All invalid keys of a plant file are named, and all invalid lines of a script, up to a limit. The input of
 /// `serve` may be the plant file alone, and the lines after it have no message here.
 pub fn reason_of(
     alloc: Global,

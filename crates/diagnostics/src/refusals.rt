@@ -3,11 +3,11 @@
 use crate::joint::{Side, name_of, say_over_slice, say_overlap};
 use crate::reason::{GapText, Reason};
 use crate::values::say_slice;
-use live_core::{CoreFault, LiveCore, ResliceFault};
+use line_service::LineStep;
 use operator_book::{BookFault, SliceRow};
 use plant::{Op, Plant};
+use plant_core::{CoreFault, LiveCore, ResliceFault};
 use run_model::{SliceRows, Step};
-use script_format::LineStep;
 
 /// What a refused step asked for, as far as a reason says it.
 #[derive(Drop)]

@@ -1,21 +1,17 @@
 //! Keys and tables of a plant file that are not known: the program reads none of them.
 
 use crate::file::File;
+use crate::key_messages::{KeyMessages, Severity};
 use crate::reason::{GapText, Reason};
-use crate::report::Report;
 use crate::tree::{values, values_below, values_in};
 use crate::wanted::has;
-use plant_file_laws::{class_fields, flow_fields, operator_fields, plant_fields};
-use slice_table::{Field, Place};
-use std::alloc::{AllocError, Global};
+use slice_table::{Field, Place, class_fields, flow_fields, operator_fields, plant_fields};
+use std::alloc::Global;
 use strsim::osa_distance;
 use toml::Value;
 
 /// The tables that are at the head of a plant file.
 const AT_HEAD: [&str; 3] = ["plant", "class", "operator"];
-
-/// The most unknown keys that are written.
-const MOST: u64 = 100;
 
 /// The most letters by which a key that is meant differs from what is written.
 const NEAR: usize = 2;
@@ -66,63 +62,6 @@ impl<'a> Nearest<'a> {
     }
 }
 
-/// What an unknown key is.
-#[derive(Clone, Copy, PartialEq, Eq)]
-pub(crate) enum Severity {
-    /// A warning, which changes no status.
-    Warning,
-    /// A fault of the plant file.
-    Fault,
-}
-
-/// The unknown keys of a plant file: a message of each, and the name of the first.
-#[derive(Drop)]
-pub(crate) struct UnknownKeyMessages {
-    report: Report,
-    severity: Severity,
-    /// The name of the first, as messages show it. Silent where none is unknown.
-    first: Reason,
-}
-
-impl UnknownKeyMessages {
-    /// Returns a list that has none.
-    fn new(alloc: Global, severity: Severity) -> UnknownKeyMessages {
-        UnknownKeyMessages {
-            report: Report::new(alloc, MOST),
-            severity,
-            first: Reason::new(alloc),
-        }
-    }
-
-    /// Returns a message that says nothing yet but that it is a warning, if it is one.
-    fn new_message(&self) -> Reason {
-        let mut message = Reason::new(self.report.alloc());
-        if self.severity == Severity::Warning {
-            message.say("warning: ", &[]);
-        }
-        message
-    }
-
-    /// Adds a key or a table of this name with its message.
-    fn add(&mut self, name: &Reason, message: &Reason) {
-        if self.report.is_empty() {
-            self.first.say("{}", &[GapText::Cut(name)]);
-        }
-        self.report.add(message);
-    }
-
-    /// Says the messages, and how many more there are.
-    pub(crate) fn say(&self, reason: &mut Reason) {
-        self.report.say(reason, "unknown key", "unknown keys");
-    }
-
-    /// Returns the name of the first, as messages show it. It is empty where none is unknown.
-    pub(crate) fn into_first_name(self) -> Result<String, AllocError> {
-        let UnknownKeyMessages { first, .. } = self;
-        first.into_text()
-    }
-}
-
 /// Returns the table that has a key of this name, as a file writes it.
 fn table_with(word: &str) -> Option<&'static str> {
     if has(&operator_fields(), word) {
@@ -153,7 +92,7 @@ fn say_meant(reason: &mut Reason, nearest: &Nearest<'_>) {
 
 /// Adds a key or a table that is not known, with its message: its line, what it is, its name, and what may be meant.
 fn add_unread(
-    found: &mut UnknownKeyMessages,
+    found: &mut KeyMessages,
     line: Option<u64>,
     kind: &str,
     name: &Reason,
@@ -170,16 +109,16 @@ fn add_unread(
 
 /// Adds a key of a table that is not known, with its message.
 fn add_unread_key(
-    found: &mut UnknownKeyMessages,
+    found: &mut KeyMessages,
     file: &File<'_>,
     word: &str,
     place: Place,
     fields: &[Field],
 ) {
-    let mut name = Reason::new(found.report.alloc());
+    let mut name = Reason::new(found.alloc());
     let mut nearest = Nearest::new(word);
     let mut line = None;
-    if found.report.is_open() {
+    if found.is_open() {
         name.say("{}.{}", &[GapText::Place(place), GapText::Words(word)]);
         nearest.try_fields(&mut name, fields);
         line = file.lines.line_in(place, word);
@@ -189,7 +128,7 @@ fn add_unread_key(
 
 /// Adds the keys of a table that are not known, where it is one.
 fn add_table(
-    found: &mut UnknownKeyMessages,
+    found: &mut KeyMessages,
     file: &File<'_>,
     value: &Value,
     place: Place,
@@ -215,7 +154,7 @@ fn has_tables(value: &Value) -> bool {
 }
 
 /// Adds a key or a table at the top of a file that is not known, by its name as a file writes it.
-fn add_unread_at_top(found: &mut UnknownKeyMessages, file: &File<'_>, word: &str, value: &Value) {
+fn add_unread_at_top(found: &mut KeyMessages, file: &File<'_>, word: &str, value: &Value) {
     let (kind, written) = if has_tables(value) {
         ("table", "[[{}]]")
     } else if value.is_table() {
@@ -223,10 +162,10 @@ fn add_unread_at_top(found: &mut UnknownKeyMessages, file: &File<'_>, word: &str
     } else {
         ("key", "{}")
     };
-    let mut name = Reason::new(found.report.alloc());
+    let mut name = Reason::new(found.alloc());
     let mut nearest = Nearest::new(word);
     let mut line = None;
-    if found.report.is_open() {
+    if found.is_open() {
         name.say(written, &[GapText::Words(word)]);
         nearest.try_words(&mut name, &AT_HEAD);
         line = file.lines.line_at_top(word);
@@ -235,7 +174,7 @@ fn add_unread_at_top(found: &mut UnknownKeyMessages, file: &File<'_>, word: &str
 }
 
 /// Adds the tables and keys at the top of a file that are not known.
-fn add_top(found: &mut UnknownKeyMessages, file: &File<'_>) {
+fn add_top(found: &mut KeyMessages, file: &File<'_>) {
     for (key, value) in file.document.iter() {
         if !AT_HEAD.contains(&key.as_str()) {
             add_unread_at_top(found, file, key.as_str(), value);
@@ -244,14 +183,14 @@ fn add_top(found: &mut UnknownKeyMessages, file: &File<'_>) {
 }
 
 /// Adds the keys of classes that are not known.
-fn add_classes(found: &mut UnknownKeyMessages, file: &File<'_>) {
+fn add_classes(found: &mut KeyMessages, file: &File<'_>) {
     for (class, value) in values(file.document, "class").iter().enumerate() {
         add_table(found, file, value, Place::Class(class), &class_fields());
     }
 }
 
 /// Adds the keys of an operator's provisioned flows that are not known.
-fn add_flows(found: &mut UnknownKeyMessages, file: &File<'_>, operator: usize, flows: &[Value]) {
+fn add_flows(found: &mut KeyMessages, file: &File<'_>, operator: usize, flows: &[Value]) {
     for (flow, value) in flows.iter().enumerate() {
         let place = Place::Flow(operator, flow);
         add_table(found, file, value, place, &flow_fields());
@@ -259,7 +198,7 @@ fn add_flows(found: &mut UnknownKeyMessages, file: &File<'_>, operator: usize, f
 }
 
 /// Adds the keys of operators and of their flows that are not known.
-fn add_operators(found: &mut UnknownKeyMessages, file: &File<'_>) {
+fn add_operators(found: &mut KeyMessages, file: &File<'_>) {
     for (operator, value) in values(file.document, "operator").iter().enumerate() {
         let place = Place::Operator(operator);
         add_table(found, file, value, place, &operator_fields());
@@ -268,12 +207,8 @@ fn add_operators(found: &mut UnknownKeyMessages, file: &File<'_>) {
 }
 
 /// Returns the keys and tables of a plant file that are not known.
-pub(crate) fn unknown_keys(
-    alloc: Global,
-    file: &File<'_>,
-    severity: Severity,
-) -> UnknownKeyMessages {
-    let mut found = UnknownKeyMessages::new(alloc, severity);
+pub(crate) fn unknown_keys(alloc: Global, file: &File<'_>, severity: Severity) -> KeyMessages {
+    let mut found = KeyMessages::new(alloc, severity, "unknown key", "unknown keys");
     add_top(&mut found, file);
     if let Some(value) = file.document.get("plant") {
         add_table(&mut found, file, value, Place::Plant, &plant_fields());

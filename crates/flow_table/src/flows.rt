@@ -118,8 +118,10 @@ impl Flows {
     /// Returns whether the totals of what is committed, with this flow under this SFID, stay within
     /// a limit; elements are tried first. Takes no memory.
     pub fn fits(&self, limit: Budget, sfid: u32, flow: &Flow) -> Result<(), Over>
+        // Refused so exactly if more elements would be committed than the limit.
         ensures elements { (result ≡ Err Over.Elements)
             ↔ (limit.elements < committed_elements self.now.units (with_flow sfid flow.now self.now.flows)) }
+        // Refused so exactly if more minislots would be committed than the limit.
         ensures minislots { (result ≡ Err Over.Minislots)
             ↔ ((committed_elements self.now.units (with_flow sfid flow.now self.now.flows) ≤ limit.elements)
             × (limit.minislots < committed_minislots self.now.units (with_flow sfid flow.now self.now.flows))) }
@@ -175,6 +177,7 @@ impl Flows {
     /// Takes the minislots that the modem requests in this frame as the backlog. It waits since
     /// this frame if there was none before.
     pub fn request(&mut self, sfid: u32, minislots: u16, frame: u32)
+        // Only the flow of this SFID changes.
         ensures { self.new ≡ record self.old { flows = change_at sfid (flow_after_request minislots frame) self.old.flows } }
     {
         self.by_sfid.request(sfid, minislots, frame);
@@ -184,6 +187,7 @@ impl Flows {
     /// frame.
     pub fn grant(&mut self, sfid: u32, minislots: u16, frame: u32)
         requires { frame < 4294967295 }
+        // Only the flow of this SFID changes.
         ensures { self.new ≡ record self.old { flows = change_at sfid (flow_after_grant minislots frame) self.old.flows } }
     {
         self.by_sfid.grant(sfid, minislots, frame);

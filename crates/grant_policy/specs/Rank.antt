@@ -1,3 +1,4 @@
+-- The rank by which each policy serves a flow (implementation-specific).
 use Rattle.std.specs.Prelude.{ℕ, ◌+◌, ◌-◌, ◌*◌, ◌/◌, min}
 use Rattle.grant_policy.specs.RankFacts.{RankFacts}
 use Rattle.grant_policy.specs.declared.policy.Policy.{Policy}

@@ -1,3 +1,4 @@
+-- What a rank is computed from, and its ranges (implementation-specific).
 use Rattle.std.specs.Prelude.{ℕ, ◌≤◌, ◌<◌, ◌^◌}
 
 -- what a rank is computed from: the traffic priority, the frames waited (held at 255),

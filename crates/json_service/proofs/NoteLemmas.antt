@@ -2,7 +2,7 @@
 use Rattle.std.proofs.Common.{◌≡◌, Option, Some, None, IsSome, Result, Ok, Err, OnErr, refl}
 use Rattle.operator_model.specs.declared.action.Action.TheVariants as actions
 use Rattle.operator_model.specs.Replay.{BookView}
-use Rattle.live_core.specs.Faults.{act_fault, step_fault}
+use Rattle.plant_core.specs.live.Faults.{act_fault, step_fault}
 use Rattle.run_model.specs.declared.step.Step.{Step}
 use Rattle.run_model.specs.declared.step.Step.TheVariants as steps
 use Rattle.run_model.specs.IsStateAfter.{CoreView}

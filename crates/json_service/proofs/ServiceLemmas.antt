@@ -5,7 +5,7 @@ use Rattle.run_model.specs.declared.step.Out.{Out}
 use Rattle.run_model.specs.declared.step.Step.{Step}
 use Rattle.run_model.specs.Starts.{Start, first_start}
 use Rattle.run_model.specs.IsStateAfter.{CoreView}
-use Rattle.live_core.specs.After.{IsAfter, IsAfterFrom}
+use Rattle.plant_core.specs.live.After.{IsAfter, IsAfterFrom}
 use Rattle.line_service.specs.Service.{IsServiceOf}
 use Rattle.json_service.specs.Served.{IsServedFromOpening}
 

@@ -8,7 +8,7 @@ ghost use Rattle.json_service.specs.Numbers.{numbers_of};
 
 use json_lines::{Comparison, DecidingCheck, JsonLines};
 use line_service::StepNotes;
-use live_core::LiveCore;
+use plant_core::LiveCore;
 use run_model::Step;
 use std::alloc::{AllocError, Global};
 use std::io::Write;

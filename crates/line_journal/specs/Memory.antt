@@ -1,3 +1,4 @@
+-- What contracts see of a device in memory (implementation-specific).
 use Rattle.std.specs.Prelude.{ℕ, List}
 use Rattle.line_journal.specs.declared.memory.Memory.{Memory}
 

@@ -22,6 +22,7 @@ pub fn begin<D: Device>(
     device: &mut D,
     snapshot: &SnapshotLines,
 ) -> Result<usize, DeviceError>
+    // The file has this snapshot and no line, and all of it is on the disk.
     ensures begun { IfOk result (λ gate. IsJournalSettled D.seen D.may_leave device.new gate
         × (journal_content (D.seen device.new) ≡ fresh snapshot.now)) }
 

@@ -19,6 +19,7 @@ impl<D: Device> Journal<D> {
     pub fn apply(&mut self, alloc: Global, change: &JournalChange) -> Result<(), DeviceError>
         requires { IsJournalSettled D.seen D.may_leave self.old.device self.old.gate }
 
+        // The file has what the change makes of the journal, and all of it is on the disk.
         ensures acknowledged { OnOk result (IsJournalSettled D.seen D.may_leave self.new.device self.new.gate
             × (journal_content (D.seen self.new.device) ≡ content_after change.now (journal_content (D.seen self.old.device)))) }
 

@@ -10,19 +10,19 @@ pub use Rattle.line_service.specs.declared.line_break.LineBreak.{LineBreak}
 pub use Rattle.line_service.specs.declared.line_break.LineBreak.TheVariants.{Another, End}
 pub use Rattle.line_service.specs.declared.line_outcome.LineOutcome.{LineOutcome}
 pub use Rattle.line_service.specs.declared.steps_end.StepsEnd.{StepsEnd}
-pub use Rattle.live_core.specs.After.{IsAfterFrom, IsAfter, IsReachableFromStart}
-pub use Rattle.live_core.specs.Faults.{step_fault, IsReported}
-pub use Rattle.live_core.specs.LiveView.{live_view}
+pub use Rattle.plant_core.specs.live.After.{IsAfterFrom, IsAfter, IsReachableFromStart}
+pub use Rattle.plant_core.specs.live.Faults.{step_fault, IsReported}
+pub use Rattle.plant_core.specs.live.LiveView.{live_view}
 pub use Rattle.plant.specs.declared.plant.PlantFields.{PlantFields}
 pub use Rattle.run_model.specs.IsStateAfter.{CoreView}
 pub use Rattle.run_model.specs.Starts.{Start, first_start}
 pub use Rattle.run_model.specs.declared.step.Out.{Out}
 pub use Rattle.run_model.specs.declared.step.Step.{Step}
-pub use Rattle.script_format.specs.Lines.{lines_of}
-pub use Rattle.script_format.specs.Script.{steps_without_numbers}
-pub use Rattle.script_format.specs.Text.{outs_text, out_line}
-pub use Rattle.script_format.specs.declared.fields.FieldError.TheVariants.{TooLong}
-pub use Rattle.script_format.specs.declared.script.LineStep.{LineStep}
+pub use Rattle.line_service.specs.script.Lines.{lines_of}
+pub use Rattle.line_service.specs.script.Script.{steps_without_numbers}
+pub use Rattle.line_service.specs.script.Text.{outs_text, out_line}
+pub use Rattle.line_service.specs.declared.script.fields.FieldError.TheVariants.{TooLong}
+pub use Rattle.line_service.specs.declared.script.script.LineStep.{LineStep}
 pub use Rattle.std.proofs.KnownBytes.{Appends-nil, Appends-trans, Appends-kept}
 pub use Rattle.std.proofs.lemmas.Bool.Decides.{nat_tests}
 pub use Rattle.std.proofs.lemmas.Grind.{flat_map-append}

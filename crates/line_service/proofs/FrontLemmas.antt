@@ -1,7 +1,7 @@
 -- Reading up to a line of three dashes.
 use Rattle.std.proofs.Common.{◌≡◌, ◌≢◌, ℕ, suc, ◌+◌, ◌==◌, Bool, true, false, List, [], ◌∷◌, ◌++◌, length, take, drop, refl, sym, ap, subst, ◌∙◌, arith, Option, Some, None, IfSome, append_assoc, append-nil, length-append, codes}
 use Rattle.line_service.proofs.Common.{take_all, drop_all, nat_tests, Takes, WhereKnown, HasNoBreak, IsReadSoFar, IsFrontText}
-use Rattle.script_format.specs.Input.{is_bar, before_bar, plant_text, script_text}
+use Rattle.line_service.specs.script.Input.{is_bar, before_bar, plant_text, script_text}
 
 abbrev dashes : List ℕ
 dashes = codes "---"

@@ -1,3 +1,4 @@
+pub mod ScriptLemmas
 mod Common
 pub mod FrontLemmas
 pub mod LeftLemmas

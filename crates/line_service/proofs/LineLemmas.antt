@@ -2,10 +2,10 @@
 use Rattle.line_service.proofs.Common.{Start, nat_tests, Appends, Appends-nil, Appends-trans, PlantFields, Step, Out, CoreView, IsAfterFrom, LineStep, TooLong, steps_without_numbers, outs_text, LineOutcome, StepsEnd, line_outcome, LineRun, steps_said, end_text, IsEndAt, IsNotDone, EndsAs, IsStepsEndAt, HasDone, IsHeld, HasAnswered, LineIsAnswered}
 use Rattle.std.proofs.Common.{◌≡◌, inl, inr, ℕ, List, [], ◌++◌, take, length, arith, ◌<◌, ◌≤◌, Bool, true, false, nat_le, Option, Some, None, Ok, Err, refl, sym, subst, ◌∙◌, append-nil}
 use Rattle.std.specs.Prelude.{slice_get}
-use Rattle.script_format.specs.declared.fields.FieldError.{FieldError}
-use Rattle.script_format.specs.Fields.{FieldResult, behind}
-use Rattle.script_format.specs.Script.{ArePlaced, line_steps}
-use Rattle.script_format.proofs.Placed.{line_placed}
+use Rattle.line_service.specs.declared.script.fields.FieldError.{FieldError}
+use Rattle.line_service.specs.script.Fields.{FieldResult, behind}
+use Rattle.line_service.specs.script.Script.{ArePlaced, line_steps}
+use Rattle.line_service.proofs.ScriptLemmas.Placed.{line_placed}
 use Rattle.line_service.specs.declared.line_outcome.LineOutcome.TheVariants.{AtFault, NoMemory}
 use Rattle.line_service.specs.declared.steps_end.StepsEnd.TheVariants as ends
 

@@ -4,7 +4,7 @@ use Rattle.std.specs.Io.{StartsWith}
 use Rattle.line_service.proofs.Common.{Keeps, DropsConsumable, drop_all, drop-append-le, Another, End, WhereKnown, IsPartRead, IsLineRead, IsHeld}
 use Rattle.std.proofs.lemmas.Bool.{false_from_ne_true}
 use Rattle.memchr.specs.Find.{Nowhere, NoneBefore, Passes, is_byte}
-use Rattle.script_format.specs.Lines.{parts_of, parts_from}
+use Rattle.line_service.specs.script.Lines.{parts_of, parts_from}
 
 -- ---- bytes of a line
 

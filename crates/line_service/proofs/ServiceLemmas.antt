@@ -1,7 +1,7 @@
 -- The lines of a service, one after the other.
 use Rattle.line_service.proofs.Common.{Start, Appends, Appends-nil, Appends-trans, flat_map-append, PlantFields, Step, Out, CoreView, IsAfterFrom, lines_of, LineBreak, WhereKnown, lines_left, IsLineRead, LineRun, answer_text, IsAnswer, AreAnswered, service_text, all_done, all_told, IsServiceOf, ServiceIsShown, IsHeld, LineIsAnswered, IsServedSoFar}
 use Rattle.std.proofs.Common.{◌≡◌, ℕ, suc, ◌+◌, length, arith, Bool, List, [], ◌∷◌, ◌++◌, Option, Some, None, IfSome, refl, sym, ap, subst, ◌∙◌, append_assoc, append-nil, length-append}
-use Rattle.live_core.proofs.LawLemmas.{live_shown, live_ordered}
+use Rattle.plant_core.proofs.LiveLemmas.LawLemmas.{live_shown, live_ordered}
 
 -- ---- one line more
 

@@ -1,11 +1,11 @@
 -- The steps of a line, one after the other.
 use Rattle.line_service.proofs.Common.{Start, first_start, Appends, Appends-nil, Appends-trans, map-append, flat_map-append, PlantFields, Step, Out, CoreView, step_fault, IsReported, IsAfter, IsAfterFrom, IsReachableFromStart, LineStep, steps_without_numbers, out_line, outs_text, StepsEnd, IsHalfDone, steps_end, IsStepsEndAt, HasDone}
 use Rattle.std.proofs.Common.{◌≡◌, ◌≢◌, Result, Ok, OnOk, OnErr, ℕ, zero, suc, List, [], ◌∷◌, ◌++◌, All, drop, take, Option, Some, IsSome, Err, refl, sym, ap, subst, ◌∙◌, append_assoc, append-nil}
-use Rattle.live_core.specs.declared.core_fault.CoreFault.{CoreFault}
-use Rattle.live_core.specs.declared.core_fault.CoreFault.TheVariants.{UnknownModem, UnknownOperator, Book, Gather, NothingToCollect, NoMemory, Reslice}
+use Rattle.plant_core.specs.declared.live.core_fault.CoreFault.{CoreFault}
+use Rattle.plant_core.specs.declared.live.core_fault.CoreFault.TheVariants.{UnknownModem, UnknownOperator, Book, Gather, NothingToCollect, NoMemory, Reslice}
 use Rattle.line_service.specs.declared.steps_end.StepsEnd.TheVariants as ends
 use Rattle.run_model.specs.Placed.{IsPlaced}
-use Rattle.script_format.specs.Script.{ArePlaced}
+use Rattle.line_service.specs.script.Script.{ArePlaced}
 use Rattle.std.proofs.lemmas.List.Elements.{All-head, All-drop}
 use Rattle.line_service.proofs.LeftLemmas.{first_left, none_left, take_next, drop_next}
 

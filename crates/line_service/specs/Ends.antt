@@ -1,7 +1,7 @@
 -- How steps end of which the core does not do the next one, and how a line ends whose steps ended so (implementation-specific).
 use Rattle.std.specs.Prelude.{ℕ}
-use Rattle.live_core.specs.declared.core_fault.CoreFault.{CoreFault}
-use Rattle.live_core.specs.declared.core_fault.CoreFault.TheVariants as faults
+use Rattle.plant_core.specs.declared.live.core_fault.CoreFault.{CoreFault}
+use Rattle.plant_core.specs.declared.live.core_fault.CoreFault.TheVariants as faults
 use Rattle.line_service.specs.declared.line_outcome.LineOutcome.{LineOutcome}
 use Rattle.line_service.specs.declared.line_outcome.LineOutcome.TheVariants as lines
 use Rattle.line_service.specs.declared.steps_end.StepsEnd.{StepsEnd}

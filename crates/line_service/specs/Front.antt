@@ -1,6 +1,6 @@
 -- What of a plant's text is read so far.
 use Rattle.std.specs.Prelude.{◌≡◌, ◌≢◌, ℕ, ◌+◌, List, [], ◌∷◌, ◌++◌, length, ⊤, Bool, true, false}
-use Rattle.script_format.specs.Input.{before_bar, plant_text, script_text}
+use Rattle.line_service.specs.script.Input.{before_bar, plant_text, script_text}
 
 -- no line ends in these bytes
 abbrev pub HasNoBreak : List ℕ → Type 0

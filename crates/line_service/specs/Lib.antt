@@ -1,3 +1,4 @@
+pub mod script
 pub mod Bytes
 pub mod Ends
 pub mod Front

@@ -1,6 +1,6 @@
 -- A line that is read of an input.
 use Rattle.std.specs.Prelude.{◌≡◌, ℕ, List, [], ◌∷◌, Bool, Option, Some, None}
-use Rattle.script_format.specs.Lines.{lines_of, parts_from}
+use Rattle.line_service.specs.script.Lines.{lines_of, parts_from}
 use Rattle.line_service.specs.declared.line_break.LineBreak.{LineBreak}
 use Rattle.line_service.specs.declared.line_break.LineBreak.TheVariants.{Another, End}
 use Rattle.line_service.specs.SoFar.{IsHeld}

@@ -10,14 +10,14 @@ use Rattle.run_model.specs.declared.step.Out.{Out}
 use Rattle.run_model.specs.IsStateAfter.{CoreView}
 use Rattle.run_model.specs.IsTraceOf.{IsTraceFrom}
 use Rattle.run_model.specs.Ordered.{OrderedFrom}
-use Rattle.live_core.specs.Faults.{step_fault}
-use Rattle.live_core.specs.After.{IsAfterFrom}
-use Rattle.script_format.specs.declared.fields.FieldError.TheVariants.{TooLong}
-use Rattle.script_format.specs.declared.script.LineStep.{LineStep}
-use Rattle.script_format.specs.Fields.{FieldResult}
-use Rattle.script_format.specs.Lines.{lines_of}
-use Rattle.script_format.specs.Script.{line_steps, steps_without_numbers}
-use Rattle.script_format.specs.Text.{outs_text}
+use Rattle.plant_core.specs.live.Faults.{step_fault}
+use Rattle.plant_core.specs.live.After.{IsAfterFrom}
+use Rattle.line_service.specs.declared.script.fields.FieldError.TheVariants.{TooLong}
+use Rattle.line_service.specs.declared.script.script.LineStep.{LineStep}
+use Rattle.line_service.specs.script.Fields.{FieldResult}
+use Rattle.line_service.specs.script.Lines.{lines_of}
+use Rattle.line_service.specs.script.Script.{line_steps, steps_without_numbers}
+use Rattle.line_service.specs.script.Text.{outs_text}
 use Rattle.line_service.specs.declared.line_outcome.LineOutcome.{LineOutcome}
 use Rattle.line_service.specs.declared.line_outcome.LineOutcome.TheVariants.{Done, AtFault, NoMemory}
 

@@ -6,11 +6,11 @@ use Rattle.plant.specs.declared.plant.PlantFields.{PlantFields}
 use Rattle.run_model.specs.declared.step.Step.{Step}
 use Rattle.run_model.specs.declared.step.Out.{Out}
 use Rattle.run_model.specs.IsStateAfter.{CoreView}
-use Rattle.live_core.specs.After.{IsAfterFrom}
-use Rattle.script_format.specs.declared.script.LineStep.{LineStep}
-use Rattle.script_format.specs.Lines.{lines_of}
-use Rattle.script_format.specs.Script.{steps_without_numbers}
-use Rattle.script_format.specs.Text.{outs_text}
+use Rattle.plant_core.specs.live.After.{IsAfterFrom}
+use Rattle.line_service.specs.declared.script.script.LineStep.{LineStep}
+use Rattle.line_service.specs.script.Lines.{lines_of}
+use Rattle.line_service.specs.script.Script.{steps_without_numbers}
+use Rattle.line_service.specs.script.Text.{outs_text}
 use Rattle.line_service.specs.declared.line_outcome.LineOutcome.{LineOutcome}
 use Rattle.line_service.specs.Service.{LineRun, IsAnswer, answer_text, AreAnswered, all_done, all_told, service_text}
 

@@ -2,13 +2,13 @@
 
 ghost use Rattle.std.specs.Prelude.{◌≡◌, ◌≤◌, length, map, IfOk, OnOk};
 ghost use Rattle.std.specs.Io.KnownBytes.{Appends};
-ghost use Rattle.live_core.specs.After.{BehindEachRun, IsReachableFromStart};
-ghost use Rattle.live_core.specs.LiveView.{live_view};
-ghost use Rattle.live_core.specs.Following.{FollowRows};
+ghost use Rattle.plant_core.specs.live.After.{BehindEachRun, IsReachableFromStart};
+ghost use Rattle.plant_core.specs.live.LiveView.{live_view};
+ghost use Rattle.plant_core.specs.live.Following.{FollowRows};
 ghost use Rattle.lists.specs.Results.{Gives};
-ghost use Rattle.script_format.specs.Fields.{field_cause};
-ghost use Rattle.script_format.specs.Script.{ArePlaced};
-ghost use Rattle.script_format.specs.declared.fields.FieldFault.TheVariants.{NoMemory};
+ghost use Rattle.line_service.specs.script.Fields.{field_cause};
+ghost use Rattle.line_service.specs.script.Script.{ArePlaced};
+ghost use Rattle.line_service.specs.declared.script.fields.FieldFault.TheVariants.{NoMemory};
 ghost use Rattle.line_service.specs.Service.{steps_said, end_text};
 ghost use Rattle.line_service.specs.Ends.{line_outcome};
 ghost use Rattle.line_service.specs.SoFar.{HasAnswered, LineIsAnswered};
@@ -16,13 +16,13 @@ ghost use Rattle.line_service.specs.Steps.{HasDone};
 
 use crate::line_buffer::MOST_BYTES;
 use crate::line_outcome::LineOutcome;
+use crate::script::{FieldError, FieldFault, LineStep, put_line, write_outs};
 use crate::step_notes::StepNotes;
 use crate::steps_end::{StepsEnd, end_of};
 use grant_policy::{Policy, Ranks};
-use live_core::LiveCore;
 use plant::Routing;
+use plant_core::LiveCore;
 use run_model::Out;
-use script_format::{FieldError, FieldFault, LineStep, put_line, write_outs};
 use std::alloc::Global;
 use std::io;
 use std::io::Write;

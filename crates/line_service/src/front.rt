@@ -1,7 +1,7 @@
 //! Reading a plant's text, up to the line of three dashes.
 
 ghost use Rattle.std.specs.Prelude.{◌≡◌, ◌↔◌, ◌≤◌, ◌++◌, ◌∷◌, [], List, ℕ, Some, IfOk, OnOk, IsOk, IfSome, length};
-ghost use Rattle.script_format.specs.Input.{plant_text, script_text};
+ghost use Rattle.line_service.specs.script.Input.{plant_text, script_text};
 ghost use Rattle.line_service.specs.Front.{IsReadSoFar, IsFrontText, ReadsOn};
 
 use crate::bytes::next_byte;

@@ -11,6 +11,7 @@ mod line_buffer;
 mod line_outcome;
 mod opening;
 mod reading;
+mod script;
 mod serving;
 mod step_notes;
 mod steps_end;
@@ -24,6 +25,11 @@ pub use line_buffer::LineBuffer;
 pub use line_outcome::LineOutcome;
 pub use opening::open_core;
 pub use reading::read_line;
+pub use script::{
+    FieldError, FieldFault, LineFault, LineStep, NumberName, Sender, before_bar, cause_name,
+    message_in, messages_of, parts_of, place_of, plant_text, put_line, put_parts, script_text,
+    steps_of, write_actions, write_map, write_name, write_output, write_outs,
+};
 pub use serving::{answer_held, next_number, serve};
 pub use step_notes::{NoNotes, StepNotes};
 pub use steps_end::{StepsEnd, end_of};

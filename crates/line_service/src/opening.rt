@@ -1,11 +1,11 @@
 //! The core of a plant that is to be served.
 
 ghost use Rattle.std.specs.Prelude.{[], IfOk};
-ghost use Rattle.live_core.specs.After.{IsAfter, IsReachableFromStart};
-ghost use Rattle.live_core.specs.LiveView.{live_view};
+ghost use Rattle.plant_core.specs.live.After.{IsAfter, IsReachableFromStart};
+ghost use Rattle.plant_core.specs.live.LiveView.{live_view};
 
-use live_core::LiveCore;
 use plant::Plant;
+use plant_core::LiveCore;
 use std::alloc::{AllocError, Global};
 
 /// Returns a core without histories of the plant, as it is opened. An error is out of memory.

@@ -1,8 +1,8 @@
 //! Serving a plant as long as there are lines.
 
 ghost use Rattle.std.specs.Prelude.{◌≡◌, ◌≢◌, ◌↔◌, ◌+◌, [], List, ℕ, IfOk, OnOk, IsOk, IfSome};
-ghost use Rattle.live_core.specs.After.{BehindEachRun, IsReachableFromStart};
-ghost use Rattle.live_core.specs.LiveView.{live_view};
+ghost use Rattle.plant_core.specs.live.After.{BehindEachRun, IsReachableFromStart};
+ghost use Rattle.plant_core.specs.live.LiveView.{live_view};
 ghost use Rattle.line_service.specs.Service.{IsServiceOf};
 ghost use Rattle.line_service.specs.SoFar.{IsHeld, LineIsAnswered};
 
@@ -12,7 +12,7 @@ use crate::line_buffer::LineBuffer;
 use crate::line_outcome::LineOutcome;
 use crate::reading::read_line;
 use crate::step_notes::StepNotes;
-use live_core::LiveCore;
+use plant_core::LiveCore;
 use std::alloc::Global;
 use std::io;
 use std::io::{BufRead, Write};

@@ -1,10 +1,10 @@
 //! What a service notes of lines and steps before it does them.
 
 ghost use Rattle.std.specs.Prelude.{◌≡◌, None, OnErr};
-ghost use Rattle.live_core.specs.Faults.{step_fault};
-ghost use Rattle.live_core.specs.LiveView.{live_view};
+ghost use Rattle.plant_core.specs.live.Faults.{step_fault};
+ghost use Rattle.plant_core.specs.live.LiveView.{live_view};
 
-use live_core::LiveCore;
+use plant_core::LiveCore;
 use run_model::Step;
 use std::alloc::{AllocError, Global};
 use std::io::Write;

@@ -3,7 +3,7 @@
 ghost use Rattle.std.specs.Prelude.{◌≡◌};
 ghost use Rattle.line_service.specs.Ends.{steps_end};
 
-use live_core::CoreFault;
+use plant_core::CoreFault;
 
 /// How steps ended that are done one after the other.
 #[derive(Clone, Copy, Debug, PartialEq, Eq)]

@@ -129,6 +129,7 @@ impl Book {
 
     /// Returns whether a slice and a budget can be taken from this frame on. Takes no memory.
     pub fn offer(&self, from: u32, row: SliceRow) -> Result<(), Unfit>
+        // Refused exactly for why the slice or the budget does not fit.
         ensures unfit { (u : Unfit) → (result ≡ Err u)
             ↔ (unfit_from (operator_of_book self.now.kept.book) from row ≡ Some u) }
         ensures fit { OnOk result (unfit_from (operator_of_book self.now.kept.book) from row ≡ None) }

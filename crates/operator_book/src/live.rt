@@ -68,6 +68,7 @@ impl SoundMachine {
         frame: u32,
     ) -> Result<SoundMachine, AllocError>
         requires { IsRowOf consts.now row.now }
+        // Opened before this frame, with the provisioned flows and nothing else.
         ensures { IfOk result (λ sound. sound ≡ operator consts.now row.now (opened_before frame consts.now row.now)) }
     {
         // For the proof: that the slice has a minislot, which makes the opened machine sound.
@@ -146,6 +147,7 @@ impl SoundMachine {
     ) -> Result<Vec<Output>, AllocError>
         requires { IsAllowed self.old (actions.Arrive modem heard) }
         ensures state { OnOk result (self.new ≡ after_step self.old (actions.Arrive modem heard)) }
+        // The outputs are those of a step of the operator's own machine.
         ensures outputs { IfOk result (λ outputs. outputs.items ≡ (own_step self.old (actions.Arrive modem heard)).outputs) }
         ensures few { IfOk result (λ outputs. vec_len outputs ≤ 1) }
         ensures err { OnErr result (self.new ≡ self.old) }

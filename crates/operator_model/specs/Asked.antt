@@ -1,6 +1,6 @@
 -- What the encodings of a request ask for: the checks that ask for no room, in executable form, one after the other as the
 -- operator's machine does them. The same checks as a table, each with its condition in the standard's terms and its code,
--- stand in check_table (Table.antt); its law `verdict_is_decided` says that both give the same answer. The conditions are
+-- stand in trace_report (table/Table.antt); its law `verdict_is_decided` says that both give the same answer. The conditions are
 -- those of CM-SP-MULPIv3.1, 11.2.2 and 11.2.3; which case gets which code is implementation-specific.
 use Rattle.std.specs.Prelude.{◌==◌, ◌&&◌, ◌||◌, ℕ, Bool, true, false, not, List, [], ◌∷◌, find, Option, Some, None, Result, Ok, Err, is_some, is_none, if◌then◌else◌}
 use Rattle.std.specs.Option.{option_map}

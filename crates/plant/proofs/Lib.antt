@@ -1,3 +1,4 @@
+pub mod ComparisonLemmas
 mod Common
 pub mod Addresses
 pub mod Holders

@@ -1,3 +1,4 @@
+pub mod comparison
 pub mod Name
 pub mod Classes
 pub mod Consts

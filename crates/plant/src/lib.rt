@@ -3,6 +3,7 @@
 #![tactic(auto)]
 
 mod class_table;
+mod comparison;
 mod consts;
 mod laws;
 mod name;
@@ -12,6 +13,7 @@ mod provision;
 mod routes;
 
 pub use class_table::{Class, Classes};
+pub use comparison::{are_same_consts, is_same_name, is_same_plant, is_same_row, keeps_consts};
 pub use consts::{Backoffs, Channel, Consts, ConstsFields};
 pub use laws::{holder_is_first, one_operator_lists};
 pub use name::{OperatorName, is_alphanumeric};

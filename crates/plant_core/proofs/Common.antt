@@ -1,14 +1,14 @@
 -- The names that several proofs of this crate cite, passed on from one place. Declares nothing.
-pub use Rattle.live_core.proofs.PlaceLemmas.{seen_at, set_alike}
-pub use Rattle.live_core.proofs.ReachLemmas.{stepped, arrives}
-pub use Rattle.live_core.specs.Faults.{step_fault, IsReported, act_fault}
-pub use Rattle.live_core.specs.LiveView.{live_view}
-pub use Rattle.live_core.specs.Performing.{forgotten, IsOf, Performs}
-pub use Rattle.live_core.specs.Planning.{IsActPlan}
-pub use Rattle.live_core.specs.Reachable.{IsReachable, IsOfAStep}
-pub use Rattle.live_core.specs.Reslicing.{reslice_fault}
-pub use Rattle.live_core.specs.declared.act_plan.ActPlan.{ActPlan}
-pub use Rattle.live_core.specs.declared.core_fault.ResliceFault.{ResliceFault}
+pub use Rattle.plant_core.proofs.LiveLemmas.PlaceLemmas.{seen_at, set_alike}
+pub use Rattle.plant_core.proofs.LiveLemmas.ReachLemmas.{stepped, arrives}
+pub use Rattle.plant_core.specs.live.Faults.{step_fault, IsReported, act_fault}
+pub use Rattle.plant_core.specs.live.LiveView.{live_view}
+pub use Rattle.plant_core.specs.live.Performing.{forgotten, IsOf, Performs}
+pub use Rattle.plant_core.specs.live.Planning.{IsActPlan}
+pub use Rattle.plant_core.specs.live.Reachable.{IsReachable, IsOfAStep}
+pub use Rattle.plant_core.specs.live.Reslicing.{reslice_fault}
+pub use Rattle.plant_core.specs.declared.live.act_plan.ActPlan.{ActPlan}
+pub use Rattle.plant_core.specs.declared.live.core_fault.ResliceFault.{ResliceFault}
 pub use Rattle.map_assembly.specs.Gathering.{gathering_of, IsGathering, Gathering, is_last}
 pub use Rattle.operator_book.specs.Kept.{HeldHistory}
 pub use Rattle.operator_model.specs.Machine.{own_step, IsAllowed}

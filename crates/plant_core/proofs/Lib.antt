@@ -1,3 +1,4 @@
+pub mod LiveLemmas
 mod Common
 pub mod WaitingLemmas
 pub mod RecordLemmas

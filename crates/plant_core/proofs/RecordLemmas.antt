@@ -6,8 +6,8 @@ use Rattle.operator_model.specs.declared.action.Action.TheVariants as actions
 use Rattle.map_assembly.specs.declared.slicing.Reslicing.{Reslicing}
 use Rattle.map_assembly.specs.LettingGo.{GoesOnAlike}
 use Rattle.run_model.proofs.Moving.{silent}
-use Rattle.live_core.proofs.GoLemmas.{acts_go, collects_go, reslices_go}
-use Rattle.live_core.proofs.AlikeLemmas.{held_on}
+use Rattle.plant_core.proofs.LiveLemmas.GoLemmas.{acts_go, collects_go, reslices_go}
+use Rattle.plant_core.proofs.LiveLemmas.AlikeLemmas.{held_on}
 
 abbrev history_of : BookView → List Entry
 history_of book = book.history

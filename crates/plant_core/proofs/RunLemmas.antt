@@ -3,7 +3,7 @@ use Rattle.std.proofs.Common.{◌≡◌, ℕ, ◌+◌, ◌<◌, List, [], ◌∷
 use Rattle.plant_core.proofs.Common.{slice_get, slice_get_read, PlantFields, IsPlant, IsGathering, Step, Out, CoreView, IsStateAfter, Steps, step_fault, IsReported}
 use Rattle.run_model.proofs.OneStep.{step_reached}
 use Rattle.run_model.proofs.Runs.{reached_more}
-use Rattle.live_core.specs.declared.core_fault.CoreFault.{CoreFault}
+use Rattle.plant_core.specs.declared.live.core_fault.CoreFault.{CoreFault}
 
 pub step_more : (plant : PlantFields) (before : List Step) (step : Step) (told made now outs : List Out) (old new : CoreView) → IsPlant plant → IsGathering old.gathering
     → Steps step old new now → outs ≡ made ++ now → made ≡ [] → IsStateAfter plant before told old → IsStateAfter plant (before ++ step ∷ []) (told ++ outs) new

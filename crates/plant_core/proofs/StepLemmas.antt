@@ -7,9 +7,9 @@ use Rattle.plant.proofs.Holders.{holder_holds}
 use Rattle.operator_model.specs.declared.heard.Heard.{Heard}
 use Rattle.operator_book.specs.Planned.{IsPlanOf, IsCommittable}
 use Rattle.run_model.specs.declared.step.Step.TheVariants as steps
-use Rattle.live_core.specs.declared.core_fault.CoreFault.TheVariants.{Reslice}
-use Rattle.live_core.proofs.BehindLemmas.{found}
-use Rattle.live_core.proofs.FaultLemmas.{same_step_fault}
+use Rattle.plant_core.specs.declared.live.core_fault.CoreFault.TheVariants.{Reslice}
+use Rattle.plant_core.proofs.LiveLemmas.BehindLemmas.{found}
+use Rattle.plant_core.proofs.LiveLemmas.FaultLemmas.{same_step_fault}
 
 module _ (live core : CoreView) (is : IsOf live core) where
   -- ---- plans

@@ -3,7 +3,7 @@ use Rattle.std.proofs.Common.{◌≡◌, ℕ, zero, suc, ◌+◌, ◌<◌, ◌�
 use Rattle.plant_core.proofs.Common.{slice_get, slice_index_or, flat_map, drop-append-le, drop_more, filter_map-append, ElementsFields, ConstsFields, RowFields, Action, Entry, Output, own_step, BookView, AreTold, IsReplay, book_after_action, frame_with_number, frames_of}
 use Rattle.std.proofs.lemmas.List.Concat.{flat_map-append}
 use Rattle.operator_model.specs.State.{OperatorState, operator}
-use Rattle.live_core.proofs.FrameLemmas.{first_none, first_alone, one_frame}
+use Rattle.plant_core.proofs.LiveLemmas.FrameLemmas.{first_none, first_alone, one_frame}
 use Rattle.plant_core.specs.Waiting.{frames_in, waiting_in, IsOneFrame}
 
 frames_append : (xs ys : List Entry) → frames_in (xs ++ ys) ≡ frames_in xs ++ frames_in ys

@@ -1,3 +1,4 @@
+pub mod live
 pub mod Waiting
 pub mod Recorded
 pub mod RecordView

@@ -1,7 +1,7 @@
 -- What contracts see of a core next to its record (implementation-specific).
 use Rattle.std.specs.Prelude.{map}
 use Rattle.run_model.specs.IsStateAfter.{CoreView}
-use Rattle.live_core.specs.LiveView.{live_view}
+use Rattle.plant_core.specs.live.LiveView.{live_view}
 use Rattle.plant_core.specs.Recorded.{recorded_view}
 use Rattle.plant_core.specs.declared.recorded.RecordedCore.{RecordedCore}
 

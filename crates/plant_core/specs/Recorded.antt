@@ -9,7 +9,7 @@ use Rattle.map_assembly.specs.Plan.{AreSlices}
 use Rattle.map_assembly.specs.Gathering.{Gathering, frame_slices}
 use Rattle.run_model.specs.OwnSteps.{slice_of}
 use Rattle.run_model.specs.IsStateAfter.{CoreView}
-use Rattle.live_core.specs.Performing.{forgotten}
+use Rattle.plant_core.specs.live.Performing.{forgotten}
 use Rattle.plant_core.specs.declared.slice_change.SliceChange.{SliceChange}
 
 -- a book with this history

@@ -4,14 +4,14 @@ ghost use Rattle.std.specs.Prelude.{◌≡◌, ◌++◌, List, map, slice_get, I
 ghost use Rattle.operator_model.specs.declared.action.Action.TheVariants as actions;
 ghost use Rattle.run_model.specs.declared.step.Out.{Out};
 ghost use Rattle.run_model.specs.Steps.{Acts};
-ghost use Rattle.live_core.specs.Faults.{act_fault, IsReported};
-ghost use Rattle.live_core.specs.Reachable.{IsOfAStep};
-ghost use Rattle.live_core.specs.Planning.{IsActPlan};
+ghost use Rattle.plant_core.specs.live.Faults.{act_fault, IsReported};
+ghost use Rattle.plant_core.specs.live.Reachable.{IsOfAStep};
+ghost use Rattle.plant_core.specs.live.Planning.{IsActPlan};
 ghost use Rattle.plant_core.specs.RecordView.{record_view};
 
+use crate::live::{ActPlan, CoreFault};
 use crate::recorded::RecordedCore;
 use grant_policy::Ranking;
-use live_core::{ActPlan, CoreFault};
 use operator_book::output_copies;
 use operator_model::{Action, Entry, Outputs};
 use plant::Op;

@@ -2,15 +2,15 @@
 
 ghost use Rattle.std.specs.Prelude.{◌≡◌, ◌<◌, [], map, length, vec_len, All, option_map, None, OnOk, OnErr};
 ghost use Rattle.run_model.specs.Steps.{Reslices};
-ghost use Rattle.live_core.specs.declared.core_fault.CoreFault.TheVariants as faults;
-ghost use Rattle.live_core.specs.Faults.{IsReported};
-ghost use Rattle.live_core.specs.Reslicing.{reslice_fault};
+ghost use Rattle.plant_core.specs.declared.live.core_fault.CoreFault.TheVariants as faults;
+ghost use Rattle.plant_core.specs.live.Faults.{IsReported};
+ghost use Rattle.plant_core.specs.live.Reslicing.{reslice_fault};
 ghost use Rattle.plant_core.specs.Recorded.{histories_after_reslice};
 ghost use Rattle.plant_core.specs.RecordView.{record_view};
 
+use crate::live::CoreFault;
 use crate::recorded::RecordedCore;
 use crate::slice_change::SliceChange;
-use live_core::CoreFault;
 use operator_book::History;
 use operator_model::{Action, Entry, Outputs, SliceRow};
 use run_model::SliceRows;

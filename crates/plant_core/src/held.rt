@@ -1,7 +1,7 @@
 //! What a plant's core holds.
 
 ghost use Rattle.std.specs.Prelude.{◌≡◌, map};
-ghost use Rattle.live_core.specs.Reachable.{IsReachable};
+ghost use Rattle.plant_core.specs.live.Reachable.{IsReachable};
 ghost use Rattle.plant_core.specs.RecordView.{record_view};
 
 use crate::recorded::RecordedCore;

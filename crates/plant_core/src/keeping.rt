@@ -3,12 +3,12 @@
 ghost use Rattle.std.specs.Prelude.{◌≡◌, option_map, slice_get};
 ghost use Rattle.plant.specs.Plant.{IsPlant};
 ghost use Rattle.map_assembly.specs.Gathering.{IsGathering};
-ghost use Rattle.live_core.specs.Performing.{IsOf};
-ghost use Rattle.live_core.specs.LiveView.{live_view};
+ghost use Rattle.plant_core.specs.live.Performing.{IsOf};
+ghost use Rattle.plant_core.specs.live.LiveView.{live_view};
 ghost use Rattle.plant_core.specs.RecordView.{record_view};
 
+use crate::live::LiveCore;
 use crate::recorded::RecordedCore;
-use live_core::LiveCore;
 use operator_model::Entry;
 use plant::{Op, Plant};
 

@@ -3,12 +3,12 @@
 ghost use Rattle.std.specs.Prelude.{◌≡◌, option_map, slice_get};
 ghost use Rattle.plant.specs.Plant.{IsPlant};
 ghost use Rattle.map_assembly.specs.Gathering.{IsGathering};
-ghost use Rattle.live_core.specs.Performing.{IsOf};
-ghost use Rattle.live_core.specs.LiveView.{live_view};
+ghost use Rattle.plant_core.specs.live.Performing.{IsOf};
+ghost use Rattle.plant_core.specs.live.LiveView.{live_view};
 ghost use Rattle.plant_core.specs.CoreView.{core_view};
 
 use crate::held::PlantCore;
-use live_core::LiveCore;
+use crate::live::LiveCore;
 use operator_model::Entry;
 use plant::{Op, Plant};
 
@@ -39,6 +39,7 @@ impl PlantCore {
 
     /// Returns all that an operator did, in order; none past the last operator. Takes no memory.
     pub fn history(&self, op: Op) -> Option<&[Entry]>
+        // The history of this operator's book, if there is one.
         ensures { option_map (λ history. history.now) result
             ≡ option_map (λ book. book.history) (slice_get (core_view self.now).books op) }
     {

@@ -7,6 +7,7 @@ mod giving;
 mod held;
 mod keeping;
 mod laws_of_core;
+mod live;
 mod opening;
 mod recorded;
 mod running;
@@ -15,7 +16,11 @@ mod stepping;
 
 pub use core_fault::CoreOpenFault;
 pub use held::PlantCore;
-pub use live_core::{CoreFault, ResliceFault, Unfits, first_fault, is_same, least_meeting};
+pub use live::{
+    ActPlan, CoreFault, LiveCore, ResliceFault, RestFault, ResumeFault, Unfits, books_stand_now,
+    first_fault, is_same, least_meeting, live_run_is_shown, resting_core_is_at_rest,
+    resumed_is_changed, started_core_is_after, step_goes_on, two_live_cores, two_resumed_cores,
+};
 pub use opening::follow;
 pub use plant::Routes;
 pub use recorded::RecordedCore;

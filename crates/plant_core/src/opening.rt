@@ -10,9 +10,9 @@ ghost use Rattle.plant_core.specs.RecordView.{record_view};
 
 use crate::core_fault::CoreOpenFault;
 use crate::held::PlantCore;
+use crate::live::LiveCore;
 use crate::recorded::RecordedCore;
 use grant_policy::Ranking;
-use live_core::LiveCore;
 use operator_book::History;
 use plant::{OperatorRow, Plant};
 use std::alloc::{AllocError, Global};

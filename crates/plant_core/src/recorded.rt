@@ -2,11 +2,11 @@
 
 ghost use Rattle.std.specs.Prelude.{map};
 ghost use Rattle.std.proofs.Props.{props};
-ghost use Rattle.live_core.specs.LiveView.{live_view};
+ghost use Rattle.plant_core.specs.live.LiveView.{live_view};
 ghost use Rattle.plant_core.specs.Recorded.{IsRecordOf};
 
+use crate::live::LiveCore;
 use crate::slice_change::SliceChange;
-use live_core::LiveCore;
 use operator_book::History;
 
 /// A core next to the record of its run: each operator's history, and the slices that were given. Contracts speak of `record_view`

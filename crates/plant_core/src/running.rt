@@ -3,12 +3,12 @@
 ghost use Rattle.std.specs.Prelude.{◌≡◌, ◌<◌, [], ◌∷◌, take, length, slice_get, Some, Err, IfOk, IfErr, OnOk, OnErr};
 ghost use Rattle.run_model.specs.declared.step.Step.{Step};
 ghost use Rattle.run_model.specs.Steps.{Steps};
-ghost use Rattle.live_core.specs.Faults.{step_fault, IsReported};
-ghost use Rattle.live_core.specs.Reachable.{LeadsOn};
+ghost use Rattle.plant_core.specs.live.Faults.{step_fault, IsReported};
+ghost use Rattle.plant_core.specs.live.Reachable.{LeadsOn};
 ghost use Rattle.plant_core.specs.CoreView.{core_view};
 
 use crate::held::PlantCore;
-use live_core::CoreFault;
+use crate::live::CoreFault;
 use run_model::{Out, Step};
 use std::alloc::Global;
 
@@ -52,6 +52,7 @@ impl PlantCore {
         ensures stopped { IfErr result (λ stop. LeadsOn (core_view self.old) (take stop.at steps.now) stop.outs.items
             (core_view self.new)) }
         ensures within { IfErr result (λ stop. stop.at < length steps.now) }
+        // The step at which it stopped is refused for this fault.
         ensures fault { IfErr result (λ stop. (step : Step) → slice_get steps.now stop.at ≡ Some step
             → IsReported {A = Unit {0}} (Err stop.fault) (step_fault (core_view self.new) step)) }
     {

@@ -7,9 +7,9 @@ use Rattle.operator_model.specs.declared.action.Unfit as misfits
 use Rattle.operator_model.specs.State.{OperatorState}
 use Rattle.operator_book.specs.declared.book.BookFault.{BookFault}
 use Rattle.operator_book.specs.declared.book.BookFault.TheVariants.{NotMine, FramesSpent, Unfit, NoMemory}
-use Rattle.run_receipts.specs.declared.receipt.Receipt.{Receipt}
-use Rattle.cell_state.specs.declared.cell_fault.CellFault.{CellFault}
-use Rattle.cell_state.specs.declared.cell_fault.CellFault.TheVariants.{Book, Passed, Stopped, Closed}
+use Rattle.plant_workers.specs.declared.receipts.receipt.Receipt.{Receipt}
+use Rattle.plant_workers.specs.declared.cell_state.cell_fault.CellFault.{CellFault}
+use Rattle.plant_workers.specs.declared.cell_state.cell_fault.CellFault.TheVariants.{Book, Passed, Stopped, Closed}
 use Rattle.plant_passes.proofs.Again.{begins_again}
 
 -- an action after a look, told by a copy of it

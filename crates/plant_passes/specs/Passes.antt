@@ -9,9 +9,9 @@ use Rattle.operator_book.specs.declared.book.BookFault.TheVariants.{NotMine, Fra
 use Rattle.plant_passes.specs.declared.view.MarkedEntry.{MarkedEntry}
 use Rattle.plant_passes.specs.declared.view.Origin.{Origin}
 use Rattle.plant_passes.specs.declared.view.Knowledge.{Knowledge}
-use Rattle.run_receipts.specs.declared.receipt.Receipt.{Receipt}
-use Rattle.cell_state.specs.declared.cell_fault.CellFault.{CellFault}
-use Rattle.cell_state.specs.declared.cell_fault.CellFault.TheVariants.{Book, Closed}
+use Rattle.plant_workers.specs.declared.receipts.receipt.Receipt.{Receipt}
+use Rattle.plant_workers.specs.declared.cell_state.cell_fault.CellFault.{CellFault}
+use Rattle.plant_workers.specs.declared.cell_state.cell_fault.CellFault.TheVariants.{Book, Closed}
 use Rattle.plant_passes.specs.Runs.{IsOwnRun, state_after}
 use Rattle.plant_passes.specs.Histories.{history_entry, mark_entry, entries, places, StartsWith}
 

@@ -7,7 +7,7 @@ ghost use Rattle.operator_model.specs.declared.action.Action.TheVariants as acti
 ghost use Rattle.operator_model.specs.Machine.{stranger_of};
 ghost use Rattle.operator_book.specs.ViewOf.{view_of};
 ghost use Rattle.operator_book.specs.declared.book.BookFault.TheVariants as faults;
-ghost use Rattle.cell_state.specs.declared.cell_fault.CellFault.TheVariants as refusals;
+ghost use Rattle.plant_workers.specs.declared.cell_state.cell_fault.CellFault.TheVariants as refusals;
 ghost use Rattle.plant_passes.specs.Runs.{origin_of};
 ghost use Rattle.plant_passes.specs.Histories.{mark_entries};
 ghost use Rattle.plant_passes.specs.Passes.{IsOfCell, state_seen, first_passes, ActsInTurn, LooksOn};
@@ -19,11 +19,10 @@ use crate::pass::{Pass, PassedCell};
 use crate::steps::{CopyStep, JoinStep, LookStep};
 use crate::turns;
 use crate::view::BookParts;
-use cell_state::CellFault;
 use dsx_messages::Modem;
 use operator_book::{Action, Book, BookFault, Heard};
 use plant::is_listed;
-use run_receipts::Receipt;
+use plant_workers::{CellFault, Receipt};
 use std::alloc::{AllocError, Global};
 use std::sync::Wait;
 
@@ -35,6 +34,7 @@ impl PassedCell {
         passes: usize,
     ) -> Result<(PassedCell, Vec<Pass>), AllocError>
         requires { (0 < passes) × (passes ≤ 64) }
+        // The cell has so many passes, and is of the book.
         ensures cell { IfOk result (λ r. ((cell_of r.0).passes ≡ passes)
             × ((cell_of r.0).origin ≡ origin_of (view_of book))) }
         ensures of { IfOk result (λ r. All (λ p. IsOfCell (cell_of r.0) (pass_of p)) r.1.items) }
@@ -104,6 +104,7 @@ impl PassedCell {
         ensures not_mine { (stranger : Modem) → (result ≡ Err (refusals.Book (faults.NotMine stranger)))
             ↔ (stranger_of (cell_of self.now).origin.row (actions.Arrive modem heard) ≡ Some stranger) }
         ensures not_spent { result ≢ Err (refusals.Book faults.FramesSpent) }
+        // A pass that knows the cell closed is refused so.
         ensures shut { (pass_of pass.old).closed ≡ true
             → stranger_of (cell_of self.now).origin.row (actions.Arrive modem heard) ≡ None
             → result ≡ Err refusals.Closed }

@@ -8,7 +8,6 @@ mod steps;
 mod turns;
 mod view;
 
-pub use cell_state::CellFault;
 pub use pass::{Pass, PassedCell};
-pub use run_receipts::Receipt;
+pub use plant_workers::{CellFault, Receipt};
 pub use view::{BookParts, CellKey, Knowledge, MarkedEntry, Origin};

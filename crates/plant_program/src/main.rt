@@ -1,8 +1,7 @@
 //! The executable: passes its arguments and standard streams to `plant_script`.
 #![tactic(auto)]
 
-use plant_script::{Ending, behind_name, exit_code};
-use program_runner::run_with_options;
+use program_runner::{Ending, behind_name, exit_code, run_with_options};
 use std::io::{BufRead, BufReader, BufWriter, IsTerminal, Read, Write};
 use std::process::ExitCode;
 use std::rt::{Env, Files};

@@ -6,7 +6,7 @@ use Rattle.map_assembly.specs.Gathering.{IsGathering}
 use Rattle.run_model.specs.declared.step.Step.{Step}
 use Rattle.run_model.specs.declared.step.Out.{Out}
 use Rattle.run_model.proofs.Entries.{some_at}
-use Rattle.live_core.proofs.RestLemmas.{book_at_place, stands_now, rests_at}
+use Rattle.plant_core.proofs.LiveLemmas.RestLemmas.{book_at_place, stands_now, rests_at}
 use Rattle.plant_restart.specs.declared.fault.ChangeFault.TheVariants.{Restart}
 use Rattle.plant_restart.specs.Changing.{IsChangeOf, IsChangeRefused, CanChange}
 use Rattle.plant_restart.proofs.NameLemmas.{state_there, no_state}

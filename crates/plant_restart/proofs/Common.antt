@@ -1,11 +1,11 @@
 -- The names that several proofs of this crate cite, passed on from one place. Declares nothing.
-pub use Rattle.live_core.proofs.ResumeLemmas.{HaveOwnNames, own_state, map_is, over_map, all_gone}
-pub use Rattle.live_core.specs.After.{IsAfterFrom}
-pub use Rattle.live_core.specs.LiveOperator.{sound_of, book_by}
-pub use Rattle.live_core.specs.LiveView.{live_view}
-pub use Rattle.live_core.specs.Resting.{Rests}
-pub use Rattle.live_core.specs.Resumed.{first_from, GoesAlong, GoTogether, slices_now, slices_next, IsOddFault, IsSliceFault, IsResumeFault, start_with}
-pub use Rattle.live_core.specs.declared.resume_fault.ResumeFault.{ResumeFault}
+pub use Rattle.plant_core.proofs.LiveLemmas.ResumeLemmas.{HaveOwnNames, own_state, map_is, over_map, all_gone}
+pub use Rattle.plant_core.specs.live.After.{IsAfterFrom}
+pub use Rattle.plant_core.specs.live.LiveOperator.{sound_of, book_by}
+pub use Rattle.plant_core.specs.live.LiveView.{live_view}
+pub use Rattle.plant_core.specs.live.Resting.{Rests}
+pub use Rattle.plant_core.specs.live.Resumed.{first_from, GoesAlong, GoTogether, slices_now, slices_next, IsOddFault, IsSliceFault, IsResumeFault, start_with}
+pub use Rattle.plant_core.specs.declared.live.resume_fault.ResumeFault.{ResumeFault}
 pub use Rattle.map_assembly.proofs.OrderLemmas.{PairsByRecursion, pairs_from_AllPairs, pairs-map, all-map}
 pub use Rattle.operator_model.specs.Replay.{BookView}
 pub use Rattle.operator_model.specs.State.{OperatorState, Operator, opened_state}

@@ -5,7 +5,7 @@ use Rattle.slice_scheduler.specs.Minislots.{Minislots}
 use Rattle.plant.specs.declared.consts.Channel.{Channel}
 use Rattle.operator_book.specs.Resuming.{IsStateUnder}
 use Rattle.map_assembly.specs.Plan.{AreSlices, IsInFrame, IsFirstInvalid}
-use Rattle.live_core.specs.declared.resume_fault.ResumeFault.TheVariants as resume
+use Rattle.plant_core.specs.declared.live.resume_fault.ResumeFault.TheVariants as resume
 
 -- slices that are valid are so up to each of them
 front_valid : (channel : Channel) (count n : ℕ) (slices : List Minislots) → n ≤ length slices → AreSlices channel count slices → AreSlices channel n (take n slices)

@@ -2,7 +2,7 @@
 use Rattle.std.proofs.Common.{◌≡◌, ℕ, ◌+◌, ◌<◌, List, [], ◌∷◌, ◌++◌, length, map, take, get_or, All, Some, sym, ap, ap₂, subst, ◌∙◌, refl}
 use Rattle.plant_restart.proofs.Common.{slice_get, ◌≢◌, AllByRecursion, map-append, take_more, map-id, All-from_recursion, ConstsFields, RowFields, PlantFields, OperatorState, Operator, all-map, CoreView, ResumeFault, start_with, IsResumeFault, IsAfterFrom, over_map, RestartFault, State, Core, NoMemory, operator_by_name, operators_by_name, IsRowFault, IsRowsFault, IsRestarted, IsRestartFault}
 use Rattle.run_model.specs.Opened.{started_core}
-use Rattle.live_core.specs.declared.resume_fault.ResumeFault.TheVariants as resume
+use Rattle.plant_core.specs.declared.live.resume_fault.ResumeFault.TheVariants as resume
 
 -- ---- row by row
 

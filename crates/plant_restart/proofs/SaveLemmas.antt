@@ -2,7 +2,7 @@
 use Rattle.std.proofs.Common.{◌≡◌, ℕ, zero, suc, ◌+◌, ◌≤◌, List, [], ◌∷◌, ◌++◌, map, take, Option, Some, None, option_map, sym, ap, ap₂, ◌∙◌, add-one}
 use Rattle.plant_restart.proofs.Common.{slice_get, length-map, map-append, none-some, same_Some, slice_get-map, OperatorState, Operator, BookView, CoreView, SavedOperator, state_of, saved_state, Rests, over_map, map_is, state_of_book, states_by_name, saved_book, saved_by_name}
 use Rattle.snapshot_format.proofs.StateLemmas.{state_is}
-use Rattle.live_core.specs.DeskView.{book_of}
+use Rattle.plant_core.specs.live.DeskView.{book_of}
 
 -- ---- one operator after the other
 

@@ -6,7 +6,7 @@ use Rattle.plant.specs.declared.operator_row.RowFields.{RowFields}
 use Rattle.plant.specs.declared.plant.PlantFields.{PlantFields}
 use Rattle.operator_model.specs.State.{OperatorState, Operator, operator, opened_before}
 use Rattle.run_model.specs.Starts.{Start}
-use Rattle.live_core.specs.Resumed.{start_with}
+use Rattle.plant_core.specs.live.Resumed.{start_with}
 
 -- the state under this name, if one is given
 abbrev pub state_under : List (List ℕ × OperatorState) → List ℕ → Option OperatorState

@@ -4,8 +4,8 @@ use Rattle.plant.specs.declared.plant.PlantFields.{PlantFields}
 use Rattle.plant.specs.Consts.{KeepsConsts}
 use Rattle.run_model.specs.IsStateAfter.{CoreView}
 use Rattle.run_model.specs.Changing.{IsPlantChange}
-use Rattle.live_core.specs.After.{BehindEachRun}
-use Rattle.live_core.specs.Resting.{Rests, IsRestFault}
+use Rattle.plant_core.specs.live.After.{BehindEachRun}
+use Rattle.plant_core.specs.live.Resting.{Rests, IsRestFault}
 use Rattle.plant_restart.specs.declared.fault.RestartFault.{RestartFault}
 use Rattle.plant_restart.specs.declared.fault.ChangeFault.{ChangeFault}
 use Rattle.plant_restart.specs.declared.fault.ChangeFault.TheVariants.{Unfinished, ConstantsDiffer, Restart}

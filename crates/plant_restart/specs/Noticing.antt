@@ -4,7 +4,7 @@ use Rattle.plant.specs.declared.operator_row.RowFields.{RowFields}
 use Rattle.run_model.specs.IsStateAfter.{CoreView}
 use Rattle.run_model.specs.Changing.{state_now}
 use Rattle.run_model.specs.Periods.{Period, ArePeriodsOf, steps_over, NoticesAlike}
-use Rattle.live_core.specs.After.{IsAfterFrom}
+use Rattle.plant_core.specs.live.After.{IsAfterFrom}
 use Rattle.plant_restart.specs.ByName.{start_by_name}
 use Rattle.plant_restart.specs.Saving.{states_by_name}
 use Rattle.plant_restart.specs.Changing.{IsChangeOf}

@@ -10,9 +10,9 @@ use Rattle.map_assembly.specs.Plan.{AreSlices}
 use Rattle.run_model.specs.Places.{AtEachOperator}
 use Rattle.run_model.specs.IsStateAfter.{CoreView}
 use Rattle.run_model.specs.Opened.{started_core}
-use Rattle.live_core.specs.declared.resume_fault.ResumeFault.TheVariants as resume
-use Rattle.live_core.specs.Resumed.{GoTogether, slices_now, slices_next, IsResumeFault}
-use Rattle.live_core.specs.After.{IsAfterFrom}
+use Rattle.plant_core.specs.declared.live.resume_fault.ResumeFault.TheVariants as resume
+use Rattle.plant_core.specs.live.Resumed.{GoTogether, slices_now, slices_next, IsResumeFault}
+use Rattle.plant_core.specs.live.After.{IsAfterFrom}
 use Rattle.plant_restart.specs.declared.fault.RestartFault.{RestartFault}
 use Rattle.plant_restart.specs.declared.fault.RestartFault.TheVariants.{State, Core, NoMemory}
 use Rattle.plant_restart.specs.declared.fault.RestoreFault.{RestoreFault}

@@ -6,7 +6,7 @@ use Rattle.run_model.specs.IsStateAfter.{CoreView}
 use Rattle.snapshot_format.specs.declared.saved.SavedOperator.{SavedOperator}
 use Rattle.snapshot_format.specs.declared.saved.Snapshot.{Snapshot}
 use Rattle.snapshot_format.specs.States.{state_of, states_of, saved_state}
-use Rattle.live_core.specs.Resting.{Rests, IsRestFault}
+use Rattle.plant_core.specs.live.Resting.{Rests, IsRestFault}
 use Rattle.plant_restart.specs.declared.fault.SaveFault.{SaveFault}
 use Rattle.plant_restart.specs.declared.fault.SaveFault.TheVariants.{Unfinished, NoMemory}
 

@@ -1,7 +1,7 @@
 //! Changes the plant of a core that rests.
 
 ghost use Rattle.std.specs.Prelude.{◌≡◌, IfOk, IfErr};
-ghost use Rattle.live_core.specs.LiveView.{live_view};
+ghost use Rattle.plant_core.specs.live.LiveView.{live_view};
 ghost use Rattle.plant_restart.specs.declared.fault.ChangeFault.TheVariants as change_faults;
 ghost use Rattle.plant_restart.specs.declared.fault.RestartFault.TheVariants as restart_faults;
 ghost use Rattle.plant_restart.specs.Changing.{IsChangeOf, IsChangeFault, CanChange};
@@ -9,9 +9,8 @@ ghost use Rattle.plant_restart.specs.Changing.{IsChangeOf, IsChangeFault, CanCha
 use crate::fault::{ChangeFault, RestartFault};
 use crate::restarting::restart;
 use crate::saving::states_to_save;
-use live_core::LiveCore;
-use plant::Plant;
-use plant_comparison::keeps_consts;
+use plant::{Plant, keeps_consts};
+use plant_core::LiveCore;
 use std::alloc::Global;
 
 /// Returns the core of another plant that goes on from a core that rests, which is left as it is: an operator with the name of

@@ -1,17 +1,17 @@
 //! All refusals of the states in which the operators of a core are to go on under another plant.
 
 ghost use Rattle.std.specs.Prelude.{◌≡◌, ◌++◌, ℕ, [], map, OnOk, IfOk};
-ghost use Rattle.live_core.specs.LiveView.{live_view};
-ghost use Rattle.live_core.specs.Resting.{Rests};
+ghost use Rattle.plant_core.specs.live.LiveView.{live_view};
+ghost use Rattle.plant_core.specs.live.Resting.{Rests};
 ghost use Rattle.plant_restart.specs.ByName.{state_under};
 ghost use Rattle.plant_restart.specs.Saving.{saved_by_name, states_by_name};
 ghost use Rattle.plant_restart.specs.Refused.{refused_state, refused_under, refused_from, refused_states};
 
 use crate::restarting::state_under;
 use crate::saving::states_to_save;
-use live_core::LiveCore;
 use operator_book::{StateFault, row_faults};
 use plant::{Consts, Op, OperatorRow, Plant};
+use plant_core::LiveCore;
 use snapshot_format::SavedOperator;
 use std::alloc::{AllocError, Global};
 
@@ -86,6 +86,7 @@ pub fn refused_states(
     core: &LiveCore,
     plant: &Plant,
 ) -> Result<Vec<RefusedState>, AllocError>
+    // If the core rests, these are the faults of all states under the rows of the plant.
     ensures rests { IfOk result (λ refused. (frame : ℕ) → Rests (live_view core.now) frame
         → refused.items ≡ refused_states plant.now (states_by_name (live_view core.now))) }
     ensures restless { IfOk result (λ refused. ((frame : ℕ) → ¬ Rests (live_view core.now) frame) → refused.items ≡ []) }

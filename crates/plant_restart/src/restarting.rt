@@ -4,19 +4,18 @@ ghost use Rattle.std.specs.Prelude.{◌≡◌, ◌↔◌, map, All, IsTrue, IfOk
 ghost use Rattle.plant.specs.Row.{IsRowOf};
 ghost use Rattle.operator_model.specs.State.{operator};
 ghost use Rattle.operator_book.specs.declared.state_fault.StateFault.TheVariants as state_faults;
-ghost use Rattle.live_core.specs.declared.resume_fault.ResumeFault.TheVariants as resume_faults;
-ghost use Rattle.live_core.specs.LiveOperator.{sound_of};
-ghost use Rattle.live_core.specs.LiveView.{live_view};
+ghost use Rattle.plant_core.specs.declared.live.resume_fault.ResumeFault.TheVariants as resume_faults;
+ghost use Rattle.plant_core.specs.live.LiveOperator.{sound_of};
+ghost use Rattle.plant_core.specs.live.LiveView.{live_view};
 ghost use Rattle.plant_restart.specs.ByName.{state_under, operator_by_name};
 ghost use Rattle.plant_restart.specs.Saving.{saved_by_name};
 ghost use Rattle.plant_restart.specs.Restarted.{IsFaultOfState, IsRowFault, IsRowsFault, IsRestarted, IsRestartFault};
 
 use crate::copying::state_to_resume;
 use crate::fault::RestartFault;
-use live_core::{LiveCore, ResumeFault};
 use operator_book::{Machine, StateFault, StateView};
-use plant::{Consts, Op, OperatorName, OperatorRow, Plant};
-use plant_comparison::is_same_name;
+use plant::{Consts, Op, OperatorName, OperatorRow, Plant, is_same_name};
+use plant_core::{LiveCore, ResumeFault};
 use snapshot_format::SavedOperator;
 use std::alloc::{AllocError, Global};
 

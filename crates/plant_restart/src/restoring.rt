@@ -2,16 +2,15 @@
 
 ghost use Rattle.std.specs.Prelude.{◌≡◌, ◌↔◌, IsTrue, map, Contains, IfOk, IfErr, OnOk, IfSome};
 ghost use Rattle.snapshot_format.specs.States.{states_of};
-ghost use Rattle.live_core.specs.LiveView.{live_view};
+ghost use Rattle.plant_core.specs.live.LiveView.{live_view};
 ghost use Rattle.plant_restart.specs.declared.fault.RestoreFault.TheVariants as restore_faults;
 ghost use Rattle.plant_restart.specs.declared.fault.RestartFault.TheVariants as restart_faults;
 ghost use Rattle.plant_restart.specs.Restarted.{names_of, HasNoRow, HaveRows, IsRestarted, IsRestoreFault, CanRestart};
 
 use crate::fault::RestoreFault;
 use crate::restarting::restart;
-use live_core::LiveCore;
-use plant::{OperatorName, OperatorRow, Plant};
-use plant_comparison::is_same_name;
+use plant::{OperatorName, OperatorRow, Plant, is_same_name};
+use plant_core::LiveCore;
 use snapshot_format::{SavedOperator, Snapshot};
 use std::alloc::Global;
 

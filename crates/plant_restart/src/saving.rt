@@ -2,14 +2,14 @@
 
 ghost use Rattle.std.specs.Prelude.{◌≡◌, ℕ, map, Err, IfOk, IfErr};
 ghost use Rattle.plant_restart.specs.declared.fault.SaveFault.TheVariants as save_faults;
-ghost use Rattle.live_core.specs.LiveView.{live_view};
-ghost use Rattle.live_core.specs.Resting.{Rests};
+ghost use Rattle.plant_core.specs.live.LiveView.{live_view};
+ghost use Rattle.plant_core.specs.live.Resting.{Rests};
 ghost use Rattle.plant_restart.specs.Saving.{saved_book, IsCoreSnapshot, IsSaveFault};
 
 use crate::copying::state_to_save;
 use crate::fault::SaveFault;
 use lists::Listed;
-use live_core::LiveCore;
+use plant_core::LiveCore;
 use snapshot_format::{SavedOperator, Snapshot};
 use std::alloc::{AllocError, Global};
 use tlv24::Bytes;
@@ -44,6 +44,7 @@ pub fn save(alloc: Global, core: &LiveCore, plant_text: Bytes) -> Result<Snapsho
 
     // Memory is asked for where the core rests, and there the only fault is out of memory.
     ensures memory { result ≡ Err save_faults.NoMemory → (frame : ℕ) × Rests (live_view core.now) frame }
+    // A core that rests is refused only if memory runs out.
     ensures only { (frame : ℕ) → Rests (live_view core.now) frame → IfErr result (λ fault. fault ≡ save_faults.NoMemory) }
 {
     let frame = match core.resting_frame() {

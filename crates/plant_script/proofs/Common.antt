@@ -9,8 +9,8 @@ pub use Rattle.line_service.proofs.LeftLemmas.{first_left, none_left, take_next,
 pub use Rattle.line_service.proofs.StepLemmas.{fault_is_told}
 pub use Rattle.line_service.specs.Steps.{IsStepsEndAt, HasDone}
 pub use Rattle.line_service.specs.declared.steps_end.StepsEnd.{StepsEnd}
-pub use Rattle.live_core.specs.Faults.{step_fault}
-pub use Rattle.live_core.specs.declared.core_fault.CoreFault.{CoreFault}
+pub use Rattle.plant_core.specs.live.Faults.{step_fault}
+pub use Rattle.plant_core.specs.declared.live.core_fault.CoreFault.{CoreFault}
 pub use Rattle.map_assembly.specs.declared.map_bytes.MapBytes.{MapBytes}
 pub use Rattle.operator_book.specs.ViewOf.{view_of}
 pub use Rattle.operator_model.specs.Machine.{own_run, stranger_of, unfit_of}
@@ -31,18 +31,18 @@ pub use Rattle.plant_script.specs.Traced.{EndsTraceBy, IsTracedRunOf, EndsTraced
 pub use Rattle.plant_script.specs.Words.{AnswersWith, AnswersFront, AnswersServe, AnswersSteps, AnswersOperator}
 pub use Rattle.plant_script.specs.declared.answer.Answer.{Answer}
 pub use Rattle.plant_script.specs.declared.input_outcome.InputOutcome.{InputOutcome}
-pub use Rattle.run_audit.specs.Outcome.{ticks_of, IsOutcome}
-pub use Rattle.run_audit.specs.Outs.{outs_from, outs_of}
+pub use Rattle.plant_workers.specs.audit.Outcome.{ticks_of, IsOutcome}
+pub use Rattle.plant_workers.specs.audit.Outs.{outs_from, outs_of}
 pub use Rattle.run_model.specs.IsStateAfter.{CoreView, IsStateAfter}
 pub use Rattle.run_model.specs.Starts.{first_start, Start}
 pub use Rattle.run_model.specs.declared.step.Out.{Out}
 pub use Rattle.run_model.specs.declared.step.Step.{Step}
-pub use Rattle.run_plan.specs.Spending.{IsSpentAt, IsFirstSpent, is_reslice, before_reslice}
-pub use Rattle.run_receipts.specs.OwnParts.{history_outputs}
-pub use Rattle.script_format.proofs.Outcomes.{if_ok}
-pub use Rattle.script_format.specs.Script.{steps_without_numbers, is_named, steps_of}
-pub use Rattle.script_format.specs.Text.{outs_text, actions_text, history_text, operator_name, map_line, out_line, output_line}
-pub use Rattle.script_format.specs.declared.script.LineStep.{LineStep}
+pub use Rattle.plant_workers.specs.plan.Spending.{IsSpentAt, IsFirstSpent, is_reslice, before_reslice}
+pub use Rattle.plant_workers.specs.receipts.OwnParts.{history_outputs}
+pub use Rattle.line_service.proofs.ScriptLemmas.Outcomes.{if_ok}
+pub use Rattle.line_service.specs.script.Script.{steps_without_numbers, is_named, steps_of}
+pub use Rattle.line_service.specs.script.Text.{outs_text, actions_text, history_text, operator_name, map_line, out_line, output_line}
+pub use Rattle.line_service.specs.declared.script.script.LineStep.{LineStep}
 pub use Rattle.std.proofs.KnownBytes.{Appends-trans, Appends-kept}
 pub use Rattle.std.proofs.lemmas.Bool.{cases_order, cases_Bool, le-leb, lt-leb}
 pub use Rattle.std.proofs.lemmas.List.{map-append, take_more, length-map, take-append-le, take-append-drop, drop_more, length-append, nil_from_length}

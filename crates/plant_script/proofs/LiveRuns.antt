@@ -1,9 +1,9 @@
 -- A run that is written as its steps are done.
 use Rattle.std.proofs.Common.{◌≡◌, ◌≢◌, inl, inr, ℕ, List, [], ◌++◌, Option, Some, None, IsSome, refl, sym, ap, subst, ◌∙◌}
 use Rattle.plant_script.proofs.Common.{slice_get, take, Appends, Appends-trans, PlantFields, first_start, CoreView, CoreFault, step_fault, LineStep, steps_without_numbers, outs_text, StepsEnd, IsStepsEndAt, HasDone, memory_line, IsEndStatus, EndsBy, IsScriptRun, status_of, line_of, IsWritten, EndsRun}
-use Rattle.live_core.specs.Performing.{IsOf}
-use Rattle.live_core.proofs.BehindLemmas.{behind}
-use Rattle.live_core.proofs.FaultLemmas.{same_step_fault}
+use Rattle.plant_core.specs.live.Performing.{IsOf}
+use Rattle.plant_core.proofs.LiveLemmas.BehindLemmas.{behind}
+use Rattle.plant_core.proofs.LiveLemmas.FaultLemmas.{same_step_fault}
 use Rattle.line_service.specs.declared.steps_end.StepsEnd.TheVariants as ends
 
 -- the run of the core with histories ends where the live core's does

@@ -4,8 +4,8 @@ use Rattle.plant_script.proofs.Common.{Appends, PlantFields, Out, Step, Start, f
 use Rattle.toml.specs.Parse.{parse_document}
 use Rattle.slice_table.specs.declared.plant_fault.PlantFault.{PlantFault}
 use Rattle.slice_table.specs.ReadPlant.{text_plant}
-use Rattle.live_core.specs.After.{IsAfter, IsAfterFrom}
-use Rattle.script_format.specs.Input.{plant_text, script_text}
+use Rattle.plant_core.specs.live.After.{IsAfter, IsAfterFrom}
+use Rattle.line_service.specs.script.Input.{plant_text, script_text}
 use Rattle.line_service.specs.Service.{service_text, IsServiceOf}
 use Rattle.plant_script.specs.Serving.{IsServed, EndsService}
 

@@ -2,11 +2,11 @@
 use Rattle.std.proofs.Common.{◌≡◌, inl, inr, ℕ, List, Result, Ok, Err, ap, subst, ◌∙◌}
 use Rattle.plant_script.proofs.Common.{PlantFields, BookView, MapBytes, Step, CoreFault, IsOutcome, outs_of, IsFirstSpent, before_reslice, LineStep, steps_without_numbers, outs_text, Answer, ReportsCore, ReportsFault, IsThreadedRunOf, status_code}
 use Rattle.operator_book.specs.declared.book.BookFault.TheVariants.{FramesSpent}
-use Rattle.live_core.specs.declared.core_fault.CoreFault.TheVariants.{Book}
-use Rattle.run_receipts.specs.declared.receipt.Receipt.{Receipt}
-use Rattle.run_receipts.specs.declared.run_fault.RunFault.{RunFault}
-use Rattle.run_receipts.specs.declared.run_fault.RunFault.TheVariants.{Core}
-use Rattle.run_plan.specs.Serving.{IsServable, IsFirstUnserved}
+use Rattle.plant_core.specs.declared.live.core_fault.CoreFault.TheVariants.{Book}
+use Rattle.plant_workers.specs.declared.receipts.receipt.Receipt.{Receipt}
+use Rattle.plant_workers.specs.declared.receipts.run_fault.RunFault.{RunFault}
+use Rattle.plant_workers.specs.declared.receipts.run_fault.RunFault.TheVariants.{Core}
+use Rattle.plant_workers.specs.plan.Serving.{IsServable, IsFirstUnserved}
 use Rattle.plant_workers.specs.Faulting.{IsFault}
 use Rattle.plant_script.proofs.RefusedSteps.{first_of_all, core_spent}
 

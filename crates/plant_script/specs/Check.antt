@@ -8,9 +8,9 @@ use Rattle.slice_table.specs.declared.plant_fault.PlantFault.{PlantFault}
 use Rattle.slice_table.specs.declared.plant_fault.PlantFault.TheVariants.{NotToml, Missing, BadValue, SlicesMeet, SidsMeet, SfidsMeet, ModemTwice, TooManyElements, BudgetOverSlice, ProvisionedOver, NoMemory}
 use Rattle.slice_table.specs.Keys.{key_text}
 use Rattle.slice_table.specs.ReadPlant.{text_plant}
-use Rattle.script_format.specs.declared.script.LineStep.{LineStep}
-use Rattle.script_format.specs.Input.{plant_text, script_text}
-use Rattle.script_format.specs.Script.{steps_of}
+use Rattle.line_service.specs.declared.script.script.LineStep.{LineStep}
+use Rattle.line_service.specs.script.Input.{plant_text, script_text}
+use Rattle.line_service.specs.script.Script.{steps_of}
 use Rattle.plant_script.specs.One.{Answer, is_readable}
 
 -- ---- the line of an invalid plant

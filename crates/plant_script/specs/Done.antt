@@ -4,10 +4,10 @@ use Rattle.plant.specs.declared.plant.PlantFields.{PlantFields}
 use Rattle.operator_model.specs.Replay.{BookView, actions_of}
 use Rattle.run_model.specs.declared.step.Out.{Out}
 use Rattle.run_model.specs.IsStateAfter.{CoreView, IsStateAfter}
-use Rattle.live_core.specs.Faults.{step_fault}
-use Rattle.script_format.specs.declared.script.LineStep.{LineStep}
-use Rattle.script_format.specs.Script.{steps_without_numbers}
-use Rattle.script_format.specs.Text.{actions_text}
+use Rattle.plant_core.specs.live.Faults.{step_fault}
+use Rattle.line_service.specs.declared.script.script.LineStep.{LineStep}
+use Rattle.line_service.specs.script.Script.{steps_without_numbers}
+use Rattle.line_service.specs.script.Text.{actions_text}
 use Rattle.pcap_capture.specs.Capture.{CaptureView, CapturesRun}
 
 -- the steps of these lines are done, and what is said of their outputs is written

@@ -4,19 +4,19 @@ use Rattle.std.specs.Fmt.{decimal}
 use Rattle.plant.specs.declared.plant.PlantFields.{PlantFields}
 use Rattle.operator_model.specs.Replay.{BookView}
 use Rattle.map_assembly.specs.declared.map_bytes.MapBytes.{MapBytes}
-use Rattle.live_core.specs.declared.core_fault.CoreFault.{CoreFault}
-use Rattle.live_core.specs.declared.core_fault.ResliceFault.{ResliceFault}
-use Rattle.run_receipts.specs.declared.receipt.Receipt.{Receipt}
-use Rattle.run_receipts.specs.declared.run_fault.RunFault.{RunFault}
-use Rattle.run_receipts.specs.declared.run_fault.RunFault.TheVariants as faults
-use Rattle.run_audit.specs.Outcome.{IsOutcome}
-use Rattle.run_audit.specs.Outs.{outs_of}
-use Rattle.run_plan.specs.Serving.{IsServable, IsFirstUnserved}
-use Rattle.run_plan.specs.Spending.{NoneSpentBefore, IsFirstSpent, before_reslice}
+use Rattle.plant_core.specs.declared.live.core_fault.CoreFault.{CoreFault}
+use Rattle.plant_core.specs.declared.live.core_fault.ResliceFault.{ResliceFault}
+use Rattle.plant_workers.specs.declared.receipts.receipt.Receipt.{Receipt}
+use Rattle.plant_workers.specs.declared.receipts.run_fault.RunFault.{RunFault}
+use Rattle.plant_workers.specs.declared.receipts.run_fault.RunFault.TheVariants as faults
+use Rattle.plant_workers.specs.audit.Outcome.{IsOutcome}
+use Rattle.plant_workers.specs.audit.Outs.{outs_of}
+use Rattle.plant_workers.specs.plan.Serving.{IsServable, IsFirstUnserved}
+use Rattle.plant_workers.specs.plan.Spending.{NoneSpentBefore, IsFirstSpent, before_reslice}
 use Rattle.plant_workers.specs.Faulting.{IsResliceFault, IsFault}
-use Rattle.script_format.specs.declared.script.LineStep.{LineStep}
-use Rattle.script_format.specs.Script.{steps_without_numbers}
-use Rattle.script_format.specs.Text.{operator_name, outs_text}
+use Rattle.line_service.specs.declared.script.script.LineStep.{LineStep}
+use Rattle.line_service.specs.script.Script.{steps_without_numbers}
+use Rattle.line_service.specs.script.Text.{operator_name, outs_text}
 
 -- ---- a run that is settled
 

@@ -12,9 +12,9 @@ use Rattle.operator_model.specs.declared.output.Output.TheVariants.{Reply, Silen
 use Rattle.operator_model.specs.State.{opened_state, operator}
 use Rattle.operator_model.specs.Machine.{own_run}
 use Rattle.operator_model.specs.Worked.{first_modem}
-use Rattle.script_format.specs.Lines.{lines_of}
-use Rattle.script_format.specs.Messages.{messages_of}
-use Rattle.script_format.specs.Causes.{cause_name}
+use Rattle.line_service.specs.script.Lines.{lines_of}
+use Rattle.line_service.specs.script.Messages.{messages_of}
+use Rattle.line_service.specs.script.Causes.{cause_name}
 use Rattle.plant_script.specs.OperatorA.{row_a, consts_a}
 
 -- ---- messages to outputs

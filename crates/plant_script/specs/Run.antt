@@ -5,9 +5,9 @@ use Rattle.plant.specs.declared.plant.PlantFields.{PlantFields}
 use Rattle.run_model.specs.declared.step.Step.{Step}
 use Rattle.run_model.specs.declared.step.Out.{Out}
 use Rattle.run_model.specs.IsStateAfter.{CoreView, IsStateAfter}
-use Rattle.live_core.specs.Faults.{step_fault}
-use Rattle.script_format.specs.declared.script.LineStep.{LineStep}
-use Rattle.script_format.specs.Script.{steps_without_numbers}
+use Rattle.plant_core.specs.live.Faults.{step_fault}
+use Rattle.line_service.specs.declared.script.script.LineStep.{LineStep}
+use Rattle.line_service.specs.script.Script.{steps_without_numbers}
 use Rattle.pcap_capture.specs.Capture.{IsCaptureOf}
 
 -- the run ends after the last step; or before the first one that is refused

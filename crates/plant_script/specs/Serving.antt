@@ -6,8 +6,8 @@ use Rattle.slice_table.specs.declared.plant_fault.PlantFault.{PlantFault}
 use Rattle.slice_table.specs.ReadPlant.{text_plant}
 use Rattle.run_model.specs.Starts.{first_start}
 use Rattle.run_model.specs.IsStateAfter.{CoreView}
-use Rattle.live_core.specs.After.{IsAfter}
-use Rattle.script_format.specs.Lines.{lines_of}
+use Rattle.plant_core.specs.live.After.{IsAfter}
+use Rattle.line_service.specs.script.Lines.{lines_of}
 use Rattle.line_service.specs.Service.{LineRun, AreAnswered, service_text, all_done, all_told}
 use Rattle.plant_script.specs.Check.{fault_text}
 use Rattle.plant_script.specs.Run.{memory_line}

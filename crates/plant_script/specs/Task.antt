@@ -6,9 +6,9 @@ use Rattle.std.specs.Global.{Vec}
 use Rattle.plant.specs.declared.operator_row.RowFields.{RowFields}
 use Rattle.plant.specs.declared.plant.PlantFields.{PlantFields}
 use Rattle.run_model.specs.declared.step.Step.{Step}
-use Rattle.script_format.specs.declared.script.LineStep.{LineStep}
-use Rattle.script_format.specs.Input.{script_text}
-use Rattle.script_format.specs.Text.{outs_text, history_text}
+use Rattle.line_service.specs.declared.script.script.LineStep.{LineStep}
+use Rattle.line_service.specs.script.Input.{script_text}
+use Rattle.line_service.specs.script.Text.{outs_text, history_text}
 use Rattle.plant_script.specs.declared.answer.Answer.{Answer}
 use Rattle.command_line.specs.declared.asked.RunReport.{RunReport}
 use Rattle.command_line.specs.declared.asked.RunReport.TheVariants.{Outputs, Capture, Trace, History}

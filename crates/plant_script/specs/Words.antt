@@ -6,11 +6,11 @@ use Rattle.plant.specs.declared.operator_row.RowFields.{RowFields}
 use Rattle.plant.specs.declared.plant.PlantFields.{PlantFields}
 use Rattle.slice_table.specs.declared.plant_fault.PlantFault.{PlantFault}
 use Rattle.slice_table.specs.ReadPlant.{text_plant}
-use Rattle.script_format.specs.declared.script.LineStep.{LineStep}
+use Rattle.line_service.specs.declared.script.script.LineStep.{LineStep}
 use Rattle.command_line.specs.Order.{Order, one, check, run, threads, capture, serve, trace, history}
-use Rattle.script_format.specs.Input.{plant_text, script_text}
-use Rattle.script_format.specs.Script.{is_named, steps_of}
-use Rattle.script_format.specs.Text.{outs_text, history_text}
+use Rattle.line_service.specs.script.Input.{plant_text, script_text}
+use Rattle.line_service.specs.script.Script.{is_named, steps_of}
+use Rattle.line_service.specs.script.Text.{outs_text, history_text}
 use Rattle.plant_script.specs.One.{Answer, is_readable, answer_of}
 use Rattle.plant_script.specs.Check.{answer_to_steps, answer_to_plant, check_of}
 use Rattle.plant_script.specs.Run.{io_line, IsScriptRun, IsCapturedRunOf}

@@ -15,10 +15,10 @@ ghost use Rattle.plant_script.specs.Statuses.{status_code};
 use crate::answer::Answer;
 use crate::ending::refused_line;
 use crate::status::Status;
+use line_service::LineStep;
 use pcap_capture::Capture;
 use plant_core::PlantCore;
 use run_model::{Out, Step};
-use script_format::LineStep;
 use std::alloc::{AllocError, Global};
 
 /// Captures a step that is done, and its own outputs.

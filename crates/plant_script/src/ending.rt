@@ -2,7 +2,7 @@
 
 ghost use Rattle.std.specs.Prelude.{◌≡◌, ◌≢◌, Some, IfOk, OnOk};
 ghost use Rattle.std.specs.Io.KnownBytes.{Appends};
-ghost use Rattle.live_core.specs.declared.core_fault.CoreFault.TheVariants.{NoMemory};
+ghost use Rattle.plant_core.specs.declared.live.core_fault.CoreFault.TheVariants.{NoMemory};
 ghost use Rattle.plant_script.specs.Task.{WritesOutcome};
 ghost use Rattle.plant_script.specs.Ends.{status_of, line_of, fault_status, fault_line};
 ghost use Rattle.plant_script.specs.Statuses.{status_code};
@@ -11,7 +11,7 @@ use crate::answer::Answer;
 use crate::input::AnswerFault;
 use crate::status::Status;
 use line_service::StepsEnd;
-use live_core::CoreFault;
+use plant_core::CoreFault;
 use std::alloc::AllocError;
 use std::io;
 use std::io::Write;

@@ -1,12 +1,12 @@
 //! What is done for an input.
 
 ghost use Rattle.std.proofs.Props.{props};
-ghost use Rattle.script_format.specs.Script.{ArePlaced};
+ghost use Rattle.line_service.specs.script.Script.{ArePlaced};
 
 use crate::answer::Answer;
 use command_line::RunReport;
+use line_service::LineStep;
 use plant::{Op, Plant};
-use script_format::LineStep;
 
 /// The run of a script on a plant, and what is printed of it. The type keeps that what arrives is placed at the operator that lists
 /// its modem.

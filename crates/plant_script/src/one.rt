@@ -13,8 +13,8 @@ ghost use Rattle.plant_script.specs.View.{IsOfA};
 use crate::operator_a::{consts_a, first_modem, row_a};
 use grant_policy::{Policy, RankInput, Ranking, rank_by};
 use hex::encode_upper;
+use line_service::cause_name;
 use operator_book::{Action, Book, BookFault, Heard, OpenFault, Output};
-use script_format::cause_name;
 use std::alloc::{AllocError, Global};
 use tlv24::Bytes;
 

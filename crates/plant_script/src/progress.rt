@@ -1,8 +1,8 @@
 //! How far the program comes without threads.
 
 use crate::status::Status;
+use line_service::LineStep;
 use plant::Plant;
-use script_format::LineStep;
 
 /// How far the program has come without threads.
 #[derive(Drop)]

@@ -4,8 +4,8 @@ ghost use Rattle.std.specs.Prelude.{◌≡◌, ◌≢◌, map, true, IfOk, IfErr
 ghost use Rattle.std.specs.List.{position_from};
 ghost use Rattle.toml.specs.Parse.{parse_document};
 ghost use Rattle.slice_table.specs.ReadPlant.{text_plant};
-ghost use Rattle.script_format.specs.Input.{script_text};
-ghost use Rattle.script_format.specs.Script.{is_named, steps_of};
+ghost use Rattle.line_service.specs.script.Input.{script_text};
+ghost use Rattle.line_service.specs.script.Script.{is_named, steps_of};
 ghost use Rattle.plant_script.specs.One.{is_readable};
 ghost use Rattle.plant_script.specs.Task.{RunsTo, AnswersReport, Comes, IsNotThreaded};
 ghost use Rattle.plant_script.specs.Words.{AnswersSteps, AnswersOperator, AnswersPlant, AnswersInput, AnswersThreads};
@@ -17,8 +17,8 @@ use crate::input::AnswerFault;
 use crate::input_outcome::{InputOutcome, Task};
 use crate::status::Status;
 use command_line::RunReport;
+use line_service::{LineFault, before_bar, place_of, script_text, steps_of};
 use plant::{Op, Plant, Routes};
-use script_format::{LineFault, before_bar, place_of, script_text, steps_of};
 use slice_table::PlantFault;
 use std::alloc::Global;
 

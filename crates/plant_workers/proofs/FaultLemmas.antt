@@ -1,9 +1,9 @@
 -- What a run on threads is refused for.
 use Rattle.std.proofs.Common.{◌≡◌, Option, Some, None, option_map, Err}
 use Rattle.plant_workers.proofs.Common.{none-some, CoreFault, IsResliceTold}
-use Rattle.live_core.specs.declared.core_fault.CoreFault.TheVariants as core_faults
-use Rattle.live_core.specs.declared.core_fault.ResliceFault.{ResliceFault}
-use Rattle.live_core.specs.Faults.{IsReported}
+use Rattle.plant_core.specs.declared.live.core_fault.CoreFault.TheVariants as core_faults
+use Rattle.plant_core.specs.declared.live.core_fault.ResliceFault.{ResliceFault}
+use Rattle.plant_core.specs.live.Faults.{IsReported}
 
 -- what is told of slices is the fault that they have
 pub told_of : (fault : CoreFault) (found : Option ResliceFault) → IsReported {A = Unit {0}} (Err fault) (option_map (λ f. core_faults.Reslice f) found) → IsResliceTold fault found

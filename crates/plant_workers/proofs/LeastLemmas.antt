@@ -3,7 +3,7 @@ use Rattle.std.specs.List.{list_any}
 use Rattle.std.proofs.Common.{[], ◌∷◌, map, ◌||◌, ◌≡◌, ℕ, ◌+◌, ◌<◌, ◌≤◌, Bool, List, length, if◌then◌else◌, Option, Some, None, ◌⊎◌, inl, inr, refl, sym, ap, ◌∙◌, subst, arith}
 use Rattle.plant_workers.proofs.Common.{slice_get, same_Some, same_at, EarlyEnd, own_turn, lesser_turn, EndsLeast, IsLeastOf, IsLeastTurn}
 use Rattle.std.proofs.lemmas.Bool.{cases_eq, cases_lt, lt-ltb, le-ltb}
-use Rattle.cell_state.specs.declared.cell_fault.CellFault.{CellFault}
+use Rattle.plant_workers.specs.declared.cell_state.cell_fault.CellFault.{CellFault}
 
 abbrev Turned : Type 0
 Turned = ℕ × CellFault

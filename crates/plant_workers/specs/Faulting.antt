@@ -7,14 +7,14 @@ use Rattle.operator_book.specs.declared.book.BookFault.TheVariants as book_fault
 use Rattle.map_assembly.specs.declared.refused.GatherFault.TheVariants as gather_faults
 use Rattle.run_model.specs.declared.step.Step.{Step}
 use Rattle.run_model.specs.declared.step.Step.TheVariants as steps
-use Rattle.live_core.specs.declared.core_fault.CoreFault.{CoreFault}
-use Rattle.live_core.specs.declared.core_fault.CoreFault.TheVariants.{Book, Gather, Reslice}
-use Rattle.live_core.specs.declared.core_fault.ResliceFault.{ResliceFault}
-use Rattle.live_core.specs.Reslicing.{reslice_fault}
-use Rattle.run_receipts.specs.declared.run_fault.RunFault.{RunFault}
-use Rattle.run_receipts.specs.declared.run_fault.RunFault.TheVariants.{Core, Strayed, ResliceRefused}
-use Rattle.run_audit.specs.Straying.{AreOwnRuns, IsStrayHistory}
-use Rattle.run_plan.specs.Serving.{IsServable, IsFirstUnserved}
+use Rattle.plant_core.specs.declared.live.core_fault.CoreFault.{CoreFault}
+use Rattle.plant_core.specs.declared.live.core_fault.CoreFault.TheVariants.{Book, Gather, Reslice}
+use Rattle.plant_core.specs.declared.live.core_fault.ResliceFault.{ResliceFault}
+use Rattle.plant_core.specs.live.Reslicing.{reslice_fault}
+use Rattle.plant_workers.specs.declared.receipts.run_fault.RunFault.{RunFault}
+use Rattle.plant_workers.specs.declared.receipts.run_fault.RunFault.TheVariants.{Core, Strayed, ResliceRefused}
+use Rattle.plant_workers.specs.audit.Straying.{AreOwnRuns, IsStrayHistory}
+use Rattle.plant_workers.specs.plan.Serving.{IsServable, IsFirstUnserved}
 
 -- a book refused an action, or the assembly a frame, and not for out of memory
 abbrev pub IsOfThreads : CoreFault → Type 0

@@ -4,8 +4,8 @@ use Rattle.operator_model.specs.declared.action.Action.{Action}
 use Rattle.operator_model.specs.declared.action.Action.TheVariants as actions
 use Rattle.run_model.specs.declared.step.Step.{Step}
 use Rattle.run_model.specs.declared.step.Step.TheVariants as steps
-use Rattle.run_receipts.specs.declared.caller.Caller.{Caller}
-use Rattle.run_receipts.specs.declared.caller.Caller.TheVariants as callers
+use Rattle.plant_workers.specs.declared.receipts.caller.Caller.{Caller}
+use Rattle.plant_workers.specs.declared.receipts.caller.Caller.TheVariants as callers
 use Rattle.plant_workers.specs.declared.part.Part.{Part}
 use Rattle.plant_workers.specs.declared.part.Part.TheVariants.{Arrivals, Ticks, Worker}
 

@@ -4,12 +4,12 @@ use Rattle.std.specs.List.{list_any}
 use Rattle.operator_book.specs.declared.book.BookFault.TheVariants as book_faults
 use Rattle.map_assembly.specs.declared.refused.GatherFault.{GatherFault}
 use Rattle.map_assembly.specs.declared.refused.GatherFault.TheVariants as gather_faults
-use Rattle.live_core.specs.declared.core_fault.CoreFault.TheVariants as core_faults
-use Rattle.run_receipts.specs.declared.run_fault.RunFault.{RunFault}
-use Rattle.run_receipts.specs.declared.run_fault.RunFault.TheVariants.{Strayed, Core, NoMemory}
-use Rattle.cell_state.specs.declared.cell_fault.CellFault.{CellFault}
-use Rattle.cell_state.specs.declared.cell_fault.CellFault.TheVariants.{Book, Passed, Stopped, Closed}
-use Rattle.cell_state.specs.Telling.{IsOfTurn, IsOfTaking}
+use Rattle.plant_core.specs.declared.live.core_fault.CoreFault.TheVariants as core_faults
+use Rattle.plant_workers.specs.declared.receipts.run_fault.RunFault.{RunFault}
+use Rattle.plant_workers.specs.declared.receipts.run_fault.RunFault.TheVariants.{Strayed, Core, NoMemory}
+use Rattle.plant_workers.specs.declared.cell_state.cell_fault.CellFault.{CellFault}
+use Rattle.plant_workers.specs.declared.cell_state.cell_fault.CellFault.TheVariants.{Book, Passed, Stopped, Closed}
+use Rattle.plant_workers.specs.cell_state.Telling.{IsOfTurn, IsOfTaking}
 use Rattle.operator_model.specs.declared.action.Action.{Action}
 use Rattle.plant_workers.specs.declared.thread_report.EarlyEnd.{EarlyEnd}
 use Rattle.plant_workers.specs.declared.thread_report.EarlyEnd.TheVariants.{Turn, Assembly}

@@ -3,20 +3,20 @@
 ghost use Rattle.std.specs.Prelude.{◌≡◌, ◌<◌, ◌≤◌, ◌^◌, length, IfOk, IfErr, IfSome};
 ghost use Rattle.operator_book.specs.ViewOf.{view_of};
 ghost use Rattle.operator_model.specs.declared.action.Action.TheVariants as actions;
-ghost use Rattle.cell_state.specs.Receiving.{IsOfSomeBook};
-ghost use Rattle.cell_state.specs.Taking.{frames_at, IsFrameOfSomeBook};
-ghost use Rattle.cell_state.specs.Telling.{IsOfBook, IsOfTurn, IsOfTaking};
+ghost use Rattle.plant_workers.specs.cell_state.Receiving.{IsOfSomeBook};
+ghost use Rattle.plant_workers.specs.cell_state.Taking.{frames_at, IsFrameOfSomeBook};
+ghost use Rattle.plant_workers.specs.cell_state.Telling.{IsOfBook, IsOfTurn, IsOfTaking};
 
+use crate::cell_state::{CellFault, Held};
 use crate::gate::Gate;
 use crate::part::LOOKS;
+use crate::receipts::Receipt;
 use crate::signal::Signal;
 use crate::turn::{Turn, Turns};
-use cell_state::{CellFault, Held};
 use dsx_messages::Modem;
 use operator_book::Book;
 use operator_model::{Action, Heard};
 use plant::Op;
-use run_receipts::Receipt;
 use slice_scheduler::Elements;
 use std::alloc::{AllocError, Global};
 use std::sync::{Mutex, Wait};

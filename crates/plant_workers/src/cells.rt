@@ -5,7 +5,7 @@ ghost use Rattle.std.proofs.Props.{props};
 ghost use Rattle.plant_workers.specs.Cells.{AreInOrder};
 
 use crate::cell::OperatorCell;
-use cell_state::Held;
+use crate::cell_state::Held;
 use grant_policy::Ranking;
 use operator_book::Book;
 use plant::Plant;

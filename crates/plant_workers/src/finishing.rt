@@ -2,18 +2,18 @@
 
 ghost use Rattle.std.specs.Prelude.{◌≡◌, All, map, IfOk, IfErr};
 ghost use Rattle.operator_book.specs.ViewOf.{view_of};
-ghost use Rattle.run_audit.specs.Outcome.{AreTicked, IsOutcome};
-ghost use Rattle.run_receipts.specs.Callers.{AreByCallers};
+ghost use Rattle.plant_workers.specs.audit.Outcome.{AreTicked, IsOutcome};
+ghost use Rattle.plant_workers.specs.receipts.Callers.{AreByCallers};
 ghost use Rattle.plant_workers.specs.Faulting.{IsRunFault};
 
+use crate::audit::{Assembly, compare};
 use crate::receipt_lists::callers_of;
+use crate::receipts::{Callers, RunFault, Settled, settle};
 use crate::run_state::RunState;
 use map_assembly::MapBytes;
 use operator_book::Book;
 use plant::Plant;
-use run_audit::{Assembly, compare};
 use run_model::Step;
-use run_receipts::{Callers, RunFault, Settled, settle};
 use std::alloc::{AllocError, Global};
 
 /// Returns equal MAPs with memory of their own.

@@ -1,17 +1,17 @@
 //! Whether operators' books follow the first steps of a run.
 
 ghost use Rattle.std.specs.Prelude.{◌≡◌, length, map, take, MatchOption};
-ghost use Rattle.run_audit.specs.Straying.{AreOwnRuns, IsStrayHistory};
-ghost use Rattle.cell_state.specs.HeldView.{cell_book};
-ghost use Rattle.live_core.specs.declared.core_fault.ResliceFault.{ResliceFault};
+ghost use Rattle.plant_workers.specs.audit.Straying.{AreOwnRuns, IsStrayHistory};
+ghost use Rattle.plant_workers.specs.cell_state.HeldView.{cell_book};
+ghost use Rattle.plant_core.specs.declared.live.core_fault.ResliceFault.{ResliceFault};
 ghost use Rattle.plant_workers.specs.Faulting.{IsToldAt, IsOfReslice, IsRunFault};
 
-use cell_state::Held;
-use live_core::CoreFault;
+use crate::audit::stray_at;
+use crate::cell_state::Held;
+use crate::receipts::RunFault;
 use plant::{Op, Plant};
-use run_audit::stray_at;
+use plant_core::CoreFault;
 use run_model::Step;
-use run_receipts::RunFault;
 
 /// Finds the least operator whose history strays from its own steps, and where it does. Takes no memory.
 fn first_stray(plant: &Plant, helds: &[Held], steps: &[Step]) -> Option<(Op, usize)>

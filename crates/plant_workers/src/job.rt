@@ -3,11 +3,11 @@
 ghost use Rattle.std.specs.Prelude.{◌≡◌, IfOk};
 ghost use Rattle.plant_workers.specs.Parts.{action_in};
 
+use crate::audit::waiting_operator;
+use crate::plan::turns_of;
 use operator_model::Action;
 use plant::{Op, Plant};
-use run_audit::waiting_operator;
 use run_model::Step;
-use run_plan::turns_of;
 use std::alloc::{AllocError, Global};
 
 /// A step, its operator, and how many entries that operator's history has when the step's turn comes.

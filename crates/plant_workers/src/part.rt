@@ -4,9 +4,9 @@ ghost use Rattle.std.specs.Prelude.{◌≡◌, ◌↔◌, IsTrue};
 ghost use Rattle.plant_workers.specs.Parts.{caller_in, IsOfPart};
 
 use crate::job::Job;
+use crate::receipts::Caller;
 use plant::Op;
 use run_model::Step;
-use run_receipts::Caller;
 use std::alloc::{AllocError, Global};
 
 /// How often a thread looks whether its turn has come, before it sleeps: about as long as an action takes, with what it takes to

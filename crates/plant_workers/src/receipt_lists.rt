@@ -1,12 +1,12 @@
 //! The receipts of an operator's four callers.
 
 ghost use Rattle.std.specs.Prelude.{All, IfOk};
-ghost use Rattle.run_receipts.specs.Callers.{IsFor, AreByCallers};
-ghost use Rattle.run_receipts.specs.declared.caller.Caller.TheVariants as callers;
+ghost use Rattle.plant_workers.specs.receipts.Callers.{IsFor, AreByCallers};
+ghost use Rattle.plant_workers.specs.declared.receipts.caller.Caller.TheVariants as callers;
 
+use crate::cell_state::Told;
+use crate::receipts::{Caller, Callers, Receipt, Receipts};
 use crate::thread_report::ThreadReport;
-use cell_state::Told;
-use run_receipts::{Caller, Callers, Receipt, Receipts};
 use std::alloc::{AllocError, Global};
 
 /// Keeps the receipts of an operator's four callers, each in the order in which it got them. The type keeps that each has

@@ -3,26 +3,26 @@
 ghost use Rattle.std.specs.Prelude.{◌≡◌, ℕ, map, Err, IfOk, IfErr, OnOk};
 ghost use Rattle.operator_book.specs.ViewOf.{view_of, policy_of};
 ghost use Rattle.operator_book.specs.declared.book.BookFault.TheVariants.{FramesSpent};
-ghost use Rattle.live_core.specs.declared.core_fault.CoreFault.{CoreFault};
-ghost use Rattle.live_core.specs.declared.core_fault.CoreFault.TheVariants.{Book};
-ghost use Rattle.run_receipts.specs.declared.run_fault.RunFault.TheVariants.{Core};
-ghost use Rattle.run_audit.specs.Outcome.{AreTicked, IsOutcome};
-ghost use Rattle.run_plan.specs.Serving.{IsServable, IsFirstUnserved};
-ghost use Rattle.run_plan.specs.Spending.{IsFirstSpent, before_reslice};
+ghost use Rattle.plant_core.specs.declared.live.core_fault.CoreFault.{CoreFault};
+ghost use Rattle.plant_core.specs.declared.live.core_fault.CoreFault.TheVariants.{Book};
+ghost use Rattle.plant_workers.specs.declared.receipts.run_fault.RunFault.TheVariants.{Core};
+ghost use Rattle.plant_workers.specs.audit.Outcome.{AreTicked, IsOutcome};
+ghost use Rattle.plant_workers.specs.plan.Serving.{IsServable, IsFirstUnserved};
+ghost use Rattle.plant_workers.specs.plan.Spending.{IsFirstSpent, before_reslice};
 ghost use Rattle.plant_workers.specs.Faulting.{IsRunFault, IsFault};
 
 use crate::cells::Cells;
 use crate::finishing::finish;
 use crate::gate::Gate;
 use crate::job::{Job, jobs_of};
+use crate::plan::{before_reslice, first_spent, first_unserved};
+use crate::receipts::{RunFault, Settled};
 use crate::run_state::RunState;
 use grant_policy::Ranking;
-use live_core::CoreFault;
 use operator_book::BookFault;
 use plant::Plant;
+use plant_core::CoreFault;
 use run_model::Step;
-use run_plan::{before_reslice, first_spent, first_unserved};
-use run_receipts::{RunFault, Settled};
 use std::alloc::Global;
 use std::sync::Wait;
 use std::thread::Threads;
@@ -145,6 +145,7 @@ pub fn run_workers_on<R: Threads + Wait + Sync, G: Gate<R> + Sync>(
         IsOutcome plant steps.items (map view_of s.books.items) s.receipts.items s.maps.items) }
     ensures walked { OnOk result (IsServable plant steps.items) }
     ensures walk { (fault : CoreFault) → IsFirstUnserved plant steps.items fault → result ≡ Err (Core fault) }
+    // A Tick past the last frame number before any slice change is reported before a thread starts.
     ensures spent { (place : ℕ) → IsServable plant steps.items
         → IsFirstSpent plant (before_reslice steps.items) place → result ≡ Err (Core (Book FramesSpent)) }
     ensures err { IfErr result (IsFault plant steps.items) }

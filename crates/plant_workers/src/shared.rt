@@ -2,22 +2,22 @@
 
 ghost use Rattle.std.specs.Prelude.{◌≡◌, IfOk, IfErr};
 ghost use Rattle.operator_book.specs.declared.book.BookFault.TheVariants.{NoMemory};
-ghost use Rattle.cell_state.specs.declared.cell_fault.CellFault.TheVariants.{Book};
-ghost use Rattle.run_receipts.specs.Callers.{caller_of};
+ghost use Rattle.plant_workers.specs.declared.cell_state.cell_fault.CellFault.TheVariants.{Book};
+ghost use Rattle.plant_workers.specs.receipts.Callers.{caller_of};
 ghost use Rattle.plant_workers.specs.Parts.{caller_in, IsOfPart};
 ghost use Rattle.plant_workers.specs.Refusing.{IsOfAct, IsOfPut};
 
+use crate::audit::Assembly;
+use crate::cell_state::{CellFault, Told};
 use crate::gate::Gate;
 use crate::job::Job;
 use crate::part::{Part, PartJobs};
 use crate::thread_report::{EarlyEnd, ThreadReport};
 use crate::threads::run_threads;
 use crate::turn::Turns;
-use cell_state::{CellFault, Told};
 use operator_book::BookFault;
 use operator_model::Action;
 use plant::Op;
-use run_audit::Assembly;
 use std::alloc::{AllocError, Global};
 use std::sync::{Mutex, Wait};
 use std::thread::Threads;

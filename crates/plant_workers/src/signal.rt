@@ -1,6 +1,6 @@
 //! What signals to those who wait for a turn that an operator's history has grown.
 
-use cell_state::Held;
+use crate::cell_state::Held;
 use std::array;
 use std::sync::atomic::{AtomicUsize, Ordering};
 use std::sync::{Condvar, Mutex, MutexGuard, Wait};

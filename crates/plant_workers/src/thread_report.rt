@@ -9,12 +9,12 @@ ghost use Rattle.plant_workers.specs.Refusing.{own_turn, lesser_turn, IsLeastTur
 ghost use Rattle.plant_workers.specs.Refusing.{fault_of_turn, fault_of_assembly, of_assembly, IsFirstOfAssembly};
 ghost use Rattle.plant_workers.specs.Refusing.{IsEndWithoutTurn, IsEndOfRun};
 
-use cell_state::{CellFault, Told};
-use live_core::CoreFault;
+use crate::cell_state::{CellFault, Told};
+use crate::receipts::RunFault;
 use map_assembly::GatherFault;
 use operator_book::BookFault;
 use plant::Op;
-use run_receipts::RunFault;
+use plant_core::CoreFault;
 
 /// Why a thread ended before its last job.
 #[derive(Clone, Copy)]

@@ -1,16 +1,16 @@
 //! What is done under an operator's lock.
 
 ghost use Rattle.std.specs.Prelude.{◌≡◌, IfOk, IfErr, IfSome};
-ghost use Rattle.cell_state.specs.Receiving.{IsOfSomeBook};
-ghost use Rattle.cell_state.specs.Taking.{IsFrameOfSomeBook};
-ghost use Rattle.cell_state.specs.Telling.{IsOfBook, IsOfTurn, IsOfTaking};
+ghost use Rattle.plant_workers.specs.cell_state.Receiving.{IsOfSomeBook};
+ghost use Rattle.plant_workers.specs.cell_state.Taking.{IsFrameOfSomeBook};
+ghost use Rattle.plant_workers.specs.cell_state.Telling.{IsOfBook, IsOfTurn, IsOfTaking};
 
+use crate::cell_state::{CellFault, Held};
 use crate::gate::Gate;
+use crate::receipts::Receipt;
 use crate::signal::Signal;
-use cell_state::{CellFault, Held};
 use operator_model::Action;
 use plant::Op;
-use run_receipts::Receipt;
 use slice_scheduler::Elements;
 use std::alloc::{AllocError, Global};
 use std::sync::{Mutex, MutexGuard, Wait};

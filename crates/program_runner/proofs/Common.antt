@@ -8,6 +8,6 @@ pub use Rattle.plant_script.specs.Run.{memory_line}
 pub use Rattle.program_runner.specs.Answered.{IsAskedAnswer, IsWordAnswer, IsRunAnswer, IsCommandAnswer, IsProgramAnswer, is_run}
 pub use Rattle.program_runner.specs.Heads.{IsHeadRead}
 pub use Rattle.program_runner.specs.Resume.{IsResumeAnswer, IsRestoreAnswer, state_line, RefusesToBegin, IsSnapshotAnswer}
-pub use Rattle.resumed_service.specs.Beginning.{is_snapshot_head}
+pub use Rattle.state_service.specs.resumed.Beginning.{is_snapshot_head}
 pub use Rattle.std.specs.Fmt.{option_append}
 pub use Rattle.std.specs.Io.KnownBytes.{Appends}

@@ -1,12 +1,12 @@
 -- A script that is performed, of which no snapshot is written.
 use Rattle.std.proofs.Common.{◌≡◌, ◌≢◌, ℕ, List, Option, Some, None, inl, inr, subst}
 use Rattle.program_runner.proofs.Common.{Appends, memory_line, state_line, RefusesToBegin, IsSnapshotAnswer}
-use Rattle.live_core.specs.declared.rest_fault.RestFault.{RestFault}
-use Rattle.resumed_service.specs.declared.begin_fault.BeginFault.{BeginFault}
-use Rattle.resumed_service.specs.declared.begin_fault.BeginFault.TheVariants as begin
-use Rattle.resumed_service.specs.declared.saving.SnapshotEnd.{SnapshotEnd}
-use Rattle.resumed_service.specs.declared.saving.SnapshotEnd.TheVariants.{Unfinished, NoMemory, NotBegun}
-use Rattle.resumed_service.specs.SavedAfter.{EndsWithSnapshot}
+use Rattle.plant_core.specs.declared.live.rest_fault.RestFault.{RestFault}
+use Rattle.state_service.specs.declared.resumed.begin_fault.BeginFault.{BeginFault}
+use Rattle.state_service.specs.declared.resumed.begin_fault.BeginFault.TheVariants as begin
+use Rattle.state_service.specs.declared.resumed.saving.SnapshotEnd.{SnapshotEnd}
+use Rattle.state_service.specs.declared.resumed.saving.SnapshotEnd.TheVariants.{Unfinished, NoMemory, NotBegun}
+use Rattle.state_service.specs.resumed.SavedAfter.{EndsWithSnapshot}
 
 pub unfinished : (known old mid new : Option (List ℕ)) (status : ℕ) (end : SnapshotEnd) (why : RestFault) (operator : Option (List ℕ)) → end ≡ Unfinished why operator
     → EndsWithSnapshot known None None old mid end → (status ≢ 6 → (status ≡ 3) × Appends mid new state_line) → IsSnapshotAnswer known status old new

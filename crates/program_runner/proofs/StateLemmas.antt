@@ -1,6 +1,6 @@
 -- A service with a journal that has ended well.
 use Rattle.std.proofs.Common.{◌≡◌, ℕ, List, Option, Some, None, IfSome, subst}
-use Rattle.script_format.specs.Input.{plant_text, script_text}
+use Rattle.line_service.specs.script.Input.{plant_text, script_text}
 use Rattle.line_journal.specs.Journal.{JournalContent}
 use Rattle.state_service.specs.Beginning.{IsStateService}
 

@@ -16,7 +16,7 @@ use Rattle.command_line.specs.Options.{is_json, is_strict}
 use Rattle.program_runner.specs.Answered.{WritesLineFault, words_line}
 use Rattle.program_runner.specs.Resume.{WritesHelp}
 use Rattle.program_runner.specs.Version.{version_text}
-use Rattle.resumed_service.specs.declared.begin_fault.BeginFault.TheVariants as begin_faults
+use Rattle.state_service.specs.declared.resumed.begin_fault.BeginFault.TheVariants as begin_faults
 
 -- ---- no option
 

@@ -8,7 +8,7 @@ use Rattle.command_line.specs.declared.asked.LineFault.TheVariants as line
 use Rattle.plant_script.specs.Reaching.{AnswersWords}
 use Rattle.plant_script.specs.Run.{memory_line}
 use Rattle.program_runner.specs.Version.{version_text}
-use Rattle.resumed_service.specs.Beginning.{is_snapshot_head}
+use Rattle.state_service.specs.resumed.Beginning.{is_snapshot_head}
 use Rattle.program_runner.specs.Resume.{IsResumeAnswer, IsRestoreAnswer, IsSnapshotAnswer, WritesHelp}
 
 -- the line of an invalid command line

@@ -2,16 +2,16 @@
 use Rattle.std.specs.Prelude.{◌≡◌, ◌≢◌, ◌⊎◌, ℕ, List, [], ◌∷◌, ◌++◌, Option, None, IfSome, MatchBool, codes}
 use Rattle.std.specs.Fmt.{decimal}
 use Rattle.std.specs.Io.KnownBytes.{Appends}
-use Rattle.live_core.specs.declared.rest_fault.RestFault.{RestFault}
+use Rattle.plant_core.specs.declared.live.rest_fault.RestFault.{RestFault}
 use Rattle.plant_script.specs.Check.{fault_text}
 use Rattle.plant_script.specs.Run.{memory_line, io_line}
-use Rattle.resumed_service.specs.declared.begin_fault.BeginFault.{BeginFault}
-use Rattle.resumed_service.specs.declared.begin_fault.BeginFault.TheVariants.{NotText, InvalidSnapshot, InvalidPlant, NotRestored, NoMemory}
-use Rattle.resumed_service.specs.declared.saving.SnapshotEnd.{SnapshotEnd}
-use Rattle.resumed_service.specs.declared.saving.SnapshotEnd.TheVariants as saving
-use Rattle.resumed_service.specs.Beginning.{is_snapshot_head, front_text, lines_after, IsBeginFault}
-use Rattle.resumed_service.specs.Resumed.{IsResumedService}
-use Rattle.resumed_service.specs.SavedAfter.{IsSnapshotAfter}
+use Rattle.state_service.specs.declared.resumed.begin_fault.BeginFault.{BeginFault}
+use Rattle.state_service.specs.declared.resumed.begin_fault.BeginFault.TheVariants.{NotText, InvalidSnapshot, InvalidPlant, NotRestored, NoMemory}
+use Rattle.state_service.specs.declared.resumed.saving.SnapshotEnd.{SnapshotEnd}
+use Rattle.state_service.specs.declared.resumed.saving.SnapshotEnd.TheVariants as saving
+use Rattle.state_service.specs.resumed.Beginning.{is_snapshot_head, front_text, lines_after, IsBeginFault}
+use Rattle.state_service.specs.resumed.Resumed.{IsResumedService}
+use Rattle.state_service.specs.resumed.SavedAfter.{IsSnapshotAfter}
 use Rattle.snapshot_format.specs.declared.fault.Wrong.TheVariants.{Version}
 
 -- the help of a command is written, with status 0

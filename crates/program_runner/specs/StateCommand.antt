@@ -4,14 +4,14 @@ use Rattle.std.specs.Io.KnownBytes.{Appends}
 use Rattle.std.specs.declared.io.ErrorKind.{ErrorKind}
 use Rattle.std.specs.declared.io.ErrorKind.TheVariants.{OutOfMemory}
 use Rattle.std.specs.IoError.{error_kind}
-use Rattle.script_format.specs.Input.{plant_text, script_text}
+use Rattle.line_service.specs.script.Input.{plant_text, script_text}
 use Rattle.line_journal.specs.Journal.{JournalContent}
 use Rattle.journal_file.specs.declared.opening.JournalOpenFault.{JournalOpenFault}
 use Rattle.journal_file.specs.declared.opening.JournalOpenFault.TheVariants as openings
-use Rattle.durable_service.specs.declared.fault.JournalStateFault.TheVariants as states
-use Rattle.durable_service.specs.declared.fault.LineFailure.TheVariants as lines
-use Rattle.durable_service.specs.declared.fault.DurableFault.{DurableFault}
-use Rattle.durable_service.specs.declared.fault.DurableFault.TheVariants as durable
+use Rattle.state_service.specs.declared.durable.fault.JournalStateFault.TheVariants as states
+use Rattle.state_service.specs.declared.durable.fault.LineFailure.TheVariants as lines
+use Rattle.state_service.specs.declared.durable.fault.DurableFault.{DurableFault}
+use Rattle.state_service.specs.declared.durable.fault.DurableFault.TheVariants as durable
 use Rattle.state_service.specs.Beginning.{IsStateService}
 use Rattle.state_service.specs.declared.fault.StateServiceFault.{StateServiceFault}
 use Rattle.state_service.specs.declared.fault.StateServiceFault.TheVariants as service

@@ -2,8 +2,8 @@
 
 use operator_book::StateFault;
 use plant_restart::{RestartFault, RestoreFault};
-use resumed_service::BeginFault;
 use snapshot_format::Wrong;
+use state_service::BeginFault;
 use std::alloc::{AllocError, Global};
 use std::io;
 

@@ -23,4 +23,5 @@ mod state_reasons;
 mod strict;
 mod version;
 
+pub use plant_script::{Ending, behind_name, exit_code};
 pub use running::run_with_options;

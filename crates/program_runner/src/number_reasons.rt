@@ -3,7 +3,7 @@
 use crate::refusal_reasons::rest_text;
 use frame_numbers::RenumberFault;
 use plant::Plant;
-use resumed_service::NewFrameFault;
+use state_service::NewFrameFault;
 use std::alloc::{AllocError, Global};
 
 /// Returns how far apart the numbers are, less 1, under which a frame has the same Alloc Start Time. They are 2^(32 - k) apart if

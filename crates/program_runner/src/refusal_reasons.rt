@@ -7,12 +7,12 @@ use crate::shared_reasons::shared_text;
 use command_line::Word;
 use diagnostics::reason_of;
 use frame_numbers::RenumberFault;
-use live_core::{LiveCore, RestFault, ResumeFault};
 use operator_book::StateFault;
 use plant::{Op, OperatorName, Plant};
+use plant_core::{LiveCore, RestFault, ResumeFault};
 use plant_restart::{ChangeFault, RefusedState, RestartFault, refused_states};
-use resumed_service::{NewFrameFault, NewPlantFault, RefusalNotes};
 use slice_table::read_plant;
+use state_service::{NewFrameFault, NewPlantFault, RefusalNotes};
 use std::alloc::{AllocError, Global};
 use std::io::Write;
 

@@ -8,7 +8,7 @@ use crate::answering::{finish, tell};
 use crate::begin_reasons::{begin_reason, io_reason};
 use crate::refusal_reasons::RefusalReasons;
 use plant_script::plant_line;
-use resumed_service::{BeginFault, ServiceEnd, resume};
+use state_service::{BeginFault, ServiceEnd, resume};
 use std::alloc::{AllocError, Global};
 use std::io;
 use std::io::{BufRead, Write};

@@ -1,8 +1,7 @@
 //! What standard error says if a new plant file does not keep what all operators share.
 
 use plant::{Backoffs, Channel, Class, Consts, Plant};
-use plant_file_laws::plant_fields;
-use slice_table::Field;
+use slice_table::{Field, plant_fields};
 use std::alloc::{AllocError, Global};
 
 /// What a new plant file has otherwise than the plant in service, of what all operators share.

@@ -6,9 +6,9 @@ use crate::answering::{finish, tell};
 use crate::fault_count::FaultCount;
 use crate::refusal_reasons::RefusalReasons;
 use crate::resuming::{answer_io_error, refuse_to_begin};
-use live_core::RestFault;
 use plant::OperatorName;
-use resumed_service::{SnapshotEnd, snapshot_after};
+use plant_core::RestFault;
+use state_service::{SnapshotEnd, snapshot_after};
 use std::alloc::{AllocError, Global};
 use std::io::{BufRead, Write};
 

@@ -4,10 +4,9 @@ use crate::begin_reasons::{io_reason, restore_text, wrong_text};
 use crate::refusal_reasons::{change_text, refusal_texts};
 use command_line::Word;
 use diagnostics::reason_of;
-use durable_service::{DurableFault, JournalStateFault, LineFailure};
 use journal_file::{JournalOpenFault, JournalPart};
 use plant_restart::{ChangeFault, RefusedState};
-use state_service::StateServiceFault;
+use state_service::{DurableFault, JournalStateFault, LineFailure, StateServiceFault};
 use std::alloc::{AllocError, Global};
 use std::io;
 

@@ -1,4 +1,4 @@
-//! The command `check` with the option `--strict`: unknown keys are a fault of the plant file.
+//! The command `check` with the option `--strict`: what `check` warns of is a fault of the plant file.
 
 ghost use Rattle.std.specs.Prelude.{◌≡◌};
 ghost use Rattle.clap.specs.Walk.{texts};
@@ -10,35 +10,33 @@ use crate::answering::{answer_out_of_memory, finish, pass_on, tell};
 use crate::command::Command;
 use crate::recording::RecordingReader;
 use command_line::UnknownKeyHandling;
-use diagnostics::{UnknownKeysFault, fault_of_unknown_keys};
+use diagnostics::{StrictFault, strict_fault_of};
 use std::alloc::{AllocError, Global};
 use std::io::{BufRead, BufReader, Write};
 use std::sync::Wait;
 use std::thread::Threads;
 
-/// Returns the unknown keys of an input whose plant file is valid otherwise.
-fn unknown_in(
+/// Returns what is refused of an input whose plant file is valid otherwise.
+fn strict_fault_in(
     alloc: Global,
     record: Option<&[u8]>,
     status: u8,
-) -> Result<Option<UnknownKeysFault>, AllocError> {
+) -> Result<Option<StrictFault>, AllocError> {
     match (status, record) {
-        (0 | 4, Some(record)) => {
-            fault_of_unknown_keys(alloc, str::from_utf8(record).unwrap_or(""))
-        }
+        (0 | 4, Some(record)) => strict_fault_of(alloc, str::from_utf8(record).unwrap_or("")),
         (0 | 4, None) => Err(AllocError),
         _ => Ok(None),
     }
 }
 
-/// Answers that a plant file has unknown keys. Returns the status.
-fn refuse_unknown<W: Write, E: Write>(
+/// Answers that a plant file is refused. Returns the status.
+fn refuse_strictly<W: Write, E: Write>(
     alloc: Global,
-    fault: UnknownKeysFault,
+    fault: StrictFault,
     writer: &mut W,
     reasons: &mut E,
 ) -> u8 {
-    let UnknownKeysFault { first, reason } = fault;
+    let StrictFault { first, reason } = fault;
     let status = match format!(in alloc; "fault: plant 12 {first}\n") {
         Ok(line) => finish(writer, 3, line.as_bytes()),
         Err(_full) => finish(writer, 5, b"fault: memory\n"),
@@ -47,8 +45,8 @@ fn refuse_unknown<W: Write, E: Write>(
     status
 }
 
-/// Performs `check`, and answers as it does, except where the plant file is valid and has unknown keys: then that is a fault of
-/// it. Returns the status.
+/// Performs `check`, and answers as it does, except where the plant file is valid and `check` would warn of it: then that is a
+/// fault of it. Returns the status.
 pub(crate) fn check_strictly<H: Threads + Wait + Sync, R: BufRead, W: Write, E: Write>(
     command: &Command<'_, H>,
     reader: &mut R,
@@ -61,8 +59,8 @@ pub(crate) fn check_strictly<H: Threads + Wait + Sync, R: BufRead, W: Write, E: 
     };
     let (mut answer, mut message) = (Vec::new(alloc), Vec::new(alloc));
     let status = command.run(&mut recording, &mut answer, &mut message);
-    match unknown_in(alloc, recording.get_ref().record(), status) {
-        Ok(Some(fault)) => refuse_unknown(alloc, fault, writer, reasons),
+    match strict_fault_in(alloc, recording.get_ref().record(), status) {
+        Ok(Some(fault)) => refuse_strictly(alloc, fault, writer, reasons),
         Ok(None) => {
             pass_on(message.as_slice(), reasons);
             finish(writer, status, answer.as_slice())
@@ -71,7 +69,7 @@ pub(crate) fn check_strictly<H: Threads + Wait + Sync, R: BufRead, W: Write, E: 
     }
 }
 
-/// Performs a command, `run` as on a plant file, whose unknown keys are warnings or a fault. Returns the status.
+/// Performs a command, `run` as on a plant file, with warnings of the file, or with what is warned of as a fault. Returns the status.
 pub(crate) fn run_keys<H: Threads + Wait + Sync, R: BufRead, W: Write, E: Write>(
     command: &Command<'_, H>,
     reader: &mut R,

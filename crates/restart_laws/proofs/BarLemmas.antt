@@ -1,7 +1,7 @@
 -- Texts in which no line of three dashes is.
 use Rattle.std.proofs.Common.{◌≡◌, ◌≢◌, ℕ, zero, suc, ◌+◌, ◌<◌, ◌≤◌, ◌==◌, ◌&&◌, ◌||◌, Bool, true, false, cond, List, [], ◌∷◌, ◌++◌, length, take, drop, refl, sym, ap, ◌∙◌, arith, append_assoc, length-append, codes, nat_lt}
 use Rattle.restart_laws.proofs.Common.{AllByRecursion, flat_map, bytes_eq, ne_eqb, ltb-true, ltb-false, take_at, drop_at, drop_all, bytes_eq-Decides}
-use Rattle.script_format.specs.Input.{is_bar, before_bar, plant_text, script_text}
+use Rattle.line_service.specs.script.Input.{is_bar, before_bar, plant_text, script_text}
 
 abbrev pub dashes : List ℕ
 dashes = codes "---"

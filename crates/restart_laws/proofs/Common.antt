@@ -5,12 +5,12 @@ pub use Rattle.dsx_messages.specs.declared.modem.Modem.{Modem}
 pub use Rattle.flow_table.specs.Table.{committed_minislots, flow_at, flow_with, is_sid, with_flow, sfids_of, sids_of, committed_elements}
 pub use Rattle.flow_table.specs.declared.flow.Flow.{Flow}
 pub use Rattle.flow_table.specs.declared.flow.Pending.{Pending}
-pub use Rattle.live_core.proofs.BehindLemmas.{HasCore, behind}
-pub use Rattle.live_core.proofs.GoLemmas.{started_after}
-pub use Rattle.live_core.proofs.RestLemmas.{book_at_place, stands_now, rests_at}
-pub use Rattle.live_core.proofs.ResumeLemmas.{HaveOwnNames, own_state, map_is, over_map, resumed_starts}
-pub use Rattle.live_core.specs.After.{IsAfterFrom}
-pub use Rattle.live_core.specs.Resumed.{waiting_among, later_of, waiting_if, waits_from, first_from, MayResume, GoesAlong, GoTogether, slices_now, slices_next, slice_later}
+pub use Rattle.plant_core.proofs.LiveLemmas.BehindLemmas.{HasCore, behind}
+pub use Rattle.plant_core.proofs.LiveLemmas.GoLemmas.{started_after}
+pub use Rattle.plant_core.proofs.LiveLemmas.RestLemmas.{book_at_place, stands_now, rests_at}
+pub use Rattle.plant_core.proofs.LiveLemmas.ResumeLemmas.{HaveOwnNames, own_state, map_is, over_map, resumed_starts}
+pub use Rattle.plant_core.specs.live.After.{IsAfterFrom}
+pub use Rattle.plant_core.specs.live.Resumed.{waiting_among, later_of, waiting_if, waits_from, first_from, MayResume, GoesAlong, GoTogether, slices_now, slices_next, slice_later}
 pub use Rattle.map_assembly.proofs.OrderLemmas.{PairsByRecursion, pairs_from_AllPairs, pairs-map}
 pub use Rattle.map_assembly.specs.Gathering.{IsGathering, frame_slices, Gathering, slices_at, is_whole, AreQueued}
 pub use Rattle.map_assembly.specs.Part.{quota_of}
@@ -43,9 +43,9 @@ pub use Rattle.plant_restart.specs.Restarted.{IsRestarted, HasNoRow, HaveRows, n
 pub use Rattle.plant_restart.specs.Saving.{state_of_book, states_by_name, saved_book}
 pub use Rattle.restart_laws.specs.Processes.{PlantFileBegins, after_answers, IsProcess, EndsAtRest, next_service, AreProcesses, first_of_all, later_of_all, all_periods, IsBegun, ProcessesAreChanges, KeptRowsGoThroughAll, RestartsAreNotNoticed}
 pub use Rattle.restart_laws.specs.Restarting.{IsOfItsModems, StartsOfItsModems, IsReadWhole, IsFileInForce, BeginsInForce, StaysInForce, NumbersKeepModems, NumbersAreNotNoticed, IsReadyToSave, AnsweredIsReady, HaveTypedStates, ModemsGoOn, BeginsOfItsModems, StaysOfItsModems, snapshot_at, BeginsWith, SnapshotBeginsService, IsRestorable, SavedStatesAreRestored, OnlyMemoryRefuses, RestartIsChange, SnapshotIsServed, FitsTypes}
-pub use Rattle.resumed_service.specs.Beginning.{front_text, GoesOnFrom, BeginsAnew, is_snapshot_head, IsBeginning, IsSavedFile, IsPlantFile, IsRestoringFault, IsBeginFault}
-pub use Rattle.resumed_service.specs.Items.{IsRunSoFarOf, InService, ItemAnswer, IsItemAnswer, AreItemAnswers, IsFrameAnswer, first_period, later_periods, core_snapshot, IsServedFrom}
-pub use Rattle.resumed_service.specs.Resumed.{resumed_service}
+pub use Rattle.state_service.specs.resumed.Beginning.{front_text, GoesOnFrom, BeginsAnew, is_snapshot_head, IsBeginning, IsSavedFile, IsPlantFile, IsRestoringFault, IsBeginFault}
+pub use Rattle.state_service.specs.resumed.Items.{IsRunSoFarOf, InService, ItemAnswer, IsItemAnswer, AreItemAnswers, IsFrameAnswer, first_period, later_periods, core_snapshot, IsServedFrom}
+pub use Rattle.state_service.specs.resumed.Resumed.{resumed_service}
 pub use Rattle.run_model.proofs.Entries.{some_at}
 pub use Rattle.run_model.proofs.Fits.{may, have_one, lengths_of, own_all, put_so_far}
 pub use Rattle.run_model.proofs.OwnFrames.{at_place}
@@ -56,7 +56,7 @@ pub use Rattle.run_model.specs.OwnSteps.{own_steps, collects_of, reslicings_of}
 pub use Rattle.run_model.specs.Starts.{own_of, IsStart, Start}
 pub use Rattle.run_model.specs.declared.step.Out.{Out}
 pub use Rattle.run_model.specs.declared.step.Step.{Step}
-pub use Rattle.script_format.specs.Input.{is_bar, before_bar, plant_text, script_text}
+pub use Rattle.line_service.specs.script.Input.{is_bar, before_bar, plant_text, script_text}
 pub use Rattle.slice_scheduler.proofs.SumLemmas.{recursion-append}
 pub use Rattle.slice_scheduler.specs.Minislots.{Minislots}
 pub use Rattle.slice_table.specs.ReadPlant.{text_plant}

@@ -2,7 +2,7 @@
 use Rattle.std.proofs.Common.{◌≡◌, ◌≢◌, ℕ, suc, ◌≤◌, List, [], ◌∷◌, length, map, Option, Some, None, option_map, refl, sym, ap, subst, ◌∙◌, arith}
 use Rattle.restart_laws.proofs.Common.{slice_get, AllByRecursion, length-map, map-id, All-from_recursion, slice_get-map, slice_get_within, Minislots, RowFields, PlantFields, KeepsConsts, IsPlant, NextShare, OperatorState, Operator, operator, opened_state, BookView, IsSound, Reslicing, quota_of, AreQuotas, AreSlices, frame_slices, IsGathering, PairsByRecursion, pairs_from_AllPairs, pairs-map, Step, Out, own_steps, Start, CoreView, IsPlantChange, gathering_from, started_core, some_at, may, IsAfterFrom, later_of, waiting_if, waiting_among, waits_from, first_from, MayResume, GoesAlong, GoTogether, slices_now, slices_next, HaveOwnNames, own_state, map_is, over_map, resumed_starts, book_at_place, stands_now, rests_at, HasCore, behind, started_after, state_under, state_or_opened, operator_by_name, operators_by_name, start_by_name, state_of_book, states_by_name, IsRestarted, IsOfItsModems, StartsOfItsModems}
 use Rattle.plant.proofs.Kept.{keeps_itself}
-use Rattle.live_core.specs.Resting.{Rests}
+use Rattle.plant_core.specs.live.Resting.{Rests}
 use Rattle.plant_restart.specs.Changing.{IsChangeOf}
 use Rattle.plant_restart.proofs.NameLemmas.{state_there}
 use Rattle.plant_restart.proofs.ChangeLemmas.{change_of}

@@ -2,8 +2,8 @@
 use Rattle.std.proofs.Common.{◌≡◌, ◌≢◌, ℕ, zero, suc, ◌+◌, ◌==◌, Bool, true, false, cond, MatchBool, List, [], ◌∷◌, ◌++◌, length, take, drop, Ok, inl, inr, refl, sym, ap, subst, ◌∙◌, arith, codes}
 use Rattle.restart_laws.proofs.Common.{AllByRecursion, flat_map, is_utf8, ne_eqb, eqb-false, All-from_recursion, bytes_eq-Decides, parse_document, text_plant, is_bar, before_bar, plant_text, script_text, Snapshot, is_snapshot_head, front_text, BeginsAnew, GoesOnFrom, InService, ItemAnswer, IsItemAnswer, AreItemAnswers, resumed_service, IsReadWhole, IsFileInForce, BeginsInForce, StaysInForce, after_answers}
 use Rattle.std.proofs.lemmas.Bool.Decides.{nat_tests}
-use Rattle.script_format.specs.Lines.{lines_of, parts_of, parts_from}
-use Rattle.resumed_service.specs.PlantFiles.{is_dashes, file_lines, file_text}
+use Rattle.line_service.specs.script.Lines.{lines_of, parts_of, parts_from}
+use Rattle.state_service.specs.resumed.PlantFiles.{is_dashes, file_lines, file_text}
 use Rattle.restart_laws.proofs.BarLemmas.{dashes, bar, IsPassed, HasNoBreak, IsBeforeBar, none_passed, both_passed, passed_before, text_before, front_before}
 
 -- ---- lines of a plant file

@@ -4,8 +4,8 @@ use Rattle.restart_laws.proofs.Common.{parse_document, IsPlant, PlantFields, Pla
 use Rattle.run_model.specs.Periods.{ArePeriodsOf}
 use Rattle.run_model.proofs.Changes.{goes_through}
 use Rattle.run_model.proofs.PeriodLemmas.{alike}
-use Rattle.script_format.specs.Lines.{lines_of}
-use Rattle.resumed_service.proofs.PeriodLemmas.{service_changes}
+use Rattle.line_service.specs.script.Lines.{lines_of}
+use Rattle.state_service.proofs.ResumedLemmas.PeriodLemmas.{service_changes}
 use Rattle.restart_laws.proofs.PlantLemmas.{valid_plant}
 use Rattle.restart_laws.proofs.FileLemmas.{at_the_end}
 use Rattle.restart_laws.proofs.ReadyLemmas.{is_change}

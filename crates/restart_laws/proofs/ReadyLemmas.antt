@@ -10,8 +10,8 @@ use Rattle.plant_restart.specs.declared.fault.RestoreFault.TheVariants as restor
 use Rattle.plant_restart.specs.declared.fault.RestartFault.{RestartFault}
 use Rattle.plant_restart.proofs.RefusalLemmas.{memory_alone}
 use Rattle.plant_restart.proofs.SaveLemmas.{states_saved}
-use Rattle.resumed_service.specs.declared.begin_fault.BeginFault.{BeginFault}
-use Rattle.resumed_service.specs.declared.begin_fault.BeginFault.TheVariants.{NotText, InvalidSnapshot, InvalidPlant, NotRestored, NoMemory}
+use Rattle.state_service.specs.declared.resumed.begin_fault.BeginFault.{BeginFault}
+use Rattle.state_service.specs.declared.resumed.begin_fault.BeginFault.TheVariants.{NotText, InvalidSnapshot, InvalidPlant, NotRestored, NoMemory}
 use Rattle.restart_laws.proofs.BarLemmas.{bar, text_before, text_after, read_before}
 use Rattle.restart_laws.proofs.TextLemmas.{version_line, state_lines, states_before, front_before, text_parts}
 use Rattle.restart_laws.proofs.ModemLemmas.{opened_of_its_modems}

@@ -6,11 +6,11 @@ use Rattle.plant.specs.declared.plant.PlantFields.{PlantFields}
 use Rattle.run_model.specs.IsStateAfter.{CoreView}
 use Rattle.run_model.specs.Changing.{RunSoFar, AreChanges, KeepsProvisioning, periods}
 use Rattle.run_model.specs.Periods.{Period, ArePeriodsOf, steps_over, NoticesAlike}
-use Rattle.live_core.specs.Resting.{Rests}
+use Rattle.plant_core.specs.live.Resting.{Rests}
 use Rattle.snapshot_format.specs.declared.saved.Snapshot.{Snapshot}
-use Rattle.resumed_service.specs.Beginning.{front_text, lines_after, is_snapshot_head, IsBeginning}
-use Rattle.resumed_service.specs.Items.{InService, IsRunSoFarOf, ItemAnswer, IsServedFrom, first_period, later_periods, KeepNumbers}
-use Rattle.resumed_service.specs.Resumed.{resumed_service}
+use Rattle.state_service.specs.resumed.Beginning.{front_text, lines_after, is_snapshot_head, IsBeginning}
+use Rattle.state_service.specs.resumed.Items.{InService, IsRunSoFarOf, ItemAnswer, IsServedFrom, first_period, later_periods, KeepNumbers}
+use Rattle.state_service.specs.resumed.Resumed.{resumed_service}
 use Rattle.restart_laws.specs.Restarting.{IsFileInForce, snapshot_at}
 
 -- ---- processes

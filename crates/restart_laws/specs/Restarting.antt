@@ -19,19 +19,19 @@ use Rattle.operator_book.specs.Resuming.{IsListedIn}
 use Rattle.run_model.specs.IsStateAfter.{CoreView}
 use Rattle.run_model.specs.Places.{AtEachOperator}
 use Rattle.run_model.specs.Changing.{RunSoFar, state_now, IsPlantChange}
-use Rattle.live_core.specs.Resting.{Rests}
-use Rattle.script_format.specs.Input.{plant_text}
-use Rattle.script_format.specs.Lines.{lines_of}
+use Rattle.plant_core.specs.live.Resting.{Rests}
+use Rattle.line_service.specs.script.Input.{plant_text}
+use Rattle.line_service.specs.script.Lines.{lines_of}
 use Rattle.snapshot_format.specs.declared.saved.Snapshot.{Snapshot}
 use Rattle.snapshot_format.specs.States.{states_of, saved_flow}
 use Rattle.snapshot_format.specs.Saved.{IsSavedFlow, IsSavedEntry, IsSavedArrival}
 use Rattle.plant_restart.specs.Saving.{saved_book}
 use Rattle.plant_restart.specs.Restarted.{names_of, HaveRows, CanRestart}
-use Rattle.resumed_service.specs.declared.begin_fault.BeginFault.{BeginFault}
-use Rattle.resumed_service.specs.declared.begin_fault.BeginFault.TheVariants.{NoMemory}
-use Rattle.resumed_service.specs.Beginning.{front_text, lines_after, is_snapshot_head, IsBeginning, IsBeginFault}
-use Rattle.resumed_service.specs.Items.{InService, IsRunSoFarOf, ItemAnswer, core_snapshot, SnapshotIsGiven, IsSnapshotOf, IsFrameAnswer, IsItemAnswer, AreItemAnswers, IsServedFrom}
-use Rattle.resumed_service.specs.Resumed.{resumed_service, IsResumedService}
+use Rattle.state_service.specs.declared.resumed.begin_fault.BeginFault.{BeginFault}
+use Rattle.state_service.specs.declared.resumed.begin_fault.BeginFault.TheVariants.{NoMemory}
+use Rattle.state_service.specs.resumed.Beginning.{front_text, lines_after, is_snapshot_head, IsBeginning, IsBeginFault}
+use Rattle.state_service.specs.resumed.Items.{InService, IsRunSoFarOf, ItemAnswer, core_snapshot, SnapshotIsGiven, IsSnapshotOf, IsFrameAnswer, IsItemAnswer, AreItemAnswers, IsServedFrom}
+use Rattle.state_service.specs.resumed.Resumed.{resumed_service, IsResumedService}
 
 -- ---- the plant file in force
 

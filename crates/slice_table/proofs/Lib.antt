@@ -1,3 +1,4 @@
+pub mod FileKeysLemmas
 mod Common
 pub mod Trees
 pub mod EachValue

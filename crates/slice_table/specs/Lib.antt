@@ -1,3 +1,4 @@
+pub mod file_keys
 pub use Rattle.plant.specs.Name
 pub use Rattle.plant.specs.Classes
 pub use Rattle.plant.specs.Consts

@@ -1,5 +1,5 @@
 -- The keys of a plant file under which a number exists: its range, and its default where it may be left out (implementation-specific).
--- They stand here once: the reading, `Says.antt` and the laws of `plant_file_laws` use them.
+-- They stand here once: the reading, `Says.antt` and the laws in `file_keys` use them.
 use Rattle.std.specs.Prelude.{ℕ, Option, Some, None}
 use Rattle.slice_table.specs.declared.ranges.Bounds.{Bounds}
 use Rattle.slice_table.specs.declared.plant_key.Field.{Field}

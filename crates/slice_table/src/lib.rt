@@ -2,6 +2,7 @@
 #![tactic(auto)]
 
 mod checks;
+mod file_keys;
 mod fits;
 mod key_laws;
 mod laws;
@@ -16,6 +17,10 @@ mod roster;
 mod row_laws;
 mod tree;
 
+pub use file_keys::{
+    class_fields, fault_is_of_the_first_key, flow_fields, operator_fields, plant_fields,
+    read_keys_are_right, right_keys_are_read,
+};
 pub use key_laws::{default_is_said, number_is_said, policy_is_said, range_is_said, slice_is_said};
 pub use laws::{
     consts_are_said, first_again_is_named, first_is_named, least_pair_is_named, plant_is_said,

@@ -3,7 +3,7 @@ use Rattle.std.proofs.Common.{◌≡◌, ◌≢◌, ◌⊎◌, inl, inr, ⊎_eli
 use Rattle.std.specs.Prelude.{◌==◌, if◌then◌else◌}
 use Rattle.std.specs.declared.io.buffered.BufReader.{BufReader}
 use Rattle.state_service.proofs.Common.{reader_buffer, reader_capacity, reader_inner, reader_remaining, Appends, prepend_known, Appends-nil, CoreView, plant_text, script_text, WhereKnown, PlantFields, Snapshot, states_of, IsRestarted, LeavesOnly, JournalContent, journal_content, SaysState, LeadsTo, PeriodEnd, Ended, Open, AreTakenSoFar, IsServing, LeadsHere, HasLines, HasNoFewer, LosesNoLine, IsRestFrame, greeting, IsAfterPeriod, LeadsAtEnd, ServiceOrigin, IsJournalOf, IsLeftFrom, IsLeftBy, HoldsTakenLines, IsFoundIn, IsSavedWith, IsChangedTo, IsUnderFile, IsFirstCore, IsRestoredFrom, IsServiceSoFar, IsServiceOn, IsStateService, IsUnharmed, IsLeftUnder, IsLeftByService, IsLeftByOpening, IsLeftAt}
-use Rattle.script_format.specs.Lines.{parts_of}
+use Rattle.line_service.specs.script.Lines.{parts_of}
 use Rattle.state_service.proofs.ReadLemmas.{take_nil}
 use Rattle.state_service.proofs.KeepLemmas.{weaker, joined, begun_loses_none}
 use Rattle.state_service.proofs.CrashLemmas.{origin_of, under_file, none_taken}

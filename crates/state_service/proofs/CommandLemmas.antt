@@ -4,7 +4,7 @@ use Rattle.state_service.proofs.Common.{CoreView, Snapshot, states_of, IsSavedCo
 use Rattle.snapshot_format.specs.Text.{text_of_snapshot}
 use Rattle.plant_restart.specs.Saving.{saved_book, IsCoreSnapshot}
 use Rattle.plant_restart.proofs.SaveLemmas.{states_saved}
-use Rattle.resumed_service.specs.Items.{SnapshotIsGiven}
+use Rattle.state_service.specs.resumed.Items.{SnapshotIsGiven}
 
 module _ (file : List ℕ) (live : CoreView) (saved : Snapshot) (is : IsSavedCore file live saved) where
   pub core_snapshot_is : IsCoreSnapshot live file saved

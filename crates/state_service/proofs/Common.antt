@@ -1,18 +1,18 @@
 -- The names that several proofs of this crate cite, passed on from one place. Declares nothing.
-pub use Rattle.durable_service.proofs.LeadLemmas.{leads_anew, restarted_reached}
-pub use Rattle.durable_service.specs.Durable.{SaysState, LeadsTo, IsLeading, StandsForState, IsBegunWith, IsKeptState}
+pub use Rattle.state_service.proofs.DurableLemmas.LeadLemmas.{leads_anew, restarted_reached}
+pub use Rattle.state_service.specs.durable.Durable.{SaysState, LeadsTo, IsLeading, StandsForState, IsBegunWith, IsKeptState}
 pub use Rattle.line_journal.specs.Device.{LeavesOnly, Only, Elapses}
 pub use Rattle.line_journal.specs.Found.{texts}
 pub use Rattle.line_journal.specs.Journal.{JournalContent, journal_content, with_lines, fresh, IsBeforeOrAfter, IsJournalSettled}
 pub use Rattle.line_service.specs.Bytes.{WhereKnown}
-pub use Rattle.live_core.specs.LiveView.{live_view}
+pub use Rattle.plant_core.specs.live.LiveView.{live_view}
 pub use Rattle.plant.specs.declared.plant.PlantFields.{PlantFields}
 pub use Rattle.plant_restart.specs.Restarted.{IsRestarted}
-pub use Rattle.resumed_service.specs.NewFrames.{IsSavedCore, frame_text}
+pub use Rattle.state_service.specs.resumed.NewFrames.{IsSavedCore, frame_text}
 pub use Rattle.run_model.specs.IsStateAfter.{CoreView}
-pub use Rattle.script_format.proofs.Outcomes.{if_ok}
-pub use Rattle.script_format.specs.Input.{plant_text, script_text}
-pub use Rattle.script_format.specs.Lines.{lines_of, parts_from}
+pub use Rattle.line_service.proofs.ScriptLemmas.Outcomes.{if_ok}
+pub use Rattle.line_service.specs.script.Input.{plant_text, script_text}
+pub use Rattle.line_service.specs.script.Lines.{lines_of, parts_from}
 pub use Rattle.snapshot_format.specs.States.{states_of}
 pub use Rattle.snapshot_format.specs.declared.saved.Snapshot.{Snapshot}
 pub use Rattle.state_service.specs.Beginning.{IsFoundIn, IsSavedWith, IsChangedTo, IsUnderFile, IsFirstCore, IsRestoredFrom, IsServiceSoFar, IsServiceOn, IsStateService, IsUnharmed, IsLeftUnder, IsLeftByService, IsLeftByOpening, IsLeftAt, IsServedUpTo}

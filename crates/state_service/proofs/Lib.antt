@@ -1,3 +1,5 @@
+pub mod ResumedLemmas
+pub mod DurableLemmas
 mod Common
 pub mod ReadLemmas
 pub mod CommandLemmas

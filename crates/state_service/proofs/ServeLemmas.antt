@@ -1,7 +1,7 @@
 -- Lines that are done, one batch after the other, and commands.
 use Rattle.std.proofs.Common.{◌≡◌, ℕ, ◌+◌, List, [], ◌∷◌, ◌++◌, length, Option, Some, None, inl, inr, ⊎_elim, refl, ap, subst, sym, ◌∙◌, arith, append-nil, length-append}
 use Rattle.state_service.proofs.Common.{Appends, Appends-trans, CoreView, WhereKnown, states_of, IsRestarted, IsKeptState, frame_text, DueState, BatchEnd, AreNoCommands, IsRefusedCommand, IsCommandRefusedFor, IsSnapshotDue, IsNumberDue, IsCommandDue, AreTakenSoFar, IsAfterBatch, Event, lines_done, text_told, LeadOn, AreDoneNext, IsServing, IsAtLine, GoesOnFromState, GoesOnUnderNumber, IsAfterLines, GoesOnAfterSave}
-use Rattle.resumed_service.proofs.ServedLemmas.{known_map}
+use Rattle.state_service.proofs.ResumedLemmas.ServedLemmas.{known_map}
 use Rattle.state_service.specs.declared.reading.BatchEnd.TheVariants.{Open, Command, Ended}
 use Rattle.state_service.specs.declared.performing.CommandRefusal.{CommandRefusal}
 use Rattle.state_service.specs.declared.performing.CommandRefusal.TheVariants.{NoSnapshot, NoNumber}

@@ -5,8 +5,8 @@ use Rattle.slice_table.specs.ReadPlant.{text_plant}
 use Rattle.state_service.proofs.Common.{PlantFields, CoreView, plant_text, JournalContent, LeadsHere, IsFoundIn, IsSavedWith, IsDiskFault, IsServingFault, IsFaultOfChange, IsStartRefused, IsStartFault, IsJournalFault, IsRefusedAt, IsServiceFault}
 use Rattle.plant_restart.specs.declared.fault.ChangeFault.{ChangeFault}
 use Rattle.plant_restart.specs.declared.refusing.RefusedState.{RefusedState}
-use Rattle.durable_service.specs.declared.fault.DurableFault.{DurableFault}
-use Rattle.durable_service.specs.declared.fault.DurableFault.TheVariants as durable
+use Rattle.state_service.specs.declared.durable.fault.DurableFault.{DurableFault}
+use Rattle.state_service.specs.declared.durable.fault.DurableFault.TheVariants as durable
 use Rattle.state_service.specs.declared.fault.StateServiceFault.{StateServiceFault}
 use Rattle.state_service.specs.declared.fault.StateServiceFault.TheVariants.{NotText, InvalidPlant, Journal, NotRestored, NotChanged, Stream, NoMemory}
 

@@ -11,7 +11,7 @@ use Rattle.plant_restart.specs.Restarted.{IsRestarted}
 use Rattle.plant_restart.specs.Changing.{IsChangeOf}
 use Rattle.line_service.specs.Bytes.{WhereKnown}
 use Rattle.line_journal.specs.Journal.{JournalContent, journal_content}
-use Rattle.durable_service.specs.Durable.{IsBegunWith, StandsForState}
+use Rattle.state_service.specs.durable.Durable.{IsBegunWith, StandsForState}
 use Rattle.state_service.specs.declared.period_end.PeriodEnd.{PeriodEnd}
 use Rattle.state_service.specs.declared.period_end.PeriodEnd.TheVariants.{Ended}
 use Rattle.state_service.specs.Serving.{LeadsHere, LosesNoLine, IsRestFrame, greeting}

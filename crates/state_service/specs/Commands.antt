@@ -2,13 +2,13 @@
 use Rattle.std.specs.Prelude.{◌≡◌, ◌≢◌, ◌⊎◌, ◌||◌, ℕ, List, Bool, true, false}
 use Rattle.std.specs.List.{AllByRecursion}
 use Rattle.run_model.specs.IsStateAfter.{CoreView}
-use Rattle.live_core.specs.Resting.{Rests}
+use Rattle.plant_core.specs.live.Resting.{Rests}
 use Rattle.snapshot_format.specs.declared.saved.Snapshot.{Snapshot}
-use Rattle.durable_service.specs.Durable.{IsKeptSnapshot, IsKeptState}
-use Rattle.resumed_service.specs.declared.new_frame_fault.NewFrameFault.{NewFrameFault}
-use Rattle.resumed_service.specs.declared.new_frame_fault.NewFrameFault.TheVariants as faults
-use Rattle.resumed_service.specs.Items.{asks_snapshot, SnapshotIsGiven}
-use Rattle.resumed_service.specs.NewFrames.{asks_frame, NamesFrame, IsCoreRenumbered, IsNewFrameFault, frame_text}
+use Rattle.state_service.specs.durable.Durable.{IsKeptSnapshot, IsKeptState}
+use Rattle.state_service.specs.declared.resumed.new_frame_fault.NewFrameFault.{NewFrameFault}
+use Rattle.state_service.specs.declared.resumed.new_frame_fault.NewFrameFault.TheVariants as faults
+use Rattle.state_service.specs.resumed.Items.{asks_snapshot, SnapshotIsGiven}
+use Rattle.state_service.specs.resumed.NewFrames.{asks_frame, NamesFrame, IsCoreRenumbered, IsNewFrameFault, frame_text}
 use Rattle.state_service.specs.declared.period_end.DueState.{DueState}
 use Rattle.state_service.specs.declared.performing.CommandRefusal.{CommandRefusal}
 use Rattle.state_service.specs.declared.performing.CommandRefusal.TheVariants.{NoSnapshot, NoNumber}

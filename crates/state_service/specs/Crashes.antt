@@ -2,10 +2,10 @@
 use Rattle.std.specs.Prelude.{◌≡◌, ◌⊎◌, ℕ, ◌+◌, List, [], ◌++◌, length, map, Option, Some, None, IfSome}
 use Rattle.plant.specs.declared.plant.PlantFields.{PlantFields}
 use Rattle.run_model.specs.IsStateAfter.{CoreView}
-use Rattle.script_format.specs.Lines.{lines_of}
+use Rattle.line_service.specs.script.Lines.{lines_of}
 use Rattle.line_service.specs.Bytes.{WhereKnown}
 use Rattle.line_journal.specs.Journal.{JournalContent}
-use Rattle.durable_service.specs.Durable.{LeadsTo}
+use Rattle.state_service.specs.durable.Durable.{LeadsTo}
 use Rattle.state_service.specs.declared.reading.BatchEnd.{BatchEnd}
 use Rattle.state_service.specs.declared.reading.BatchEnd.TheVariants.{Open}
 use Rattle.state_service.specs.declared.period_end.PeriodEnd.{PeriodEnd}

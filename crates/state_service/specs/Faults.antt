@@ -4,16 +4,16 @@ use Rattle.toml.specs.Parse.{parse_document}
 use Rattle.slice_table.specs.ReadPlant.{text_plant}
 use Rattle.plant.specs.declared.plant.PlantFields.{PlantFields}
 use Rattle.run_model.specs.IsStateAfter.{CoreView}
-use Rattle.live_core.specs.Resting.{Rests}
-use Rattle.script_format.specs.Input.{plant_text}
+use Rattle.plant_core.specs.live.Resting.{Rests}
+use Rattle.line_service.specs.script.Input.{plant_text}
 use Rattle.plant_restart.specs.Changing.{IsChangeFault}
 use Rattle.plant_restart.specs.declared.fault.ChangeFault.{ChangeFault}
 use Rattle.plant_restart.specs.declared.refusing.RefusedState.{RefusedState}
 use Rattle.plant_restart.specs.Refused.{refused_states}
 use Rattle.plant_restart.specs.Saving.{states_by_name}
 use Rattle.line_journal.specs.Journal.{JournalContent, journal_content}
-use Rattle.durable_service.specs.declared.fault.DurableFault.{DurableFault}
-use Rattle.durable_service.specs.declared.fault.DurableFault.TheVariants as durable
+use Rattle.state_service.specs.declared.durable.fault.DurableFault.{DurableFault}
+use Rattle.state_service.specs.declared.durable.fault.DurableFault.TheVariants as durable
 use Rattle.state_service.specs.declared.fault.StateServiceFault.{StateServiceFault}
 use Rattle.state_service.specs.declared.fault.StateServiceFault.TheVariants.{NotText, InvalidPlant, Journal, NotRestored, NotChanged, Stream, NoMemory}
 use Rattle.state_service.specs.Serving.{LeadsHere}

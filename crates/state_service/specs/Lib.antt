@@ -1,3 +1,5 @@
+pub mod resumed
+pub mod durable
 pub mod Commands
 pub mod Taking
 pub mod Serving

@@ -5,8 +5,8 @@ use Rattle.run_model.specs.IsStateAfter.{CoreView}
 use Rattle.snapshot_format.specs.States.{states_of}
 use Rattle.plant_restart.specs.Restarted.{IsRestarted}
 use Rattle.line_journal.specs.Journal.{JournalContent}
-use Rattle.durable_service.specs.declared.saving.KeptState.{KeptState}
-use Rattle.durable_service.specs.Durable.{SaysState, IsKeptState}
+use Rattle.state_service.specs.declared.durable.saving.KeptState.{KeptState}
+use Rattle.state_service.specs.durable.Durable.{SaysState, IsKeptState}
 use Rattle.state_service.specs.declared.period_end.DueState.{DueState}
 use Rattle.state_service.specs.declared.reading.BatchEnd.{BatchEnd}
 use Rattle.state_service.specs.declared.reading.BatchEnd.TheVariants as batch

@@ -4,15 +4,15 @@ use Rattle.std.specs.Fmt.{decimal}
 use Rattle.std.specs.Io.KnownBytes.{Appends}
 use Rattle.plant.specs.declared.plant.PlantFields.{PlantFields}
 use Rattle.run_model.specs.IsStateAfter.{CoreView}
-use Rattle.live_core.specs.After.{BehindEachRun}
-use Rattle.live_core.specs.Resting.{Rests}
+use Rattle.plant_core.specs.live.After.{BehindEachRun}
+use Rattle.plant_core.specs.live.Resting.{Rests}
 use Rattle.snapshot_format.specs.declared.saved.Snapshot.{Snapshot}
 use Rattle.snapshot_format.specs.States.{states_of}
 use Rattle.plant_restart.specs.Restarted.{IsRestarted}
 use Rattle.line_journal.specs.Journal.{JournalContent}
-use Rattle.durable_service.specs.Durable.{AreLinesDone, IsKeptSnapshot, IsKeptState, IsLeading, StandsForState}
-use Rattle.resumed_service.specs.Items.{asks_snapshot, SnapshotIsGiven}
-use Rattle.resumed_service.specs.NewFrames.{asks_frame, NamesFrame, IsCoreRenumbered, frame_text}
+use Rattle.state_service.specs.durable.Durable.{AreLinesDone, IsKeptSnapshot, IsKeptState, IsLeading, StandsForState}
+use Rattle.state_service.specs.resumed.Items.{asks_snapshot, SnapshotIsGiven}
+use Rattle.state_service.specs.resumed.NewFrames.{asks_frame, NamesFrame, IsCoreRenumbered, frame_text}
 use Rattle.state_service.specs.Commands.{AreNoCommands, IsRefusedCommand}
 use Rattle.state_service.specs.Taking.{AreTakenSoFar, AreAllTaken}
 

@@ -1,7 +1,7 @@
 -- Lines that are taken of an input, to be put in a journal (implementation-specific).
 use Rattle.std.specs.Prelude.{◌≡◌, ◌⊎◌, ⊤, ℕ, List, [], ◌∷◌, ◌++◌, map, take, true, Option, Some, None, Vec}
 use Rattle.std.specs.declared.alloc.Global.{Global}
-use Rattle.script_format.specs.Lines.{lines_of, parts_from}
+use Rattle.line_service.specs.script.Lines.{lines_of, parts_from}
 use Rattle.state_service.specs.declared.reading.BatchEnd.{BatchEnd}
 use Rattle.state_service.specs.declared.reading.BatchEnd.TheVariants.{Open, Command, Ended}
 use Rattle.state_service.specs.Commands.{is_command}

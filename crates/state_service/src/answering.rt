@@ -2,8 +2,8 @@
 
 ghost use Rattle.std.specs.Prelude.{◌≡◌, ◌≤◌, ◌+◌, true, ℕ, List, Option, length, IfOk, IfErr, OnOk};
 ghost use Rattle.std.specs.Io.KnownBytes.{Appends};
-ghost use Rattle.live_core.specs.After.{IsReachableFromStart};
-ghost use Rattle.live_core.specs.LiveView.{live_view};
+ghost use Rattle.plant_core.specs.live.After.{IsReachableFromStart};
+ghost use Rattle.plant_core.specs.live.LiveView.{live_view};
 ghost use Rattle.run_model.specs.IsStateAfter.{CoreView};
 ghost use Rattle.line_service.specs.Bytes.{WhereKnown};
 ghost use Rattle.line_journal.specs.Device.{LeavesOnly};
@@ -16,13 +16,13 @@ ghost use Rattle.state_service.specs.Periods.{IsInPeriod, SaysAtEndIfAny, LeadsU
 ghost use Rattle.state_service.specs.Crashes.{ServiceOrigin, IsJournalOf, IsJournalInPeriod, IsLeftFrom};
 ghost use Rattle.state_service.specs.Faults.{IsServingFault};
 
+use crate::durable::{DurableState, LineFailure, do_batch};
 use crate::fault::StateServiceFault;
 use crate::performing::{CommandOutcome, CommandRefusal, command_outcome};
 use crate::period_end::PeriodEnd;
-use durable_service::{DurableState, LineFailure, do_batch};
+use crate::resumed::RefusalNotes;
 use line_journal::{Device, Journal};
-use live_core::LiveCore;
-use resumed_service::RefusalNotes;
+use plant_core::LiveCore;
 use std::alloc::Global;
 use std::io::Write;
 

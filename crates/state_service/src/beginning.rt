@@ -2,22 +2,22 @@
 
 ghost use Rattle.std.specs.Prelude.{◌≡◌, ◌≤◌, Ok, Some, IfOk, IfErr, OnOk, IfSome};
 ghost use Rattle.toml.specs.Parse.{parse_document};
-ghost use Rattle.script_format.specs.Input.{plant_text, script_text};
+ghost use Rattle.line_service.specs.script.Input.{plant_text, script_text};
 ghost use Rattle.slice_table.specs.ReadPlant.{text_plant};
 ghost use Rattle.line_journal.specs.Device.{Only, LeavesOnly};
 ghost use Rattle.line_journal.specs.Found.{texts};
 ghost use Rattle.line_journal.specs.Journal.{journal_content, IsJournalSettled};
-ghost use Rattle.durable_service.specs.Durable.{StandsForState};
+ghost use Rattle.state_service.specs.durable.Durable.{StandsForState};
 ghost use Rattle.state_service.specs.Faults.{IsGivenFault, IsJournalFault, IsServiceFault};
 ghost use Rattle.state_service.specs.Beginning.{IsFoundIn, IsStateService, IsUnharmed, IsLeftByOpening, IsLeftAt};
 
+use crate::durable::{DurableFault, SavedState, begin_state, read_state};
 use crate::fault::StateServiceFault;
+use crate::resumed::RefusalNotes;
 use crate::serving::serve_restored;
 use crate::starting::GivenPlant;
-use durable_service::{DurableFault, SavedState, begin_state, read_state};
 use line_journal::{Device, Journal};
 use line_service::read_plant_text;
-use resumed_service::RefusalNotes;
 use slice_table::{PlantFault, read_plant};
 use std::alloc::Global;
 use std::io::{BufReader, Read, Write};

@@ -1,8 +1,8 @@
 //! Which lines are commands.
 
 ghost use Rattle.std.specs.Prelude.{◌≡◌};
-ghost use Rattle.resumed_service.specs.Items.{asks_snapshot};
-ghost use Rattle.resumed_service.specs.NewFrames.{asks_frame};
+ghost use Rattle.state_service.specs.resumed.Items.{asks_snapshot};
+ghost use Rattle.state_service.specs.resumed.NewFrames.{asks_frame};
 ghost use Rattle.state_service.specs.Commands.{is_command};
 
 /// The most bytes of a line.

@@ -1,10 +1,10 @@
 //! Why a service with a journal does not begin, or ends before its input does.
 
 ghost use Rattle.std.specs.Prelude.{◌≡◌};
-ghost use Rattle.durable_service.specs.declared.fault.DurableFault.TheVariants as durable;
+ghost use Rattle.state_service.specs.declared.durable.fault.DurableFault.TheVariants as durable;
 ghost use Rattle.state_service.specs.declared.fault.StateServiceFault.TheVariants as faults;
 
-use durable_service::{DurableFault, JournalStateFault, LineFailure};
+use crate::durable::{DurableFault, JournalStateFault, LineFailure};
 use plant_restart::{ChangeFault, RefusedState, RestoreFault};
 use slice_table::PlantFault;
 use std::alloc::{AllocError, AllocFailed};

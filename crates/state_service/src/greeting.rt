@@ -2,11 +2,11 @@
 
 ghost use Rattle.std.specs.Prelude.{◌+◌, OnOk};
 ghost use Rattle.std.specs.Io.KnownBytes.{Appends};
-ghost use Rattle.live_core.specs.LiveView.{live_view};
+ghost use Rattle.plant_core.specs.live.LiveView.{live_view};
 ghost use Rattle.state_service.specs.Serving.{IsRestFrame, greeting};
 
 use line_service::next_number;
-use live_core::LiveCore;
+use plant_core::LiveCore;
 use std::io;
 use std::io::Write;
 

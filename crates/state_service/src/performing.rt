@@ -1,19 +1,19 @@
 //! What a command results in: a state that is to be saved with an answer, or a refusal.
 
 ghost use Rattle.std.specs.Prelude.{◌≡◌, true, IfOk, IfErr};
-ghost use Rattle.live_core.specs.LiveView.{live_view};
+ghost use Rattle.plant_core.specs.live.LiveView.{live_view};
 ghost use Rattle.snapshot_format.specs.Text.{text_of_snapshot};
-ghost use Rattle.resumed_service.specs.Items.{asks_snapshot};
-ghost use Rattle.resumed_service.specs.NewFrames.{asks_frame, frame_text};
+ghost use Rattle.state_service.specs.resumed.Items.{asks_snapshot};
+ghost use Rattle.state_service.specs.resumed.NewFrames.{asks_frame, frame_text};
 ghost use Rattle.state_service.specs.Commands.{is_command, IsOutcomeOf};
 ghost use Rattle.state_service.specs.Faults.{IsServingFault};
 
 use crate::commands::asks_snapshot;
+use crate::durable::{DurableState, snapshot_to_keep};
 use crate::fault::StateServiceFault;
 use crate::period_end::DueState;
-use durable_service::{DurableState, snapshot_to_keep};
+use crate::resumed::{NewFrameFault, renumbered_core, saved_core};
 use plant_restart::SaveFault;
-use resumed_service::{NewFrameFault, renumbered_core, saved_core};
 use snapshot_format::{Snapshot, write_snapshot};
 use std::alloc::{AllocError, Global};
 

@@ -1,6 +1,6 @@
 //! How lines end that were done one batch after the other.
 
-use durable_service::KeptState;
+use crate::durable::KeptState;
 
 /// Holds a state that is to be saved, and the answer that is to be written then.
 #[derive(Drop)]

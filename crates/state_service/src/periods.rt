@@ -1,8 +1,8 @@
 //! Lines that are done up to a moment when the state is saved.
 
 ghost use Rattle.std.specs.Prelude.{◌≡◌, ◌≤◌, ℕ, List, Option, IfOk, IfErr, OnOk};
-ghost use Rattle.live_core.specs.After.{IsReachableFromStart};
-ghost use Rattle.live_core.specs.LiveView.{live_view};
+ghost use Rattle.plant_core.specs.live.After.{IsReachableFromStart};
+ghost use Rattle.plant_core.specs.live.LiveView.{live_view};
 ghost use Rattle.run_model.specs.IsStateAfter.{CoreView};
 ghost use Rattle.line_service.specs.Bytes.{WhereKnown};
 ghost use Rattle.line_journal.specs.Device.{LeavesOnly};
@@ -15,12 +15,12 @@ ghost use Rattle.state_service.specs.Crashes.{ServiceOrigin, IsJournalOf, IsJour
 ghost use Rattle.state_service.specs.Faults.{IsServingFault};
 
 use crate::answering::{answer_lines, serve_command};
+use crate::durable::{DurableState, JournalStateFault, KeptState, state_to_keep};
 use crate::fault::StateServiceFault;
 use crate::period_end::{DueState, PeriodEnd};
 use crate::reading::{BatchEnd, LineBatch, read_batch};
-use durable_service::{DurableState, JournalStateFault, KeptState, state_to_keep};
+use crate::resumed::RefusalNotes;
 use line_journal::{Device, Journal};
-use resumed_service::RefusalNotes;
 use std::alloc::Global;
 use std::io;
 use std::io::{BufRead, Write};

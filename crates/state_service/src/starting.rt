@@ -3,8 +3,8 @@
 ghost use Rattle.std.specs.Prelude.{◌≡◌, ◌≢◌, ◌≤◌, ◌+◌, [], Ok, ℕ, List, Option, length, IfOk, IfErr, OnOk};
 ghost use Rattle.toml.specs.Parse.{parse_document};
 ghost use Rattle.slice_table.specs.ReadPlant.{text_plant};
-ghost use Rattle.live_core.specs.After.{IsReachableFromStart};
-ghost use Rattle.live_core.specs.LiveView.{live_view};
+ghost use Rattle.plant_core.specs.live.After.{IsReachableFromStart};
+ghost use Rattle.plant_core.specs.live.LiveView.{live_view};
 ghost use Rattle.line_service.specs.Bytes.{WhereKnown};
 ghost use Rattle.line_journal.specs.Device.{LeavesOnly};
 ghost use Rattle.line_journal.specs.Found.{texts};
@@ -14,15 +14,15 @@ ghost use Rattle.state_service.specs.Faults.{IsFaultOfChange, IsStartFault};
 ghost use Rattle.state_service.specs.Periods.{SaysAtEnd, LeadsAtEnd};
 ghost use Rattle.state_service.specs.Serving.{LeadsHere, HasNoFewer};
 
+use crate::durable::{DurableState, redo_lines, state_to_keep};
 use crate::fault::StateServiceFault;
 use crate::greeting::{resting_frame, write_greeting};
 use crate::period_end::{DueState, PeriodEnd};
 use crate::periods::serve_period;
-use durable_service::{DurableState, redo_lines, state_to_keep};
+use crate::resumed::RefusalNotes;
 use line_journal::{Device, Journal};
 use plant::Plant;
 use plant_restart::{change, refused_states};
-use resumed_service::RefusalNotes;
 use std::alloc::Global;
 use std::io::{BufRead, Write};
 use tlv24::Bytes;

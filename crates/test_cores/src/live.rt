@@ -1,8 +1,8 @@
 //! Frames that pile up in a core with no history, since nothing collects them.
 
-use live_core::{CoreFault, LiveCore};
 use operator_book::Output;
 use plant::Op;
+use plant_core::{CoreFault, LiveCore};
 use run_model::{Out, Step};
 use slice_table::read_plant;
 use std::alloc::{AllocError, Global};

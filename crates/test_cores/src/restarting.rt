@@ -2,9 +2,9 @@
 
 use crate::fixtures::{ADDITION, MODEM_OF_A, REPLY};
 use crate::step_calls::{StepCall, step_of};
-use live_core::{LiveCore, RestFault, ResumeFault};
 use operator_book::{Output, StateFault};
 use plant::{Op, OperatorName};
+use plant_core::{LiveCore, RestFault, ResumeFault};
 use plant_restart::{ChangeFault, RestartFault, RestoreFault, SaveFault, change, restore, save};
 use run_model::Out;
 use slice_table::read_plant;

@@ -1,14 +1,14 @@
 //! Cores of operators that are at work already: each goes on in its state, or the reason why they are not resumed as one core.
 
 ghost use Rattle.std.specs.Prelude.{◌≡◌, Some, slice_get, IfSome};
-ghost use Rattle.live_core.specs.LiveOperator.{row_of, Shares};
+ghost use Rattle.plant_core.specs.live.LiveOperator.{row_of, Shares};
 
 use crate::fixtures::{ADDITION, MODEM_OF_A, REPLY, heard_message};
 use crate::step_calls::{StepCall, step_of};
 use crate::steps::HALF;
-use live_core::{CoreFault, LiveCore, ResliceFault, RestFault, ResumeFault};
 use operator_book::{Action, Machine, Output, SliceRow};
 use plant::{Op, Plant};
+use plant_core::{CoreFault, LiveCore, ResliceFault, RestFault, ResumeFault};
 use run_model::Out;
 use slice_table::read_plant;
 use std::alloc::{AllocError, Global};

@@ -5,7 +5,7 @@ use crate::opening::{book_of, strict};
 use grant_policy::Ranking;
 use map_assembly::MapBytes;
 use operator_book::{Action, Book, Output, Outputs};
-use run_receipts::{Callers, Receipt, Receipts, RunFault, settle};
+use plant_workers::{Callers, Receipt, Receipts, RunFault, settle};
 use std::alloc::{AllocError, Global};
 use std::process::Abort;
 use tlv24::Bytes;

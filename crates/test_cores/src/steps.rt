@@ -3,10 +3,9 @@
 use crate::fixtures::{ExpectedOutput, MODEM_OF_A, REPLY, UNKNOWN_MODEM, is_output};
 use crate::opening::{core, strict};
 use crate::step_calls::{StepCall, step_of};
-use live_core::{CoreFault, ResliceFault};
 use operator_book::SliceRow;
 use plant::Op;
-use plant_core::{CoreOpenFault, PlantCore};
+use plant_core::{CoreFault, CoreOpenFault, PlantCore, ResliceFault};
 use run_model::Out;
 use slice_table::read_plant;
 use std::alloc::{AllocError, Global};

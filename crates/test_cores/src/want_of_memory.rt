@@ -8,10 +8,9 @@ use crate::opening::{core, strict};
 use crate::runs::{ALL_KINDS, are_of_all_kinds, history_len};
 use crate::settling::{Note, both_books, fault_of_settling};
 use crate::step_calls::steps_of;
-use live_core::CoreFault;
-use plant_core::{PlantCore, RunStop};
+use plant_core::{CoreFault, PlantCore, RunStop};
+use plant_workers::RunFault;
 use run_model::{Out, Step};
-use run_receipts::RunFault;
 use std::alloc::{AllocError, Global};
 use std::process::Abort;
 

@@ -1,12 +1,12 @@
 //! Services that go on from a journal.
 
-use durable_service::DurableFault;
 use line_journal::{Journal, Memory};
-use live_core::LiveCore;
 use plant::Plant;
+use plant_core::LiveCore;
 use plant_restart::{ChangeFault, RestartFault};
-use resumed_service::{NewFrameFault, NewPlantFault, RefusalNotes};
-use state_service::{StateServiceFault, serve_state};
+use state_service::{
+    DurableFault, NewFrameFault, NewPlantFault, RefusalNotes, StateServiceFault, serve_state,
+};
 use std::alloc::{AllocError, Global};
 use std::test::Fail;
 use test_plants::{PLANT, replace_first};

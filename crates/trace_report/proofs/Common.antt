@@ -7,8 +7,8 @@ pub use Rattle.plant_core.specs.CoreView.{core_view}
 pub use Rattle.run_model.specs.IsStateAfter.{CoreView, IsStateAfter}
 pub use Rattle.run_model.specs.declared.step.Out.{Out}
 pub use Rattle.run_model.specs.declared.step.Step.{Step}
-pub use Rattle.script_format.specs.Script.{steps_without_numbers}
-pub use Rattle.script_format.specs.declared.script.LineStep.{LineStep}
+pub use Rattle.line_service.specs.script.Script.{steps_without_numbers}
+pub use Rattle.line_service.specs.declared.script.script.LineStep.{LineStep}
 pub use Rattle.std.proofs.KnownBytes.{Appends-nil, Appends-trans}
 pub use Rattle.std.proofs.lemmas.List.{take_all, map-append, nil_from_length}
 pub use Rattle.std.proofs.lemmas.Option.{slice_get-map, slice_get_within}

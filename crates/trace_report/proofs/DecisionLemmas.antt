@@ -5,7 +5,7 @@ use Rattle.std.specs.declared.alloc.AllocError.{AllocError}
 use Rattle.operator_model.specs.Replay.{BookView}
 use Rattle.operator_model.specs.State.{Operator, operator}
 use Rattle.run_model.specs.declared.step.Step.TheVariants as steps
-use Rattle.live_core.specs.Performing.{forgotten, IsOf}
+use Rattle.plant_core.specs.live.Performing.{forgotten, IsOf}
 use Rattle.trace_report.specs.declared.seen.StepReport.{StepReport}
 
 -- ---- a step

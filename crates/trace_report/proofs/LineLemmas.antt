@@ -3,7 +3,7 @@ use Rattle.std.proofs.Common.{◌≡◌, ℕ, zero, suc, ◌+◌, ◌<◌, ◌�
 use Rattle.trace_report.proofs.Common.{take_all, slice_index, slice_index_or, HasNoBreak, line_at, IsRestAfter}
 use Rattle.memchr.specs.Find.{Nowhere, NoneBefore, Passes, is_byte}
 use Rattle.std.proofs.lemmas.Bool.{false_from_ne_true, eqb-true}
-use Rattle.script_format.specs.Lines.{parts_from, parts_of, lines_of}
+use Rattle.line_service.specs.script.Lines.{parts_from, parts_of, lines_of}
 
 -- what stands before the first line feed has none
 pub no_break_before : (text : List ℕ) (place : ℕ) → Nowhere (Passes (is_byte 10) text) 0 place → HasNoBreak (take place text)

@@ -1,8 +1,8 @@
 -- The steps of a script, one after the other.
 use Rattle.std.proofs.Common.{◌≡◌, inl, inr, true, false, ℕ, zero, suc, List, [], ◌∷◌, ◌++◌, take, max, Option, Some, None, Err, refl, sym, ap, subst, ◌∙◌, append_assoc}
 use Rattle.trace_report.proofs.Common.{slice_get, Appends-nil, Appends-trans, map-append, PlantFields, Step, Out, CoreView, IsStateAfter, LineStep, steps_without_numbers, Decision, IsDecision, quote_after, no_words_line, AreDecided, IsTraceText, last_quoted, IsReportText, HasNoWords, HasTraced, HasQuoted, HasToldStep, first_left, none_left, take_next, drop_next, ends_at}
-use Rattle.live_core.specs.declared.core_fault.CoreFault.{CoreFault}
-use Rattle.live_core.specs.Faults.{step_fault, IsReported}
+use Rattle.plant_core.specs.declared.live.core_fault.CoreFault.{CoreFault}
+use Rattle.plant_core.specs.live.Faults.{step_fault, IsReported}
 use Rattle.line_service.specs.declared.steps_end.StepsEnd.{StepsEnd}
 use Rattle.line_service.specs.declared.steps_end.StepsEnd.TheVariants as ends
 use Rattle.line_service.specs.Ends.{steps_end}

@@ -12,10 +12,10 @@ use Rattle.operator_model.specs.Replay.{BookView}
 use Rattle.operator_model.specs.State.{Operator, operator}
 use Rattle.operator_model.specs.Verdict.{verdict}
 use Rattle.lists.specs.First.{IsFirst}
-use Rattle.check_table.specs.Said.{said_by}
-use Rattle.check_table.specs.Table.{IsDecidedBy}
-use Rattle.check_table.specs.Messages.{Reading, HoldsOf, message_table}
-use Rattle.check_table.specs.declared.check.MessageCheck.TheVariants.{Judged}
+use Rattle.trace_report.specs.table.Said.{said_by}
+use Rattle.trace_report.specs.table.Table.{IsDecidedBy}
+use Rattle.trace_report.specs.table.Messages.{Reading, HoldsOf, message_table}
+use Rattle.trace_report.specs.declared.table.check.MessageCheck.TheVariants.{Judged}
 use Rattle.run_model.specs.declared.step.Step.{Step}
 use Rattle.run_model.specs.declared.step.Step.TheVariants as steps
 use Rattle.run_model.specs.IsStateAfter.{CoreView}

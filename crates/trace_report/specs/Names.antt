@@ -1,9 +1,9 @@
 -- The names of checks in a trace (implementation-specific).
 use Rattle.std.specs.Prelude.{ℕ, List, codes}
-use Rattle.check_table.specs.declared.check.Check.{Check}
-use Rattle.check_table.specs.declared.check.Check.TheVariants as checks
-use Rattle.check_table.specs.declared.check.MessageCheck.{MessageCheck}
-use Rattle.check_table.specs.declared.check.MessageCheck.TheVariants as message_checks
+use Rattle.trace_report.specs.declared.table.check.Check.{Check}
+use Rattle.trace_report.specs.declared.table.check.Check.TheVariants as checks
+use Rattle.trace_report.specs.declared.table.check.MessageCheck.{MessageCheck}
+use Rattle.trace_report.specs.declared.table.check.MessageCheck.TheVariants as message_checks
 use Rattle.trace_report.specs.declared.decision.Decision.{Decision}
 use Rattle.trace_report.specs.declared.decision.Decision.TheVariants as decisions
 

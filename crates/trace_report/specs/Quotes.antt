@@ -1,7 +1,7 @@
 -- The lines of a script that a trace quotes (implementation-specific).
 use Rattle.std.specs.Prelude.{◌≡◌, ℕ, ◌+◌, ◌-◌, nat_lt, List, [], ◌∷◌, ◌++◌, slice_index_or, if◌then◌else◌, codes}
 use Rattle.std.specs.Fmt.{decimal}
-use Rattle.script_format.specs.Lines.{lines_of}
+use Rattle.line_service.specs.script.Lines.{lines_of}
 
 -- the line at this place of a text, counted from 0; empty past the last one
 abbrev pub line_at : List ℕ → ℕ → List ℕ

@@ -1,7 +1,7 @@
 -- What is in a trace besides the lines of checks, and how a reader finds those (implementation-specific).
 use Rattle.std.specs.Prelude.{◌≡◌, ◌==◌, ◌≢◌, ℕ, Bool, false, List, [], ◌∷◌, ◌++◌, codes, filter, map}
 use Rattle.std.specs.List.{flat_map, starts_with, AllByRecursion}
-use Rattle.script_format.specs.Lines.{lines_of}
+use Rattle.line_service.specs.script.Lines.{lines_of}
 use Rattle.line_service.specs.Front.{HasNoBreak}
 
 -- a line that begins as that of a check does

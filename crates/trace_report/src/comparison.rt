@@ -1,9 +1,9 @@
 //! The numbers that a check compares.
 
+use crate::checks::OperatorSnapshot;
 use crate::decision::Decision;
+use crate::table::{Check, MessageCheck};
 use admission::Budget;
-use check_explainer::OperatorSnapshot;
-use check_table::{Check, MessageCheck};
 use dsx_messages::{Message, Request, read};
 use flow_table::Flow;
 use operator_model::{Heard, has_set_type};

@@ -3,16 +3,16 @@
 ghost use Rattle.std.specs.Prelude.{◌≡◌, ◌≢◌, Err, IfOk};
 ghost use Rattle.dsx_messages.specs.declared.fault.MessageFault.TheVariants.{NoMemory};
 ghost use Rattle.dsx_messages.specs.Reading.{message_of};
-ghost use Rattle.check_table.specs.declared.check.MessageCheck.TheVariants.{Judged};
+ghost use Rattle.trace_report.specs.declared.table.check.MessageCheck.TheVariants.{Judged};
 ghost use Rattle.lists.specs.First.{IsFirst};
-ghost use Rattle.check_table.specs.Messages.{HoldsOf, message_table};
+ghost use Rattle.trace_report.specs.table.Messages.{HoldsOf, message_table};
 ghost use Rattle.trace_report.specs.Decision.{first_message, DecidesReading, IsDecisionOf};
 ghost use Rattle.trace_report.specs.Names.{decision_name};
 ghost use Rattle.trace_report.specs.Trace.{IsCheckNumber};
 
+use crate::checks::OperatorSnapshot;
 use crate::names::{check_name, message_check_name};
-use check_explainer::OperatorSnapshot;
-use check_table::{Check, MessageCheck};
+use crate::table::{Check, MessageCheck};
 use dsx_messages::{Message, MessageFault, Modem, read};
 use operator_model::{Arrival, Heard};
 use std::alloc::{AllocError, Global};

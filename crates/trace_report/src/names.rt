@@ -3,7 +3,7 @@
 ghost use Rattle.std.specs.Prelude.{◌≡◌};
 ghost use Rattle.trace_report.specs.Names.{message_check_name, check_name};
 
-use check_table::{Check, MessageCheck};
+use crate::table::{Check, MessageCheck};
 
 pub(crate) fn message_check_name(check: MessageCheck) -> &'static str
     ensures { result.now ≡ message_check_name check }

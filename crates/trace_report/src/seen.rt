@@ -2,16 +2,15 @@
 
 ghost use Rattle.std.specs.Prelude.{◌≡◌, None, IfOk, OnErr};
 ghost use Rattle.plant_core.specs.CoreView.{core_view};
-ghost use Rattle.live_core.specs.Faults.{step_fault};
-ghost use Rattle.live_core.specs.LiveView.{live_view};
+ghost use Rattle.plant_core.specs.live.Faults.{step_fault};
+ghost use Rattle.plant_core.specs.live.LiveView.{live_view};
 ghost use Rattle.trace_report.specs.Decision.{first_message, IsDecisionOf, IsDecision};
 
+use crate::checks::OperatorSnapshot;
 use crate::comparison::{CheckComparison, comparison_of};
 use crate::decision::{Decision, decision_at};
-use check_explainer::OperatorSnapshot;
-use live_core::LiveCore;
 use operator_model::{Arrival, Heard};
-use plant_core::PlantCore;
+use plant_core::{LiveCore, PlantCore};
 use run_model::Step;
 use std::alloc::{AllocError, Global};
 

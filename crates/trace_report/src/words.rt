@@ -4,12 +4,12 @@ use crate::comparison::{CheckComparison, committed_by};
 use crate::seen::{About, StepReport};
 use dsx_messages::{Code, Detail, FlowId, Kind, Modem, Reply, read_reply};
 use flow_table::Flow;
+use line_service::cause_name;
 use operator_model::{Cause, Output};
 use param_sets::{ParamSet, Units, need};
 use plant::Op;
 use plant_core::PlantCore;
 use run_model::Out;
-use script_format::cause_name;
 use slice_scheduler::{Elements, Iuc, Span};
 use std::alloc::{AllocError, Global};
 

@@ -85,6 +85,7 @@ impl Kept {
               entries = self.old.entries
                   ++ begun_entry self.old.waits modem tid kind reply sfid waits ∷ [];
             }) }
+        // There was room, and no entry of this modem and transaction ID.
         ensures was_free { OnOk result ((length self.old.entries < self.old.capacity)
             × IsNone (find (is_of modem tid) self.old.entries)) }
 
@@ -145,6 +146,7 @@ impl Kept {
     /// entry of this modem and transaction ID waits, or one of another kind; then all is as it was.
     pub fn acked(&mut self, modem: Modem, tid: u16, kind: Kind) -> Option<u32>
         ensures sfid { result ≡ option_map (λ e. e.sfid) (find (waits_for modem tid kind) self.old.entries) }
+        // The entry that waited for it is held from now on; no other entry changes.
         ensures state { self.new ≡ record self.old
             { entries = map (entry_after_ack self.old.waits modem tid kind) self.old.entries } }
         ensures none { result ≡ None → self.new ≡ self.old }

@@ -1,7 +1,7 @@
 //! Each line's answer is flushed before the next line is read.
 
 use line_service::{LineBuffer, NoNotes, serve};
-use live_core::LiveCore;
+use plant_core::LiveCore;
 use slice_table::read_plant;
 use std::alloc::Global;
 use std::cell::Cell;

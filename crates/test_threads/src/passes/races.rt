@@ -10,7 +10,7 @@ use crate::passes::teams::race_calls;
 use hex::encode_upper;
 use operator_book::{Book, Entry, Output};
 use plant_passes::{Pass, PassedCell, Receipt};
-use run_receipts::{Callers, Receipts, settle};
+use plant_workers::{Callers, Receipts, settle};
 use std::alloc::Global;
 use std::process::Abort;
 use std::sync::Wait;

@@ -1,8 +1,8 @@
 //! The texts of faults.
 
 use crate::threads::opening::modem;
-use live_core::{CoreFault, ResliceFault};
-use run_receipts::RunFault;
+use plant_core::{CoreFault, ResliceFault};
+use plant_workers::RunFault;
 use std::alloc::{AllocError, Global};
 use std::process::Abort;
 

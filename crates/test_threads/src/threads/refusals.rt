@@ -1,10 +1,9 @@
 //! Runs on threads of which a step is refused.
 
 use crate::threads::playing::steps_come_to;
-use live_core::{CoreFault, ResliceFault};
 use operator_book::SliceRow;
-use plant_workers::OpenGate;
-use run_receipts::RunFault;
+use plant_core::{CoreFault, ResliceFault};
+use plant_workers::{OpenGate, RunFault};
 use std::alloc::{AllocError, Global};
 use std::process::Abort;
 use std::sync::Wait;

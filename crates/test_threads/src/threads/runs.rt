@@ -1,8 +1,7 @@
 //! Runs of which a thread cannot be made.
 
 use crate::threads::playing::comes_to;
-use plant_workers::OpenGate;
-use run_receipts::RunFault;
+use plant_workers::{OpenGate, RunFault};
 use std::alloc::AllocError;
 use std::process::Abort;
 

@@ -1,4 +1,4 @@
-use Rattle.live_core.specs.LiveView.{live_view}
+use Rattle.plant_core.specs.live.LiveView.{live_view}
 use Rattle.json_service.proofs.ServiceLemmas.{served}
 use Rattle.json_service.proofs.serving.serve_opened.Goals as goal
 

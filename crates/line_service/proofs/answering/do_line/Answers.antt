@@ -1,6 +1,6 @@
 use Rattle.std.proofs.Common.{◌≡◌, Ok, subst, sym}
-use Rattle.live_core.specs.declared.held.LiveCore.{LiveCore}
-use Rattle.live_core.specs.After.{IsAfterFrom}
+use Rattle.plant_core.specs.declared.live.held.LiveCore.{LiveCore}
+use Rattle.plant_core.specs.live.After.{IsAfterFrom}
 use Rattle.line_service.proofs.Common.{PlantFields, live_view, LineOutcome, steps_said, HasAnswered}
 use Rattle.line_service.proofs.StepLemmas.{after_plant}
 use Rattle.line_service.proofs.LineLemmas.{steps_answered}

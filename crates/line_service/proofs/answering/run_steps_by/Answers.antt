@@ -1,6 +1,6 @@
 use Rattle.std.proofs.Common.{sym, subst, map}
-use Rattle.live_core.specs.Following.{FollowRows}
-use Rattle.script_format.specs.Script.{ArePlaced}
+use Rattle.plant_core.specs.live.Following.{FollowRows}
+use Rattle.line_service.specs.script.Script.{ArePlaced}
 use Rattle.line_service.proofs.Common.{CoreView, IsAfterFrom, IsReachableFromStart, HasDone}
 use Rattle.line_service.proofs.answering.run_steps_by.Goals as goal
 

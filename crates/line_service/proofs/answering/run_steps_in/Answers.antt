@@ -1,8 +1,8 @@
 use Rattle.std.proofs.Common.{◌≡◌, None, [], ◌∷◌, length, map, ap, refl, sym, subst, ◌∙◌, arith}
-use Rattle.live_core.specs.Following.{FollowRows}
+use Rattle.plant_core.specs.live.Following.{FollowRows}
 use Rattle.run_model.specs.Placed.{IsPlaced}
 use Rattle.line_service.proofs.Common.{PlantFields, nat_tests, into_iter_items, nil_from_length, step_fault, live_view}
-use Rattle.live_core.specs.declared.core_fault.CoreFault.TheVariants as faults
+use Rattle.plant_core.specs.declared.live.core_fault.CoreFault.TheVariants as faults
 use Rattle.line_service.specs.declared.steps_end.StepsEnd.TheVariants as ends
 use Rattle.line_service.proofs.LeftLemmas.{count_next}
 use Rattle.line_service.proofs.StepLemmas.{next_is_placed, none_done, none_written, half_more, all_are_done, step_not_done, on_err_of}

@@ -1,4 +1,4 @@
-use Rattle.live_core.specs.LiveView.{live_view}
+use Rattle.plant_core.specs.live.LiveView.{live_view}
 use Rattle.line_service.proofs.StepLemmas.{opened_reachable}
 use Rattle.line_service.proofs.opening.open_core.Goals as goal
 

@@ -1,6 +1,6 @@
 use Rattle.std.proofs.Common.{map, length, refl, sym, subst}
 use Rattle.plant_restart.proofs.Common.{take_all, slice_get_read, RowFields, sound_of, operator_by_name, saved_by_name, IsRowsFault}
-use Rattle.live_core.proofs.ResumeFaultLemmas.{handed_on}
+use Rattle.plant_core.proofs.LiveLemmas.ResumeFaultLemmas.{handed_on}
 use Rattle.plant_restart.proofs.RestartLemmas.{machine_more, of_row}
 use Rattle.plant_restart.proofs.restarting.machines_by_name.Goals as goal
 

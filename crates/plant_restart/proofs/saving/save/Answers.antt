@@ -1,5 +1,5 @@
 use Rattle.std.proofs.Common.{refl, ◌∙◌}
-use Rattle.live_core.specs.LiveView.{live_view}
+use Rattle.plant_core.specs.live.LiveView.{live_view}
 use Rattle.plant_restart.proofs.SaveLemmas.{states_saved}
 use Rattle.plant_restart.proofs.saving.save.Goals as goal
 

@@ -1,5 +1,5 @@
 use Rattle.std.proofs.Common.{◌≡◌, take}
-use Rattle.script_format.specs.Script.{steps_without_numbers}
+use Rattle.line_service.specs.script.Script.{steps_without_numbers}
 use Rattle.plant_script.proofs.on_threads.steps_in.Given as goal
 
 abbrev pub invariant-loop-line : goal.invariant-loop-line

@@ -1,12 +1,12 @@
 use Rattle.std.proofs.Common.{List, map, sym, subst}
-use Rattle.live_core.specs.Following.{FollowRows}
-use Rattle.live_core.proofs.FollowingLemmas.{follow_rows}
+use Rattle.plant_core.specs.live.Following.{FollowRows}
+use Rattle.plant_core.proofs.LiveLemmas.FollowingLemmas.{follow_rows}
 use Rattle.operator_book.specs.ViewOf.{policy_of}
 use Rattle.plant.specs.declared.plant.PlantFields.{PlantFields}
 use Rattle.plant_script.proofs.Common.{if_ok, outs_text, IsScriptRun, status_code}
 use Rattle.plant_script.proofs.LiveRuns.{run_written}
 use Rattle.plant_script.proofs.Reached.{memory_written}
-use Rattle.script_format.specs.Script.{ArePlaced}
+use Rattle.line_service.specs.script.Script.{ArePlaced}
 use Rattle.plant_script.proofs.running.write_outputs_run.Goals as goal
 
 pub write_run-requires-clause-policies : goal.write_run-requires-clause-policies

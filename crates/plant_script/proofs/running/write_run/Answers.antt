@@ -1,6 +1,6 @@
 use Rattle.std.proofs.Common.{[]}
 use Rattle.plant_script.proofs.Common.{Appends-kept, first_start, status_code}
-use Rattle.live_core.specs.LiveView.{live_view}
+use Rattle.plant_core.specs.live.LiveView.{live_view}
 use Rattle.plant_script.proofs.LiveRuns.{run_ends}
 use Rattle.plant_script.proofs.running.write_run.Goals as goal
 

@@ -1,5 +1,5 @@
 use Rattle.std.proofs.Common.{inr, refl}
-use Rattle.live_core.specs.LiveView.{live_view}
+use Rattle.plant_core.specs.live.LiveView.{live_view}
 use Rattle.plant_script.proofs.Services.{service_served}
 use Rattle.plant_script.proofs.serving.serve_plant.Goals as goal
 

@@ -1,6 +1,6 @@
 use Rattle.std.proofs.Common.{sym, subst, ◌∙◌}
 use Rattle.plant.specs.declared.plant.PlantFields.{PlantFields}
-use Rattle.script_format.specs.Script.{ArePlaced}
+use Rattle.line_service.specs.script.Script.{ArePlaced}
 use Rattle.plant_script.proofs.task.task_of_script.Goals as goal
 
 pub invariant_of-result : goal.invariant_of-result

@@ -1,6 +1,6 @@
 use Rattle.std.proofs.Common.{List, length, sym, ap, ◌∙◌, subst, map}
 use Rattle.plant_workers.proofs.Common.{BookView, cell_book, IsResliceTold, IsOfReslice}
-use Rattle.live_core.specs.Reslicing.{reslice_fault}
+use Rattle.plant_core.specs.live.Reslicing.{reslice_fault}
 use Rattle.plant_workers.proofs.FaultLemmas.{told_of, is_told}
 use Rattle.plant_workers.proofs.run_state.reslice_helds.Goals as goal
 

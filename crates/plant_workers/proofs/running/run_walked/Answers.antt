@@ -2,8 +2,8 @@ use Rattle.std.proofs.Common.{List, length, Err, sym, ap, ◌∙◌, subst}
 use Rattle.plant_workers.proofs.Common.{none-some, same_Some, slice_get_within, CoreFault}
 use Rattle.run_model.specs.declared.step.Step.{Step}
 use Rattle.run_model.specs.declared.step.Step.TheVariants as steps
-use Rattle.run_receipts.specs.declared.run_fault.RunFault.TheVariants.{Core}
-use Rattle.run_plan.specs.Spending.{NoneSpentBefore, before_reslice}
+use Rattle.plant_workers.specs.declared.receipts.run_fault.RunFault.TheVariants.{Core}
+use Rattle.plant_workers.specs.plan.Spending.{NoneSpentBefore, before_reslice}
 use Rattle.plant_workers.proofs.running.run_walked.Goals as goal
 
 pub returns-in-Some-clause-walk : goal.returns-in-Some-clause-walk

@@ -1,5 +1,5 @@
 use Rattle.std.proofs.Common.{inl}
-use Rattle.live_core.specs.LiveView.{live_view}
+use Rattle.plant_core.specs.live.LiveView.{live_view}
 use Rattle.state_service.proofs.CommandLemmas.{core_snapshot_is, snapshot_given}
 use Rattle.state_service.proofs.performing.snapshot_outcome.Goals as goal
 

@@ -1,6 +1,6 @@
 use Rattle.std.proofs.Common.{List, ℕ, Option, subst}
 use Rattle.state_service.proofs.Common.{live_view, IsKeptState, IsKeptOf}
-use Rattle.durable_service.specs.declared.saving.KeptState.{KeptState}
+use Rattle.state_service.specs.declared.durable.saving.KeptState.{KeptState}
 use Rattle.state_service.proofs.ServeLemmas.{state_due_where}
 use Rattle.state_service.proofs.periods.end_if_resting.Goals as goal
 

@@ -1,5 +1,5 @@
 use Rattle.std.proofs.Common.{◌≡◌, ℕ, ◌≤◌, Option, List}
-use Rattle.live_core.specs.After.{IsReachableFromStart}
+use Rattle.plant_core.specs.live.After.{IsReachableFromStart}
 use Rattle.state_service.proofs.Common.{live_view, CoreView, WhereKnown, LeavesOnly, journal_content, IsJournalSettled, Open, IsServing, LeadsHere, ServiceOrigin, IsJournalOf, IsLeftFrom}
 use Rattle.state_service.proofs.periods.serve_period.Given as goal
 

@@ -1,5 +1,5 @@
 use Rattle.std.proofs.Common.{◌≡◌}
-use Rattle.live_core.specs.LiveOperator.{row_of}
+use Rattle.plant_core.specs.live.LiveOperator.{row_of}
 use Rattle.test_cores.proofs.resuming.do_actions.Given as goal
 
 abbrev pub invariant-loop-call : goal.invariant-loop-call

@@ -1,6 +1,6 @@
 use Rattle.std.proofs.Common.{◌≡◌, Some, slice_get, List, [], ◌∷◌, length, map, sym, ap, ap₂, ◌∙◌, arith}
 use Rattle.std.proofs.lemmas.Option.{same_Some}
-use Rattle.live_core.specs.LiveOperator.{row_of}
+use Rattle.plant_core.specs.live.LiveOperator.{row_of}
 use Rattle.test_cores.proofs.resuming.resume_on_plant.Goals as goal
 
 -- two machines have the two rows of a list

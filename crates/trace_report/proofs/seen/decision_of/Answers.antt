@@ -1,7 +1,7 @@
 use Rattle.std.proofs.Common.{◌∙◌}
 use Rattle.std.proofs.lemmas.Result.{IfOk-weaker, on_err_weaker}
-use Rattle.live_core.specs.LiveView.{live_view}
-use Rattle.live_core.proofs.FaultLemmas.{same_step_fault}
+use Rattle.plant_core.specs.live.LiveView.{live_view}
+use Rattle.plant_core.proofs.LiveLemmas.FaultLemmas.{same_step_fault}
 use Rattle.trace_report.proofs.Common.{core_view, IsDecision}
 use Rattle.trace_report.proofs.DecisionLemmas.{same_decision}
 use Rattle.trace_report.proofs.seen.decision_of.Goals as goal

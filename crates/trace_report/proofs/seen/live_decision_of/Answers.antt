@@ -1,6 +1,6 @@
 use Rattle.std.proofs.Common.{◌∙◌, ap, sym, option_map}
-use Rattle.live_core.specs.DeskView.{book_of}
-use Rattle.live_core.specs.LiveView.{live_view}
+use Rattle.plant_core.specs.live.DeskView.{book_of}
+use Rattle.plant_core.specs.live.LiveView.{live_view}
 use Rattle.trace_report.proofs.DecisionLemmas.{no_work, nobody_works, one_works}
 use Rattle.trace_report.proofs.seen.live_decision_of.Goals as goal
 

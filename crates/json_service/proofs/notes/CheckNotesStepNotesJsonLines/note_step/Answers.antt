@@ -1,4 +1,4 @@
-use Rattle.live_core.specs.LiveView.{live_view}
+use Rattle.plant_core.specs.live.LiveView.{live_view}
 use Rattle.json_service.proofs.NoteLemmas.{decided_is_done, on_err_map}
 use Rattle.json_service.proofs.notes.CheckNotesStepNotesJsonLines.note_step.Goals as goal
 

@@ -1,5 +1,5 @@
 use Rattle.std.proofs.Common.{take}
-use Rattle.live_core.specs.Reachable.{LeadsOn}
+use Rattle.plant_core.specs.live.Reachable.{LeadsOn}
 use Rattle.plant_core.specs.CoreView.{core_view}
 use Rattle.plant_core.proofs.held.PlantCore.run.Given as goal
 

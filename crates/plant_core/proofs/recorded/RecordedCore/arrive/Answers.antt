@@ -1,5 +1,5 @@
 use Rattle.std.proofs.Common.{ap}
-use Rattle.live_core.specs.declared.held.LiveCore.{LiveCore}
+use Rattle.plant_core.specs.declared.live.held.LiveCore.{LiveCore}
 use Rattle.plant_core.proofs.Common.{live_view, arrives, record_view}
 use Rattle.plant_core.proofs.RecordLemmas.{is_of}
 use Rattle.plant_core.proofs.StepLemmas.{none_refuses}

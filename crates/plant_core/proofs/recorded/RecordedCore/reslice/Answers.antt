@@ -1,6 +1,6 @@
 use Rattle.std.proofs.Common.{List, option_map, sym, ap, ◌∙◌}
 use Rattle.plant_core.proofs.Common.{SliceRow, ResliceFault, live_view, reslice_fault, record_view}
-use Rattle.live_core.specs.declared.core_fault.CoreFault.TheVariants as faults
+use Rattle.plant_core.specs.declared.live.core_fault.CoreFault.TheVariants as faults
 use Rattle.plant_core.proofs.RecordLemmas.{is_of}
 use Rattle.plant_core.proofs.StepLemmas.{same_reslice_fault}
 use Rattle.plant_core.proofs.recorded.RecordedCore.reslice.Goals as goal

@@ -1,4 +1,0 @@
-mod Common
-pub mod TakeLemmas
-mod ReceiptLemmas
-mod RoomLemmas

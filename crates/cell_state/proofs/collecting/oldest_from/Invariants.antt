@@ -1,6 +1,0 @@
-use Rattle.std.proofs.Common.{◌≡◌}
-use Rattle.plant_core.specs.Waiting.{waiting_in}
-use Rattle.cell_state.proofs.collecting.oldest_from.Given as goal
-
-abbrev pub invariant-loop-place : goal.invariant-loop-place
-invariant-loop-place l = waiting_in l.history l.place ≡ waiting_in l.history l.from

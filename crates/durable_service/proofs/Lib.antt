@@ -1,4 +1,0 @@
-mod Common
-pub mod DoneLemmas
-pub mod ListLemmas
-pub mod LeadLemmas

@@ -1,5 +1,0 @@
-use Rattle.std.proofs.Common.{length}
-use Rattle.durable_service.proofs.lines.split_lines.Given as goal
-
-abbrev pub decreases-loop-place : goal.decreases-loop-place
-decreases-loop-place l = length l.rest

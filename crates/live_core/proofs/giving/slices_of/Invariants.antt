@@ -1,6 +1,0 @@
-use Rattle.std.proofs.Common.{◌≡◌, map, take}
-use Rattle.run_model.specs.OwnSteps.{slice_of}
-use Rattle.live_core.proofs.giving.slices_of.Given as goal
-
-abbrev pub invariant-loop-row : goal.invariant-loop-row
-invariant-loop-row l = l.slices.items ≡ map slice_of (take l.row-index l.rows)

@@ -1,5 +1,0 @@
-use Rattle.live_core.proofs.PartLemmas.{same_plant}
-use Rattle.live_core.proofs.planning.LiveCoreRouting.place_of.Goals as goal
-
-pub invariant_of-self : goal.invariant_of-self
-invariant_of-self c = record { let_go = c.args.self.now.let_go; reached = same_plant _ _ _ _ _ c.place_of.ensures.plant c.args.self.now.reached }

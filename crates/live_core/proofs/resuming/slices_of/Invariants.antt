@@ -1,6 +1,0 @@
-use Rattle.std.proofs.Common.{◌≡◌, map, take}
-use Rattle.live_core.specs.LiveOperator.{current_slice}
-use Rattle.live_core.proofs.resuming.slices_of.Given as goal
-
-abbrev pub invariant-loop-live : goal.invariant-loop-live
-invariant-loop-live l = l.slices.items ≡ map current_slice (take l.live-index l.lives)

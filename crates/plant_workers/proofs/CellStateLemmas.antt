@@ -1,0 +1,4 @@
+pub mod Common
+pub mod TakeLemmas
+pub mod ReceiptLemmas
+pub mod RoomLemmas

@@ -1,0 +1,5 @@
+use Rattle.std.proofs.Common.{◌≡◌, drop}
+use Rattle.plant_workers.proofs.receipts.same.are_same_outputs.Given as goal
+
+abbrev pub invariant-loop-place : goal.invariant-loop-place
+invariant-loop-place l = drop l.place l.a ≡ drop l.place l.b → l.a ≡ l.b

@@ -1,6 +1,0 @@
-use Rattle.std.proofs.Common.{ℕ, ◌<◌, ◌≤◌}
-use Rattle.run_audit.proofs.Common.{collects_of, ticks_of}
-use Rattle.run_audit.proofs.counting.are_ticked.Given as goal
-
-abbrev pub invariant-loop-op : goal.invariant-loop-op
-invariant-loop-op l = (i : ℕ) → i < l.op → collects_of i l.steps ≤ ticks_of i l.steps

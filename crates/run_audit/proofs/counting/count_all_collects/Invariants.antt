@@ -1,6 +1,0 @@
-use Rattle.std.proofs.Common.{take}
-use Rattle.run_audit.proofs.Common.{is_collect, AreCountsOf}
-use Rattle.run_audit.proofs.counting.count_all_collects.Given as goal
-
-abbrev pub invariant-loop-at : goal.invariant-loop-at
-invariant-loop-at l = AreCountsOf is_collect (take l.at l.steps) l.counts

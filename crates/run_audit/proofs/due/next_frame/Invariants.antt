@@ -1,6 +1,0 @@
-use Rattle.std.proofs.Common.{◌≡◌}
-use Rattle.plant_core.specs.Waiting.{waiting_in}
-use Rattle.run_audit.proofs.due.next_frame.Given as goal
-
-abbrev pub invariant-loop-place : goal.invariant-loop-place
-invariant-loop-place l = waiting_in l.history l.place ≡ waiting_in l.history l.from

@@ -1,5 +1,0 @@
-use Rattle.run_plan.proofs.Turned.{HaveTurns}
-use Rattle.run_plan.proofs.turns.turns_of.Given as goal
-
-abbrev pub invariant-loop-at : goal.invariant-loop-at
-invariant-loop-at l = HaveTurns l.plant l.steps l.at l.courses.items l.turns.items

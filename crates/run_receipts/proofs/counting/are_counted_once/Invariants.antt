@@ -1,6 +1,0 @@
-use Rattle.std.proofs.Common.{◌≡◌, ℕ, ◌<◌, take, get_or, vec_len}
-use Rattle.run_receipts.proofs.Common.{min, times}
-use Rattle.run_receipts.proofs.counting.are_counted_once.Given as goal
-
-abbrev pub invariant-loop-receipts : goal.invariant-loop-receipts
-invariant-loop-receipts l = record { long : vec_len l.counts ≡ l.entries; counted : (k : ℕ) → k < l.entries → min (get_or l.counts.items k 0) 255 ≡ min (times k (take l.receipts-index l.callers)) 255 }

@@ -1,6 +1,0 @@
-use Rattle.std.proofs.Common.{ℕ, ◌<◌, map}
-use Rattle.run_receipts.proofs.Common.{view_of, IsShort}
-use Rattle.run_receipts.proofs.counting.first_short.Given as goal
-
-abbrev pub invariant-loop-op : goal.invariant-loop-op
-invariant-loop-op g l = (i : ℕ) → i < l.op → ¬ IsShort (map view_of l.books) l.receipts i

@@ -1,6 +1,0 @@
-use Rattle.std.proofs.Common.{◌≡◌, take}
-use Rattle.run_receipts.proofs.Common.{min, times}
-use Rattle.run_receipts.proofs.counting.is_told_once.Given as goal
-
-abbrev pub invariant-loop-receipts : goal.invariant-loop-receipts
-invariant-loop-receipts l = l.told ≡ min (times l.index (take l.receipts-index l.callers)) 2

@@ -1,6 +1,0 @@
-use Rattle.std.proofs.Common.{List, take}
-use Rattle.run_receipts.proofs.Common.{All, AllZip, BookView, IsFramePart, AreFramesOf}
-use Rattle.run_receipts.proofs.mapping.are_own_parts.Given as goal
-
-abbrev pub invariant-loop-own : goal.invariant-loop-own
-invariant-loop-own l = (books : List BookView) → AllZip AreFramesOf l.all books → All (IsFramePart l.made l.view) (take l.own-index books)

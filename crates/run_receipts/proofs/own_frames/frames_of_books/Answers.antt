@@ -1,8 +1,0 @@
-use Rattle.run_receipts.proofs.Common.{view_of, AreFramesOf}
-use Rattle.run_receipts.proofs.Lists.{zip_more}
-use Rattle.run_receipts.proofs.own_frames.frames_of_books.Goals as goal
-
-pub loop-book-preserved : goal.loop-book-preserved
-loop-book-preserved g c =
-    zip_more AreFramesOf view_of c.loop-book.own.items c.push.new.self.items c.args.books.now c.loop-book.book-index c.in_ok-frames_of_book.field-0 c.book-item.result
-    c.loop-book-test.true c.book-item.is c.loop-book.invariant c.in_ok-frames_of_book.ensures c.in_ok-push.ensures.items

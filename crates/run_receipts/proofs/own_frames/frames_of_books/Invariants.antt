@@ -1,6 +1,0 @@
-use Rattle.std.proofs.Common.{take, map}
-use Rattle.run_receipts.proofs.Common.{AllZip, view_of, AreFramesOf}
-use Rattle.run_receipts.proofs.own_frames.frames_of_books.Given as goal
-
-abbrev pub invariant-loop-book : goal.invariant-loop-book
-invariant-loop-book g l = AllZip AreFramesOf l.own.items (map view_of (take l.book-index l.books))

@@ -1,5 +1,0 @@
-use Rattle.script_format.proofs.Splits.{halves_of}
-use Rattle.script_format.proofs.fields.halves.Goals as goal
-
-pub returns-in-Some : goal.returns-in-Some
-returns-in-Some c = halves_of c.args.line.now _ _ c.in-Some.place c.in-Some.ensures c.part.ensures c.part-in-Some.ensures

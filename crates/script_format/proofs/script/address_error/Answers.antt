@@ -1,7 +1,0 @@
-use Rattle.std.proofs.Common.{sym}
-use Rattle.script_format.specs.Lines.{line_fields}
-use Rattle.script_format.proofs.FirstFields.{address_more}
-use Rattle.script_format.proofs.script.address_error.Goals as goal
-
-pub returns-in-Some : goal.returns-in-Some
-returns-in-Some c = sym (address_more (line_fields c.args.line.now) _ _ c.in-Some.ensures)

@@ -1,6 +1,0 @@
-use Rattle.std.proofs.Common.{take}
-use Rattle.script_format.proofs.Common.{Appends, outs_text}
-use Rattle.script_format.proofs.writing.write_outs.Given as goal
-
-abbrev pub invariant-loop-out : goal.invariant-loop-out
-invariant-loop-out g l = Appends (g.W.Write.contents l.fn.writer) (g.W.Write.contents l.writer) (outs_text l.plant (take l.out-index l.outs))

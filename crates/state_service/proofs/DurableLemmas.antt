@@ -1,0 +1,4 @@
+pub mod Common
+pub mod DoneLemmas
+pub mod ListLemmas
+pub mod LeadLemmas
