@@ -194,7 +194,7 @@ def main():
     asked = parser.parse_args()
     if asked.echo_channel:
         echo(*asked.echo_channel)
-    built = [PROGRAM] if os.access(PROGRAM, os.X_OK) else [sys.executable, "-B", str(ROOT / "tools/reference")]
+    built = [PROGRAM] if os.access(PROGRAM, os.X_OK) else [sys.executable, "-B", str(ROOT / "service/reference")]
     program = [] if asked.echo else asked.program or built
     before = os.getloadavg()[0]
     print(f"behind the bridge: {'a process that answers at once' if asked.echo else ' '.join(program)}\n")
