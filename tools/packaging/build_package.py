@@ -34,11 +34,8 @@ PACKAGE = "plant-script"
 PROGRAM = "crates/plant_program/out/plant_program"
 PROVE_LOG = "crates/plant_program/out/prove.log"
 # What the rules of the package read: from the repository, to the folder in which they run.
-FILES = {"packaging/debian": "debian", "packaging/systemd": "systemd", "packaging/completions": "completions",
-         "packaging/serve_channel": "serve_channel", "packaging/tick_channel": "tick_channel", "packaging/pass_reasons": "pass_reasons",
-         "packaging/report_progress": "report_progress", "packaging/channel_group": "channel_group", "packaging/prometheus": "prometheus",
-         "packaging/operator_group": "operator_group", "service": "service",
-         "docs": "docs", "examples": "examples", "README.md": "README.md", "CHANGELOG.md": "CHANGELOG.md"}
+FILES = {"packaging/debian": "debian", "packaging/completions": "completions", "service": "service", "docs": "docs", "examples": "examples",
+         "README.md": "README.md", "CHANGELOG.md": "CHANGELOG.md"}
 
 
 def proved_program(root):

@@ -1,7 +1,7 @@
 """Tests plant_bridge (service/bridging) with real sockets, and the clients of examples/clients.
 
 The first tests play the channel: they read its pipe, and write answers that are typed from docs/FORMATS.md. The others run
-packaging/serve_channel with the second implementation, and with the proved program if it is built. None needs systemd.
+service/systemd/serve_channel with the second implementation, and with the proved program if it is built. None needs systemd.
 """
 
 import contextlib
@@ -706,7 +706,7 @@ class Channel(Bridge):
 
     def start_channel(self):
         with (self.folder / "in").open("r+b", buffering=0) as pipe:
-            return self.start(ROOT / "packaging/serve_channel", self.folder / "plant.toml", stdin=pipe, env=self.settings, stdout=subprocess.DEVNULL)
+            return self.start(ROOT / "service/systemd/serve_channel", self.folder / "plant.toml", stdin=pipe, env=self.settings, stdout=subprocess.DEVNULL)
 
     def tick(self, number):
         self.owner.write("T")
@@ -744,7 +744,7 @@ class Channel(Bridge):
         (self.folder / "plant.toml").write_text(PLANT.replace(f'"{THREE}"', f'"{THREE}", "{new}"'))
         of_b.write(f"M {new} {ADD}")
         self.assertEqual(of_b.read(), [f"1 refused: modem: {new} is not a modem of B"])
-        words = [ROOT / "packaging/serve_channel", "--change", self.folder / "plant.toml", self.folder / "in"]
+        words = [ROOT / "service/systemd/serve_channel", "--change", self.folder / "plant.toml", self.folder / "in"]
         done = subprocess.run(words, env=self.settings, capture_output=True, text=True, timeout=SECONDS, check=False)
         self.assertEqual(done.returncode, 0, done.stderr)
         self.assertEqual(of_b.read(), ["- started frame 0"])

@@ -16,8 +16,10 @@ from tools.ci.commands import commands
 FOLDERS = [ROOT / name for name in ("service", "tools")]
 FILES = [path for folder in FOLDERS for path in folder.rglob("*") if path.is_file() and "__pycache__" not in path.parts and path.name != ".gitignore"]
 RUN = ROOT / "tools/run"
+# What systemd starts has the suffix of a unit, or none.
+OF_UNITS = [path for path in FILES if path.parent == ROOT / "service/systemd"]
 # Paths of commands that stay next to tools/run.
-ENTRIES = [path for path in FILES if not path.suffix and path != RUN]
+ENTRIES = [path for path in FILES if not path.suffix and path != RUN and path not in OF_UNITS]
 STARTED_BY_OTHERS = {"tools/ci/check_examples.py", "tools/replication/reference_program.py"}
 
 

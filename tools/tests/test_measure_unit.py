@@ -135,7 +135,7 @@ class Channels(Folder):
         place.mkdir()
         channel = CommandChannel(place, "a = 1\n", program)
         self.assertEqual(channel.process.wait(10), 3)
-        self.assertEqual(channel.words(), [f"{ROOT}/packaging/serve_channel", f"{place}/plant.toml"])
+        self.assertEqual(channel.words(), [f"{ROOT}/service/systemd/serve_channel", f"{place}/plant.toml"])
         found = dict(line.split("=", 1) for line in (place / "folder.env").read_text().splitlines())
         self.assertEqual({name: found[name] for name in ("ANSWERS", "FOLDER", "STATE", "RUNTIME_DIRECTORY")},
                          {"ANSWERS": f"{place}/answers", "FOLDER": f"{place}/folder", "STATE": f"{place}/state", "RUNTIME_DIRECTORY": f"{place}/notes"})

@@ -34,7 +34,7 @@ def commands(text):
 
 class Page(unittest.TestCase):
     def test_each_alert_has_a_section_and_no_other(self):
-        alerts = re.findall(r"(?m)^ +- alert: (\w+)$", (ROOT / "packaging/prometheus/alerts.yml").read_text())
+        alerts = re.findall(r"(?m)^ +- alert: (\w+)$", (ROOT / "service/prometheus/alerts.yml").read_text())
         self.assertGreater(len(alerts), 20)
         self.assertEqual([heading for heading in sections() if heading.startswith("Melfjits")], alerts)
 
