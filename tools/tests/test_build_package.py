@@ -10,6 +10,7 @@ import pathlib
 import re
 import shutil
 import subprocess
+import sys
 import tarfile
 import tempfile
 import unittest
@@ -183,6 +184,14 @@ class Package(unittest.TestCase):
     def test_is_the_same_each_time(self):
         again = TOOL.build(ROOT, self.top / "second", self.program, True, 1, self.log)
         self.assertEqual({name: path.read_bytes() for name, path in self.files.items()}, {path.name: path.read_bytes() for path in again})
+
+    def test_its_modules_import_nothing_that_is_not_packed(self):
+        subprocess.run(["dpkg-deb", "--extract", self.package, self.top / "alone"], check=True)
+        top = self.top / "alone/usr/lib/plant_script"
+        names = [".".join(path.relative_to(top).with_suffix("").parts) for path in sorted(top.rglob("*.py")) if path.stem not in ("__init__", "__main__")]
+        done = subprocess.run([sys.executable, "-P", "-B", "-c", f"import {', '.join(names)}"], env={"PYTHONPATH": str(top)}, cwd="/",
+                              capture_output=True, text=True, check=False)
+        self.assertEqual((done.returncode, done.stderr, len(names) > 50), (0, "", True))
 
     def test_its_commands_run_from_where_they_are_installed(self):
         subprocess.run(["dpkg-deb", "--extract", self.package, self.top / "installed"], check=True)

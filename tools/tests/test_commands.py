@@ -1,7 +1,8 @@
 """Tests tools/run and the table of its commands: they work from another folder and through a symbolic link, and each says what it does. No file
-changes Python's path.
+changes Python's path, and what people run needs nothing of tools/.
 """
 
+import ast
 import os
 import pathlib
 import re
@@ -21,6 +22,8 @@ OF_UNITS = [path for path in FILES if path.parent == ROOT / "service/systemd"]
 # Paths of commands that stay next to tools/run.
 ENTRIES = [path for path in FILES if not path.suffix and path != RUN and path not in OF_UNITS]
 STARTED_BY_OTHERS = {"tools/ci/check_examples.py", "tools/replication/reference_program.py"}
+# What modules of service/ may import. The package has no module that imports bindings or pika.
+IMPORTED = {"bindings", "pika", "prometheus_client", "service"} | sys.stdlib_module_names
 
 
 def folded(text):
@@ -115,7 +118,19 @@ class Table(unittest.TestCase):
         self.assertEqual(names, sorted(names, key=lambda name: ("/" in name, name)))
 
 
+def imported_by(path):
+    """Returns the names of the packages that a module imports."""
+    found = list(ast.walk(ast.parse(path.read_text())))
+    names = [alias.name for node in found if isinstance(node, ast.Import) for alias in node.names]
+    return {name.split(".")[0] for name in names + [node.module for node in found if isinstance(node, ast.ImportFrom) and not node.level]}
+
+
 class Files(unittest.TestCase):
+    def test_what_people_run_imports_nothing_of_the_tools(self):
+        for path in FILES:
+            if path.suffix == ".py" and path.is_relative_to(ROOT / "service"):
+                self.assertEqual(imported_by(path) - IMPORTED, set(), path)
+
     def test_none_changes_the_path(self):
         for path in FILES:
             if path.suffix in ("", ".py") and path != pathlib.Path(__file__).resolve():
