@@ -14,9 +14,9 @@ import sys
 from concurrent.futures import ThreadPoolExecutor
 from dataclasses import dataclass, field, replace
 
+from service.reference.answers import reference_answer
 from tools import EXAMPLES, ROOT, show_help
 from tools.compare.program import PROGRAM
-from tools.reference.answers import reference_answer
 
 PLANT = (EXAMPLES / "plant_p2.toml").read_text()
 # What is expected, by its sign: the field of a case that keeps it, and the text before and after that of the line.

@@ -9,7 +9,7 @@ A block of any page that begins with ```stderr quotes standard error (tools/ci/q
 there, so these blocks are compared only if the program is built.
 
 Another block of a README that begins with ``` and the name of an input shows the script of this input. Below each line is what it prints, and
-below a message, indented, its words (tools/dsx). A block of an input of `trace` shows the output, which has the lines of the script. All
+below a message, indented, its words (service/dsx). A block of an input of `trace` shows the output, which has the lines of the script. All
 blocks of an input together are the whole script, in order. A block of `toml` is a part of one of the plant files.
 
 Together the examples reach each check of the table in docs/RULES.md, each confirmation code and each drop reason that a script can
@@ -20,14 +20,14 @@ import pathlib
 import re
 import sys
 
+from service.messages.words import CODES, WordsFault, octets, parts_of_message, words_of
+from service.reference import coverage
+from service.reference.answers import reference_answer
+from service.reference.book import StepRefused, arrive, open_book, work
+from service.reference.program import MODEM_OF_ONE, Core, answer_line, judged_plant, lines_of, message_of, plant_of_one, steps_of
 from tools import EXAMPLES, show_help
 from tools.ci.quoted_errors import wrong_quotes
 from tools.compare.program import PROGRAM, fixed_answer, program_answer
-from tools.messages.words import CODES, WordsFault, octets, parts_of_message, words_of
-from tools.reference import coverage
-from tools.reference.answers import reference_answer
-from tools.reference.book import StepRefused, arrive, open_book, work
-from tools.reference.program import MODEM_OF_ONE, Core, answer_line, judged_plant, lines_of, message_of, plant_of_one, steps_of
 
 OF_ONE = ("first_flow", "several_messages")
 WORDS = ("one", "check", "run", "trace")

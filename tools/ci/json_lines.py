@@ -14,10 +14,10 @@ import subprocess
 import sys
 from concurrent.futures import ThreadPoolExecutor
 
+from service.reference.resuming import SNAPSHOT
 from tools import ROOT, show_help
 from tools.ci.cases import cases_of
 from tools.compare.program import PROGRAM
-from tools.reference.resuming import SNAPSHOT
 
 COMMANDS = ("check", "run", "trace", "serve")
 TYPES = {"10": "DSA-RSP", "13": "DSC-RSP", "16": "DSD-RSP"}

@@ -47,7 +47,7 @@ if "$tools/run" ci/cases "$(type -P true)" >"$work/output"; then
     echo 'tools/run ci/cases does not notice a program that prints nothing' >&2
     exit 1
 fi
-[ "$(python3 "$tools/reference" check <"$tools/../examples/plant_p2.toml")" = ok ]
+[ "$(python3 "$tools/../service/reference" check <"$tools/../examples/plant_p2.toml")" = ok ]
 
 for seed in 1 71 1011; do
     "$tools/run" compare/generate_case "$seed" >"$work/once"

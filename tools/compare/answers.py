@@ -1,6 +1,6 @@
 """Compares answers of the program with those of the second implementation."""
 
-from tools.reference.answers import reference_answer
+from service.reference.answers import reference_answer
 
 from .program import program_answer
 

@@ -14,13 +14,13 @@ import subprocess
 import sys
 import tempfile
 
+from service.messages.words import KINDS
+from service.reference.encodings import number_of, split_tlvs
+from service.reference.messages import FLOW
+from service.reference.plant import read_plant
+from service.reference.program import split_input
 from tools import EXAMPLES, show_help
 from tools.compare.program import PROGRAM, program_answer
-from tools.messages.words import KINDS
-from tools.reference.encodings import number_of, split_tlvs
-from tools.reference.messages import FLOW
-from tools.reference.plant import read_plant
-from tools.reference.program import split_input
 
 CMTS, ALL_MODEMS = "020000000000", "01E02F000001"
 MAP = 3

@@ -22,6 +22,9 @@ import sys
 from collections import Counter
 from dataclasses import dataclass, field
 
+from service.reference.plant import PlantFault, read_plant
+from service.reference.program import Core, split_input
+from service.reference.resuming import Service
 from tools import show_help
 from tools.compare.answers import Answers, Differs, show
 from tools.compare.observing import observed
@@ -30,9 +33,6 @@ from tools.compare.script_changes import (CHANGED, addition, addition_of_class, 
 from tools.generator.case import case
 from tools.generator.changes import File
 from tools.generator.flows import pick
-from tools.reference.plant import PlantFault, read_plant
-from tools.reference.program import Core, split_input
-from tools.reference.resuming import Service
 
 MOST_LINES = 150
 

@@ -30,6 +30,10 @@ from collections import Counter
 from dataclasses import dataclass, field, replace
 from functools import partial
 
+from service.reference.answers import reference_answer
+from service.reference.plant import read_plant
+from service.reference.program import Core
+from service.reference.resuming import Service, snapshot_begun
 from tools import show_help
 from tools.compare import trials
 from tools.compare.observing import own_lines, settled_state, state_of
@@ -40,10 +44,6 @@ from tools.generator.changes import File
 from tools.generator.flows import pick
 from tools.generator.plants import plant, written
 from tools.generator.scripts import Known, ScriptMaker
-from tools.reference.answers import reference_answer
-from tools.reference.plant import read_plant
-from tools.reference.program import Core
-from tools.reference.resuming import Service, snapshot_begun
 
 MOST_OPERATORS, MOST_CLASSES, AT_A_TIME, REPORT_EACH, BOTH_EACH = 4, 5, 50, 1_000, 10
 

@@ -10,9 +10,9 @@ without the message. Prints a table, and exits with 1 at the first run that diff
 
 import sys
 
+from service.reference.answers import reference_answer
 from tools import EXAMPLES, show_help
 from tools.compare.program import PROGRAM, program_answer
-from tools.reference.answers import reference_answer
 
 P2 = (EXAMPLES / "plant_p2.toml").read_text()
 A1, B1 = "020000000001", "020000000003"

@@ -17,10 +17,10 @@ import sys
 import time
 from collections import Counter
 
+from service.reference.answers import reference_answer
 from tools import show_help
 from tools.compare.program import PROGRAM, fixed_answer, program_answer
 from tools.generator.case import case
-from tools.reference.answers import reference_answer
 
 PROCESSES = 2
 AT_A_TIME = 50

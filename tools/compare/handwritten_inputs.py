@@ -10,14 +10,14 @@ tools/compare/failed_allocations.sh runs the program on them.
 
 import sys
 
+from service.reference import coverage
+from service.reference.answers import reference_answer
+from service.reference.encodings import tlv
 from tools import show_help
 from tools.compare.program import PROGRAM, program_answer
 from tools.generator import message_bytes
 from tools.generator.message_bytes import flow, spelled
 from tools.generator.plant_text import channel_text, operator_text
-from tools.reference import coverage
-from tools.reference.answers import reference_answer
-from tools.reference.encodings import tlv
 
 A1, A2, B1 = "020000000001", "020000000002", "020000000003"
 SET_TYPE, PRIORITY, SUSTAINED, RESERVED, SCHEDULING = 6, 7, 8, 10, 15

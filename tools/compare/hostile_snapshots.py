@@ -31,6 +31,10 @@ import zlib
 from collections import Counter
 from functools import lru_cache, partial
 
+from service.reference.answers import reference_answer
+from service.reference.plant import read_plant
+from service.reference.program import Core, steps_of
+from service.reference.saving import snapshot_of
 from tools import show_help
 from tools.compare import trials
 from tools.compare.program import Started
@@ -38,10 +42,6 @@ from tools.compare.script_changes import ticks_to_rest
 from tools.generator.plants import plant, written
 from tools.generator.scripts import ScriptMaker
 from tools.generator.spoiling import spoiled, with_other_operators
-from tools.reference.answers import reference_answer
-from tools.reference.plant import read_plant
-from tools.reference.program import Core, steps_of
-from tools.reference.saving import snapshot_of
 
 OF_EACH, MOST_OPERATORS, MOST_PLANT_FILE, MOST_ARRIVALS, SECONDS = 100, 3, 1_200, 3, 20
 REPORT_EACH = 1_000

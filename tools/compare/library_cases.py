@@ -31,13 +31,13 @@ import sys
 import tempfile
 from collections import Counter
 
+from service.reference.program import Fault, judged_plant, judged_script, split_input, text_of
 from tools import ROOT
 from tools.compare import c_library
 from tools.compare.answers import Answers
 from tools.compare.program import PROGRAM
 from tools.compare.trials import run, tasks_of
 from tools.generator.case import case
-from tools.reference.program import Fault, judged_plant, judged_script, split_input, text_of
 
 BINDINGS = ROOT / "bindings"
 AT_A_TIME = 50

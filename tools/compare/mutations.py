@@ -12,9 +12,9 @@ import shutil
 import sys
 import tempfile
 
+from service.reference.program import answer
 from tools import ROOT, show_help
 from tools.generator.case import case
-from tools.reference.program import answer
 
 # A name, the file, a text of it, and the text that replaces it.
 EDITS = [
@@ -96,7 +96,7 @@ def edited(folder, place, edit):
     """Returns `answer` of the second implementation with an edit."""
     _, file, old, new = edit
     package = f"edited{place}"
-    shutil.copytree(ROOT / "tools/reference", folder / package, ignore=shutil.ignore_patterns("__pycache__"))
+    shutil.copytree(ROOT / "service/reference", folder / package, ignore=shutil.ignore_patterns("__pycache__"))
     path = folder / package / file
     text = path.read_text()
     if text.count(old) < 1:

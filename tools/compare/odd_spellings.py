@@ -10,9 +10,9 @@ NOT_OF_PYTHON: the program has to accept them.
 
 import sys
 
+from service.reference.answers import reference_answer
 from tools import EXAMPLES, show_help
 from tools.compare.program import PROGRAM, program_answer
-from tools.reference.answers import reference_answer
 
 P2 = (EXAMPLES / "plant_p2.toml").read_text()
 CHANNEL, OPERATORS = P2[:P2.index("[[operator]]")], P2[P2.index("[[operator]]"):]

@@ -4,10 +4,11 @@ import os
 import signal
 import subprocess
 
+from service import BUILT
+from service.reference.traces import fixed
 from tools import ROOT
-from tools.reference.traces import fixed
 
-PROGRAM = str(ROOT / "crates/plant_program/out/plant_program")
+PROGRAM = str(ROOT / BUILT)
 SECONDS = 120
 
 

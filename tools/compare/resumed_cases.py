@@ -23,13 +23,13 @@ import sys
 from collections import Counter
 from dataclasses import dataclass
 
+from service.reference.answers import reference_answer
+from service.reference.plant import PlantFault, read_plant
+from service.reference.program import split_input
 from tools import show_help
 from tools.compare.answers import Answers, Differs, show
 from tools.generator.case import case
 from tools.generator.spoiling import spoiled
-from tools.reference.answers import reference_answer
-from tools.reference.plant import PlantFault, read_plant
-from tools.reference.program import split_input
 
 SPOILED, CUTS = 20, 8
 

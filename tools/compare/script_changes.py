@@ -3,10 +3,10 @@
 import re
 from collections import Counter
 
+from service.reference import coverage
+from service.reference.book import LAST_FRAME
+from service.reference.plant import PlantFault, read_plant
 from tools.generator.changes import NEW_CLASSES, File, change_file, changed_bytes, class_name, make_room
-from tools.reference import coverage
-from tools.reference.book import LAST_FRAME
-from tools.reference.plant import PlantFault, read_plant
 
 MOST_TICKS_BEHIND, MOST_FRAMES = 20, 100_000
 OTHER_FORMS = (b"N", b"N ", b"N 00", b"N +1", b"N 4294967296", b"N 1 ", b"N -1", b"NN 1", b"N 1\r", b"N one")

@@ -9,11 +9,11 @@ if one differs.
 
 import sys
 
+from service.reference.plant import read_plant
+from service.reference.program import is_of, split_input
 from tools import EXAMPLES, show_help
 from tools.compare.program import PROGRAM, program_answer
 from tools.measure.large_script import of_operators
-from tools.reference.plant import read_plant
-from tools.reference.program import is_of, split_input
 
 
 

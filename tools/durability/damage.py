@@ -5,8 +5,8 @@ import io
 import random
 import shutil
 
-from tools.reference.journals import read_journal
-from tools.reference.state_folders import serve_state
+from service.reference.journals import read_journal
+from service.reference.state_folders import serve_state
 
 from .failures import EVERY
 from .judging import History, begin, judge_answers, lockstep

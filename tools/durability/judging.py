@@ -4,8 +4,8 @@ import pathlib
 import re
 from dataclasses import dataclass, field
 
-from tools.reference.journals import read_journal
-from tools.reference.state_folders import MOST_STORED
+from service.reference.journals import read_journal
+from service.reference.state_folders import MOST_STORED
 
 from .load import joined
 from .state_process import StateProcess

@@ -47,7 +47,7 @@ from .judging import Tally
 from .kills import try_kills, try_kills_of_beginnings
 from .power import try_power
 
-REFERENCE = [sys.executable, "-P", "-m", "tools.reference"]
+REFERENCE = [sys.executable, "-P", "-m", "service.reference"]
 KINDS = {"kill": try_kills, "beginning": try_kills_of_beginnings, "fail": try_failures, "power": try_power, "full": try_full_disks, "limit": try_limits,
          "folder": try_bad_folders, "cut": try_cuts, "change": try_changes, "two": try_two_processes, "both": try_both}
 COLUMNS = ("trial", "times", "answered lines", "lost", "wrong", "dead ends", "other", "seconds")

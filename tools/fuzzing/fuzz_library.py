@@ -25,12 +25,12 @@ import subprocess
 import sys
 import tempfile
 
+from service.reference.answers import reference_answer
+from service.reference.program import split_input
+from service.reference.resuming import SNAPSHOT
 from tools import EXAMPLES, ROOT
 from tools.ci.cases import cases_of
 from tools.compare import c_library
-from tools.reference.answers import reference_answer
-from tools.reference.program import split_input
-from tools.reference.resuming import SNAPSHOT
 
 SOURCE = ROOT / "tools/fuzzing/fuzz_library.c"
 PLANT = EXAMPLES / "plant_p2.toml"

@@ -11,14 +11,14 @@ The same seed gives the same case. tools/run compare/generated_cases uses `case`
 import random
 import sys
 
+from service.reference import coverage
+from service.reference.plant import read_plant
+from service.reference.program import Core, answer
 from tools import show_help
 from tools.generator.faults import spoil_plant
 from tools.generator.flows import pick
 from tools.generator.plants import PLANT_OF_ONE, plant, written
 from tools.generator.scripts import ScriptMaker, faulty_line, faulty_line_of_one
-from tools.reference import coverage
-from tools.reference.plant import read_plant
-from tools.reference.program import Core, answer
 
 
 def case(seed):

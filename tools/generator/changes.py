@@ -2,8 +2,8 @@
 
 import copy
 
-from tools.reference.encodings import CLASS_NAME, tlv
-from tools.reference.plant import document_of
+from service.reference.encodings import CLASS_NAME, tlv
+from service.reference.plant import document_of
 
 from .flows import pick
 from .plants import Style

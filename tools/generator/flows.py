@@ -1,6 +1,6 @@
 """Makes random flow encodings: parameters that suit a channel, and the ways in which an encoding can be invalid."""
 
-from tools.reference.encodings import WIDTH
+from service.reference.encodings import WIDTH
 
 from . import message_bytes
 

@@ -1,7 +1,7 @@
 """Writes the bytes of messages and flow encodings from numbers. Each part may be as wrong as a test wants it."""
 
-from tools.reference.encodings import WIDTH, tlv
-from tools.reference.messages import DSA_ACK, DSA_REQ, DSC_ACK, DSC_REQ, DSD_REQ, FLOW, write_number
+from service.reference.encodings import WIDTH, tlv
+from service.reference.messages import DSA_ACK, DSA_REQ, DSC_ACK, DSC_REQ, DSD_REQ, FLOW, write_number
 
 
 def spelled(fields):

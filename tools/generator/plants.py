@@ -2,7 +2,7 @@
 
 from dataclasses import dataclass, field
 
-from tools.reference.sets import NoSet, need_of, parameter_set
+from service.reference.sets import NoSet, need_of, parameter_set
 
 from .flows import fields_of, params, pick, rate_of, spelled
 

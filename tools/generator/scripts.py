@@ -2,10 +2,10 @@
 
 from dataclasses import dataclass, field
 
-from tools.reference.book import StepRefused, all_committed, may_ask
-from tools.reference.encodings import tlv
-from tools.reference.program import steps_of
-from tools.reference.sets import REQUIRED, NoSet, need_of, parameter_set
+from service.reference.book import StepRefused, all_committed, may_ask
+from service.reference.encodings import tlv
+from service.reference.program import steps_of
+from service.reference.sets import REQUIRED, NoSet, need_of, parameter_set
 
 from .flows import SKIPPED, fields_of, faulty, lessened, params, pick, spelled, spoilt, varied
 

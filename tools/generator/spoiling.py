@@ -2,7 +2,7 @@
 
 import re
 
-from tools.reference.saving import end_of
+from service.reference.saving import end_of
 
 
 def spoiled(rng, snapshot):

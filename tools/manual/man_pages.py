@@ -31,7 +31,7 @@ EXTENSIONS = ("definition_lists", "intraword_underscores", "all_symbols_escapabl
 WIDEST_CODE = 66
 INDENTATION = "    "
 ESCAPE = re.compile(r"\\(?:\[\w+\]|.)")
-COMMAND_LINE = re.compile(r"\(|cp |describe_state|plant_script|sed |systemctl|tools/|\./")
+COMMAND_LINE = re.compile(r"\(|cp |describe_state|plant_script|sed |systemctl|service/|tools/|\./")
 HEAD = re.compile(r'\.\\" Built by tools/run man_pages with pandoc (\S+)\. Do not edit\.\n\.\\" Read: (\w+)\n\.\\" Wrote: (\w+)\n')
 
 

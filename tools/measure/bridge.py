@@ -2,7 +2,7 @@
 
     tools/run measure/bridge [--echo] [--single N] [--lines N] [PROGRAM ..]
 
-A channel runs packaging/serve_channel with PROGRAM, or with the proved program if it is built, otherwise with the second implementation. With
+A channel runs service/systemd/serve_channel with PROGRAM, or with the proved program if it is built, otherwise with the second implementation. With
 --echo, a process that answers each line at once takes its place, so that nearly all of the time is that of the bridge. Each line is the same
 request, which gets the cached response.
 
@@ -75,7 +75,7 @@ class Place:
         self.pipe = os.open(self.folder / "in", os.O_RDWR)
         self.start([ROOT / "tools/run", "plant_bridge", "plant.toml", "in", "control.sock", "operators"])
         if self.program:
-            self.start([ROOT / "packaging/serve_channel", "plant.toml"], stdin=self.pipe)
+            self.start([ROOT / "service/systemd/serve_channel", "plant.toml"], stdin=self.pipe)
         else:
             self.start([sys.executable, "-P", "-m", "tools.measure.bridge", "--echo-channel", "in", "answers"])
         end = time.monotonic() + SECONDS_TO_START
@@ -194,7 +194,7 @@ def main():
     asked = parser.parse_args()
     if asked.echo_channel:
         echo(*asked.echo_channel)
-    built = [PROGRAM] if os.access(PROGRAM, os.X_OK) else [sys.executable, "-B", str(ROOT / "tools/reference")]
+    built = [PROGRAM] if os.access(PROGRAM, os.X_OK) else [sys.executable, "-B", str(ROOT / "service/reference")]
     program = [] if asked.echo else asked.program or built
     before = os.getloadavg()[0]
     print(f"behind the bridge: {'a process that answers at once' if asked.echo else ' '.join(program)}\n")

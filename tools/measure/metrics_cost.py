@@ -36,7 +36,7 @@ WAKE_SECONDS = 0.002
 def recorded(folder):
     """Returns the answers to each tick, and the lines up to it, of a channel that the second implementation serves."""
     given = [line for line, _ in itertools.islice(lines(), RECORDED_FRAMES * (MESSAGES_BEFORE_TICK + 1))]
-    words = [sys.executable, ROOT / "tools/reference", "serve", "--state", folder]
+    words = [sys.executable, ROOT / "service/reference", "serve", "--state", folder]
     text = (plant_text() + "---\n").encode() + b"".join(given)
     answers = subprocess.run(words, input=text, capture_output=True, check=True).stdout.partition(b"\n")[2]
     return whole_frames(answers), [b"".join(given[place:place + 5]) for place in range(0, len(given), 5)]
@@ -137,7 +137,7 @@ def measured_share(tool, folder, environment, writer, seconds):
 
 def print_time_of_a_state(journal):
     """Prints how long it takes to read the state that a journal has."""
-    from tools.watching.operator_state import read_state
+    from service.watching.operator_state import read_state
     data = b"".join(line[1:] + b"\n" for line in journal.read_bytes().split(b"\n\n")[0].split(b"\n")[1:])
     begun = time.process_time()
     read_state(data)

@@ -2,7 +2,7 @@
 
     tools/run measure/reload [--operators N] [--modems N] [--reloads N] [--folder FOLDER] [PROGRAM]
 
-The channel is packaging/serve_channel, as the unit runs it, with a folder in FOLDER, on the disk that is measured. Each modem has a flow. Each
+The channel is service/systemd/serve_channel, as the unit runs it, with a folder in FOLDER, on the disk that is measured. Each modem has a flow. Each
 reload adds a modem or removes it again. It takes from before the call until `serve_channel --change` returns. The gap takes from the last
 answer before the reload to the first one after it: a client writes a line T each 2 ms, which wait in the pipe meanwhile.
 
@@ -24,7 +24,7 @@ from tools.compare.program import PROGRAM
 from tools.generator.plant_text import channel_text, operator_text
 from tools.measure.latency import machine
 
-SCRIPT = ROOT / "packaging/serve_channel"
+SCRIPT = ROOT / "service/systemd/serve_channel"
 FRAME_SECONDS = 0.002
 MOST_SECONDS = 30
 
@@ -50,7 +50,7 @@ class Channel:
         self.plant.write_text(plant)
         os.mkfifo(folder / "in")
         self.pipe = os.open(folder / "in", os.O_RDWR)
-        self.environment = {"PATH": os.environ["PATH"], "PLANT_SCRIPT": str(program), "PASS_REASONS": str(ROOT / "packaging/pass_reasons"), "ANSWERS": str(self.answers),
+        self.environment = {"PATH": os.environ["PATH"], "PLANT_SCRIPT": str(program), "PASS_REASONS": str(ROOT / "service/systemd/pass_reasons"), "ANSWERS": str(self.answers),
                             "FOLDER": str(folder / "folder"), "STATE": str(folder / "state")}
         self.process = subprocess.Popen([SCRIPT, self.plant], stdin=self.pipe, stderr=subprocess.DEVNULL, env=self.environment, start_new_session=True, restore_signals=False)
         self.times, self.ends = [], threading.Event()

@@ -13,8 +13,8 @@ import os
 import statistics
 import time
 
+from service.reference.saving import end_of
 from tools.compare.program import PROGRAM, program_answer
-from tools.reference.saving import end_of
 
 RUNS, CHANGES = 5, 20
 SIZES = ((2, 16), (8, 128), (32, 16), (32, 1024))

@@ -15,7 +15,7 @@ import threading
 from tools import ROOT
 from tools.measure.metrics_cost import TICKS, processes
 
-UNITS = ROOT / "packaging/systemd"
+UNITS = ROOT / "service/systemd"
 SCRIPTS = "/usr/libexec/plant_script/"
 # What standard error is under systemd: then serve_channel passes the program's reasons through pass_reasons.
 JOURNAL = {"JOURNAL_STREAM": "0:0"}
@@ -68,7 +68,7 @@ class CommandChannel:
     def placed(self, text):
         """Returns a path of the unit, or a text with some, as it is here."""
         for path, here in (("/etc/plant_script/%i.toml", self.folder / "plant.toml"), ("/run/plant_script/%i/in", self.pipe),
-                           ("/var/lib/plant_script/%i", self.folder), (SCRIPTS, f"{ROOT}/packaging/")):
+                           ("/var/lib/plant_script/%i", self.folder), (SCRIPTS, f"{ROOT}/service/systemd/")):
             text = text.replace(path, str(here))
         return text
 
@@ -77,7 +77,7 @@ class CommandChannel:
 
     def environment(self):
         given = dict(self.placed(text).split("=", 1) for text in self.service["Environment"])
-        scripts = {name.upper(): f"{ROOT}/packaging/{name}" for name in ("pass_reasons", "report_progress")}
+        scripts = {name.upper(): f"{ROOT}/service/systemd/{name}" for name in ("pass_reasons", "report_progress")}
         watchdog = {"NOTIFY_SOCKET": str(self.folder / "notify"), "WATCHDOG_USEC": f"{self.service['WatchdogSec'][0]}000000"} if shutil.which("systemd-notify") else {}
         return {"PATH": os.environ["PATH"], "PLANT_SCRIPT": str(self.program), "RUNTIME_DIRECTORY": str(self.folder / "notes"), **JOURNAL, **given, **scripts, **watchdog}
 

@@ -30,19 +30,12 @@ from tools import ROOT
 from . import library_packages
 from .packing import COMMANDS, Commit, Refused, build_text, changelog, judge_commands, newer_source, run, sum_of, version_of
 
-from .packed_commands import write_commands
-
 PACKAGE = "plant-script"
 PROGRAM = "crates/plant_program/out/plant_program"
 PROVE_LOG = "crates/plant_program/out/prove.log"
 # What the rules of the package read: from the repository, to the folder in which they run.
-FILES = {"packaging/debian": "debian", "packaging/systemd": "systemd", "packaging/completions": "completions",
-         "packaging/serve_channel": "serve_channel", "packaging/tick_channel": "tick_channel", "packaging/pass_reasons": "pass_reasons",
-         "packaging/report_progress": "report_progress", "packaging/channel_group": "channel_group", "packaging/prometheus": "prometheus",
-         "packaging/operator_group": "operator_group", "tools/bridging": "tools/bridging",
-         "tools/reference": "tools/reference", "tools/watching": "tools/watching", "tools/__init__.py": "tools/__init__.py",
-         "tools/viewing": "tools/viewing", "tools/messages": "tools/messages",
-         "docs": "docs", "examples": "examples", "README.md": "README.md", "CHANGELOG.md": "CHANGELOG.md"}
+FILES = {"packaging/debian": "debian", "packaging/completions": "completions", "service": "service", "docs": "docs", "examples": "examples",
+         "README.md": "README.md", "CHANGELOG.md": "CHANGELOG.md"}
 
 
 def proved_program(root):
@@ -66,7 +59,6 @@ def proof_log(root, asked, program):
 
 
 def copy_files(root, program, folder):
-    write_commands(folder / "tools")
     for source, target in FILES.items():
         if (root / source).is_dir():
             shutil.copytree(root / source, folder / target, ignore=shutil.ignore_patterns("__pycache__", ".gitignore"))

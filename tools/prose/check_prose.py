@@ -1,5 +1,5 @@
 """Checks the prose of the documents: README.md, CHANGELOG.md, CONTRIBUTING.md, docs/*.md, docs/reference/*.md, packaging/README.md,
-tools/README.md, bindings/README.md and the README.md of each example.
+service/README.md, tools/README.md, bindings/README.md and the README.md of each example.
 
     tools/run ci/check_prose [FILE..]          checks the documents, or these files
     tools/run ci/check_prose --words < TEXT    checks the words of standard input alone, such as help or messages
@@ -28,8 +28,8 @@ from tools import ROOT
 from tools.prose.checks import findings_of, word_findings
 from tools.prose.markdown import split_document
 
-DOCUMENTS = ("README.md", "CHANGELOG.md", "CONTRIBUTING.md", "docs/*.md", "docs/reference/*.md", "packaging/README.md", "tools/README.md", "bindings/README.md",
-             "examples/**/README.md")
+DOCUMENTS = ("README.md", "CHANGELOG.md", "CONTRIBUTING.md", "docs/*.md", "docs/reference/*.md", "packaging/README.md", "service/README.md", "tools/README.md",
+             "bindings/README.md", "examples/**/README.md")
 
 
 def documents():

@@ -20,7 +20,7 @@ CODE_LINE = re.compile(r"\s*(?:[-*] )?`[^`]*`")
 NAMING = ("docs/ARCHITECTURE.md", "docs/THEOREM.md")
 NAMES = re.compile(r"[A-Za-z_]\w*(?:(?:::| )\w+)*")
 # A path of the repository, from its root, and a document named alone.
-PATH = re.compile(r"(?<![\w./-])(?:\./)?((?:docs|tools|crates|examples|tests|\.ci)/[\w./*-]*[\w*])")
+PATH = re.compile(r"(?<![\w./-])(?:\./)?((?:docs|packaging|service|tools|crates|examples|tests|\.ci)/[\w./*-]*[\w*])")
 DOCUMENT = re.compile(r"(?<![\w./-])([A-Z][A-Z-]*\.md)\b")
 
 

@@ -7,12 +7,11 @@ It does not know the line P.
 
 import sys
 
-from tools.reference.program import Fault, judged_script
-from tools.reference.resuming import plant_begun, snapshot_begun
-from tools.reference.saving import snapshot_of
-from tools.reference.services import line_of
-
-from .plant_process import SNAPSHOT
+from service.reference.program import Fault, judged_script
+from service.reference.resuming import plant_begun, snapshot_begun
+from service.reference.saving import snapshot_of
+from service.reference.services import line_of
+from service.replication.plant_process import SNAPSHOT
 
 BAR = b"---\n"
 

@@ -4,9 +4,8 @@ import random
 import threading
 import time
 
+from service.replication.engine import BROKEN, Publisher, lines_stream
 from tools.generator.message_bytes import dsa, dsa_ack, dsc, dsc_ack, dsd, flow
-
-from .engine import BROKEN, Publisher, lines_stream
 
 RETRY = 0.1
 # Parameters by subtype: best effort, real-time polling, unsolicited grants.

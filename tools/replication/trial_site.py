@@ -8,9 +8,9 @@ import subprocess
 import sys
 import time
 
+from service.replication.engine import BROKEN, Consumer, Nodes, Publisher, answers_stream, declare, lines_stream
 from tools import EXAMPLES, ROOT
 
-from .engine import BROKEN, Consumer, Nodes, Publisher, answers_stream, declare, lines_stream
 from .trial_load import Load
 from .trial_machines import PORT, Failed
 from .trial_watch import Watch, compare, delays, read_log
@@ -44,7 +44,7 @@ class ReplicaProcess:
     def start(self):
         nodes = [it.address for it in self.site.machines]
         nodes.remove(self.machine.address)
-        words = [sys.executable, "-P", "-m", "tools.replication.replicate", "serve", self.name, PLANT, "--state", self.state, "--label", self.label,
+        words = [sys.executable, "-P", "-m", "service.replication.replicate", "serve", self.name, PLANT, "--state", self.state, "--label", self.label,
                  "--snapshot-seconds", self.site.asked.snapshot_seconds, "--program", " ".join(map(str, self.site.program))]
         environment = {**os.environ, "PYTHONPATH": str(ROOT), "PLANT_NODES": " ".join(map(url_of, [self.machine.address, *nodes]))}
         self.log_start = self.log.stat().st_size if self.log.exists() else 0

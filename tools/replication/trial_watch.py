@@ -7,11 +7,11 @@ import threading
 import time
 from dataclasses import dataclass
 
-from .answers import Claim, Reader
-from .engine import Consumer, lines_stream
-from .numbering import lines_of
-from .plant_process import PlantProcess, beginning
-from .replicate import follow
+from service.replication.answers import Claim, Reader
+from service.replication.engine import Consumer, lines_stream
+from service.replication.numbering import lines_of
+from service.replication.plant_process import PlantProcess, beginning
+from service.replication.replicate import follow
 
 # How many lines are compared one by one. All are compared as one text.
 COMPARED_ONE_BY_ONE = 20_000

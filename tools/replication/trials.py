@@ -33,9 +33,8 @@ import sys
 import tempfile
 import time
 
+from service.replication import engine
 from tools.compare.program import PROGRAM
-
-from . import engine
 
 PACKAGES = ("rabbitmq-server", "python3-pika", "iproute2", "util-linux")
 PARTITION_SECONDS, STEADY_SECONDS, REPAIR_SECONDS = 15, 30, 30

@@ -1,4 +1,4 @@
-"""Tests packaging/prometheus: each alert fires when it should and only then, and the dashboard shows metrics that there are.
+"""Tests service/prometheus: each alert fires when it should and only then, and the dashboard shows metrics that there are.
 
 Debian's package `prometheus` has promtool. Without it nothing here runs but what reads the files.
 """
@@ -13,7 +13,7 @@ import unittest
 
 from tools import ROOT
 
-FOLDER = ROOT / "packaging/prometheus"
+FOLDER = ROOT / "service/prometheus"
 RULES, TESTS = ((FOLDER / name).read_text() for name in ("alerts.yml", "alerts_test.yml"))
 NO_PROMTOOL = "promtool is not installed: neither alerts nor queries were tried"
 # A number of an expression: not in a name, in a text, or in a range such as [10m].

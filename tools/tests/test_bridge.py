@@ -1,7 +1,7 @@
-"""Tests plant_bridge (tools/bridging) with real sockets, and the clients of examples/clients.
+"""Tests plant_bridge (service/bridging) with real sockets, and the clients of examples/clients.
 
 The first tests play the channel: they read its pipe, and write answers that are typed from docs/FORMATS.md. The others run
-packaging/serve_channel with the second implementation, and with the proved program if it is built. None needs systemd.
+service/systemd/serve_channel with the second implementation, and with the proved program if it is built. None needs systemd.
 """
 
 import contextlib
@@ -23,16 +23,16 @@ import unittest
 from datetime import date
 from random import Random
 
+from service.bridging import connections, rounds
+from service.bridging.bridge import Bridge as BridgeOfModule
+from service.bridging.lines import judge_line
+from service.bridging.outputs import read_output
+from service.bridging.rights import rights_of
+from service.reference.plant import read_plant
+from service.reference.program import Core
+from service.reference.services import answer_of_line
 from tools import EXAMPLES, ROOT
-from tools.bridging import connections, rounds
-from tools.bridging.bridge import Bridge as BridgeOfModule
-from tools.bridging.lines import judge_line
-from tools.bridging.outputs import read_output
-from tools.bridging.rights import rights_of
 from tools.compare.program import PROGRAM
-from tools.reference.plant import read_plant
-from tools.reference.program import Core
-from tools.reference.services import answer_of_line
 
 SECONDS, SECONDS_TO_START = 30, 60
 # A test that waits fails after this time, once the bridge has an edit. One with a channel has the whole time.
@@ -41,7 +41,7 @@ SECONDS_OF_EDIT = 5
 EDITS_OF_A_DAY = 8
 # Nothing comes within this time if nothing is to come.
 SECONDS_OF_SILENCE = 0.3
-TOP = {"tools": ROOT}
+TOP = {"service": ROOT}
 # (a python3 of the path that is a script would start slowly)
 PATH = f"{pathlib.Path(sys.executable).parent}:{os.environ['PATH']}"
 PLANT = (EXAMPLES / "plant_p2.toml").read_text()
@@ -134,7 +134,7 @@ class Bridge(unittest.TestCase):
     def start_bridge(self, words=None, **environment):
         words = ["plant.toml", "in", "control.sock", "operators"] if words is None else words
         environment = {"PATH": PATH, "ANSWERS": str(self.answers), **environment}
-        self.bridge = self.start(TOP["tools"] / "tools/run", "plant_bridge", *words, cwd=self.folder, env=environment)
+        self.bridge = self.start(TOP["service"] / "service/plant_bridge", *words, cwd=self.folder, env=environment)
         return self.bridge
 
     def wait_for_sockets(self):
@@ -608,7 +608,7 @@ class Sockets(Bridge):
             os.dup2(made.fileno(), 3)
             os.environ["LISTEN_PID"] = str(os.getpid())
 
-        words = ["sh", "-c", 'LISTEN_PID=$$ exec "$@"', "sh", TOP["tools"] / "tools/run", "plant_bridge", "plant.toml", "in", "passed.sock", "operators"]
+        words = ["sh", "-c", 'LISTEN_PID=$$ exec "$@"', "sh", TOP["service"] / "service/plant_bridge", "plant.toml", "in", "passed.sock", "operators"]
         self.start(*words, cwd=self.folder, env={"PATH": PATH, "ANSWERS": str(self.answers), "LISTEN_FDS": "1"}, preexec_fn=pass_on, pass_fds=[3])
         owner = self.client("passed.sock")
         owner.write("T")
@@ -693,7 +693,7 @@ class Channel(Bridge):
     def setUp(self):
         super().setUp()
         program = self.folder / "program"
-        program.write_text(f'#!/bin/sh\nexec {self.program or f"/usr/bin/python3 -B {ROOT}/tools/reference"} "$@"\n')
+        program.write_text(f'#!/bin/sh\nexec {self.program or f"/usr/bin/python3 -B {ROOT}/service/reference"} "$@"\n')
         program.chmod(0o755)
         self.settings = {"PLANT_SCRIPT": str(program), "ANSWERS": str(self.answers), "FOLDER": str(self.folder / "folder"), "PATH": PATH}
         self.start_bridge(FOLDER=str(self.folder / "folder"))
@@ -706,7 +706,7 @@ class Channel(Bridge):
 
     def start_channel(self):
         with (self.folder / "in").open("r+b", buffering=0) as pipe:
-            return self.start(ROOT / "packaging/serve_channel", self.folder / "plant.toml", stdin=pipe, env=self.settings, stdout=subprocess.DEVNULL)
+            return self.start(ROOT / "service/systemd/serve_channel", self.folder / "plant.toml", stdin=pipe, env=self.settings, stdout=subprocess.DEVNULL)
 
     def tick(self, number):
         self.owner.write("T")
@@ -744,7 +744,7 @@ class Channel(Bridge):
         (self.folder / "plant.toml").write_text(PLANT.replace(f'"{THREE}"', f'"{THREE}", "{new}"'))
         of_b.write(f"M {new} {ADD}")
         self.assertEqual(of_b.read(), [f"1 refused: modem: {new} is not a modem of B"])
-        words = [ROOT / "packaging/serve_channel", "--change", self.folder / "plant.toml", self.folder / "in"]
+        words = [ROOT / "service/systemd/serve_channel", "--change", self.folder / "plant.toml", self.folder / "in"]
         done = subprocess.run(words, env=self.settings, capture_output=True, text=True, timeout=SECONDS, check=False)
         self.assertEqual(done.returncode, 0, done.stderr)
         self.assertEqual(of_b.read(), ["- started frame 0"])
@@ -857,19 +857,19 @@ class Edits(unittest.TestCase):
 
     def is_noticed(self, case, test, module, old, new):
         with tempfile.TemporaryDirectory() as folder:
-            for name in ("__init__.py", "bridging", "reference", "watching", "run", "commands.txt"):
-                copy = shutil.copytree if (ROOT / "tools" / name).is_dir() else shutil.copy
-                (pathlib.Path(folder) / "tools").mkdir(exist_ok=True)
-                copy(ROOT / "tools" / name, pathlib.Path(folder, "tools", name))
-            path = pathlib.Path(folder, "tools/bridging", f"{module}.py")
+            (pathlib.Path(folder) / "service").mkdir()
+            for name in ("__init__.py", "bridging", "reference", "watching", "plant_bridge"):
+                copy = shutil.copytree if (ROOT / "service" / name).is_dir() else shutil.copy
+                copy(ROOT / "service" / name, pathlib.Path(folder, "service", name))
+            path = pathlib.Path(folder, "service/bridging", f"{module}.py")
             text = path.read_text()
             self.assertEqual(text.count(old), 1, f"{module}.py has not once: {old}")
             path.write_text(text.replace(old, new))
-            TOP["tools"] = pathlib.Path(folder)
+            TOP["service"] = pathlib.Path(folder)
             try:
                 return self.fails(case, test)
             finally:
-                TOP["tools"] = ROOT
+                TOP["service"] = ROOT
 
     def edits(self):
         return EDITS if os.environ.get("ALL_EDITS") else EDITS[date.today().toordinal() % EDITS_OF_A_DAY::EDITS_OF_A_DAY]

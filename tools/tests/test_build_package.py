@@ -10,6 +10,7 @@ import pathlib
 import re
 import shutil
 import subprocess
+import sys
 import tarfile
 import tempfile
 import unittest
@@ -36,19 +37,19 @@ usr/share/plant-script/alerts.yml usr/share/plant-script/dashboard.json usr/shar
 usr/lib/systemd/system/plant-bridge@.service usr/lib/systemd/system/plant-bridge@.socket usr/libexec/plant_script/plant_bridge
 usr/share/doc/plant-script/BRIDGE.md usr/share/doc/plant-script/STANDBY.md
 usr/bin/describe_state usr/share/man/man1/describe_state.1.gz usr/bin/plant_view usr/share/man/man1/plant_view.1.gz usr/bin/dsx
-usr/share/man/man1/dsx.1.gz usr/lib/plant_script/tools/viewing/page.html""".split()
-# The tools and the examples that are packed are those of the repository.
+usr/share/man/man1/dsx.1.gz usr/lib/plant_script/service/viewing/page.html""".split()
+# The commands, their modules and the examples that are packed are those of the repository.
 COMMANDS = ("describe_state", "watch_channel", "renumber_channel", "plant_bridge", "plant_view", "dsx")
-TOOLS = ["tools/__init__.py", *(f"tools/{name}" for name in COMMANDS)] + [
-    str(path.relative_to(ROOT)) for folder in ("reference", "watching", "viewing", "messages", "bridging") for path in (ROOT / "tools" / folder).glob("*.py")]
-PACKED += [f"usr/lib/plant_script/{name}" for name in TOOLS]
+MODULES = ["service/__init__.py"] + [
+    str(path.relative_to(ROOT)) for folder in ("reference", "watching", "viewing", "messages", "bridging") for path in (ROOT / "service" / folder).glob("*.py")]
+PACKED += [f"usr/lib/plant_script/service/{name}" for name in COMMANDS] + [f"usr/lib/plant_script/{name}" for name in MODULES]
 PACKED += [f"usr/share/doc/plant-script/examples/{path.relative_to(EXAMPLES)}" for path in EXAMPLES.rglob("*")
            if path.is_file() and path.name != ".gitignore" and "__pycache__" not in path.parts]
-EXECUTABLE = {"usr/bin/plant_script", *(f"usr/lib/plant_script/tools/{name}" for name in COMMANDS)} | {
+EXECUTABLE = {"usr/bin/plant_script", *(f"usr/lib/plant_script/service/{name}" for name in COMMANDS)} | {
     f"usr/libexec/plant_script/{name}" for name in ("serve_channel", "tick_channel", "pass_reasons", "report_progress", "channel_group", "operator_group")} | {
     f"usr/share/doc/plant-script/examples/{path.relative_to(EXAMPLES)}" for path in EXAMPLES.rglob("*") if path.is_file() and os.access(path, os.X_OK)}
-LINKS = {f"usr/bin/{name}": f"../lib/plant_script/tools/{name}" for name in ("describe_state", "plant_view", "dsx")}
-LINKS |= {f"usr/libexec/plant_script/{name}": f"../../lib/plant_script/tools/{name}" for name in ("watch_channel", "renumber_channel", "plant_bridge")}
+LINKS = {f"usr/bin/{name}": f"../lib/plant_script/service/{name}" for name in ("describe_state", "plant_view", "dsx")}
+LINKS |= {f"usr/libexec/plant_script/{name}": f"../../lib/plant_script/service/{name}" for name in ("watch_channel", "renumber_channel", "plant_bridge")}
 MISSING = sorted({package for command, package in TOOL.COMMANDS.items() if not shutil.which(command)})
 VERSION = "0.1~20261124.0930.g"
 
@@ -184,7 +185,15 @@ class Package(unittest.TestCase):
         again = TOOL.build(ROOT, self.top / "second", self.program, True, 1, self.log)
         self.assertEqual({name: path.read_bytes() for name, path in self.files.items()}, {path.name: path.read_bytes() for path in again})
 
-    def test_its_tools_run_from_where_they_are_installed(self):
+    def test_its_modules_import_nothing_that_is_not_packed(self):
+        subprocess.run(["dpkg-deb", "--extract", self.package, self.top / "alone"], check=True)
+        top = self.top / "alone/usr/lib/plant_script"
+        names = [".".join(path.relative_to(top).with_suffix("").parts) for path in sorted(top.rglob("*.py")) if path.stem not in ("__init__", "__main__")]
+        done = subprocess.run([sys.executable, "-P", "-B", "-c", f"import {', '.join(names)}"], env={"PYTHONPATH": str(top)}, cwd="/",
+                              capture_output=True, text=True, check=False)
+        self.assertEqual((done.returncode, done.stderr, len(names) > 50), (0, "", True))
+
+    def test_its_commands_run_from_where_they_are_installed(self):
         subprocess.run(["dpkg-deb", "--extract", self.package, self.top / "installed"], check=True)
         for name, text in (("usr/bin/describe_state", "--json"), ("usr/libexec/plant_script/watch_channel", "CHANNEL PLANT PIPE"),
                            ("usr/libexec/plant_script/plant_bridge", "PLANT PIPE CONTROL SOCKETS"),
@@ -194,7 +203,7 @@ class Package(unittest.TestCase):
             self.assertIn(text, done.stdout)
         self.assertEqual(list((self.top / "installed").rglob("__pycache__")), [])
 
-    def test_its_tools_do_what_those_of_the_repository_do(self):
+    def test_its_commands_do_what_those_of_the_repository_do(self):
         """plant_view draws an example of the package, and dsx writes and reads a message."""
         place = self.top / "in_use"
         subprocess.run(["dpkg-deb", "--extract", self.package, place], check=True)

@@ -4,16 +4,16 @@ import random
 import unittest
 from dataclasses import replace
 
+from service.reference.answers import reference_answer
+from service.reference.changes import NotChanged, changed_core
+from service.reference.plant import PlantFault, read_plant
+from service.reference.program import Core
+from service.reference.resuming import Service, split_file
 from tools import EXAMPLES
 from tools.compare import changed_cases
 from tools.compare.answers import Answers, Differs
 from tools.generator.changes import File, change_file, changed_bytes
 from tools.generator.plants import plant, written
-from tools.reference.answers import reference_answer
-from tools.reference.changes import NotChanged, changed_core
-from tools.reference.plant import PlantFault, read_plant
-from tools.reference.program import Core
-from tools.reference.resuming import Service, split_file
 
 P2 = (EXAMPLES / "plant_p2.toml").read_text()
 A1, B1 = "020000000001", "020000000003"

@@ -6,11 +6,11 @@ import subprocess
 import tempfile
 import unittest
 
+from service.reference.answers import reference_answer
+from service.reference.plant import read_plant
 from tools import EXAMPLES
 from tools.compare import c_library
 from tools.compare.c_library import DONE, HEADER, NONE_WAITS, SHORT, Channel, names_of_codes
-from tools.reference.answers import reference_answer
-from tools.reference.plant import read_plant
 
 P2 = (EXAMPLES / "plant_p2.toml").read_bytes()
 A1 = "020000000001"

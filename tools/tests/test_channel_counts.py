@@ -7,11 +7,11 @@ import unittest
 from collections import Counter
 from unittest import mock
 
-from tools.watching.figures import Figures
-from tools.watching.followed_file import FollowedFile, last_map
-from tools.watching.journal_lines import JournalLines, kind_of
-from tools.watching.surroundings import UnitStates, disk_of, states_of, waiting_bytes
-from tools.watching.tick_times import BOUNDS, STEP_SECONDS, TickTimes
+from service.watching.figures import Figures
+from service.watching.followed_file import FollowedFile, last_map
+from service.watching.journal_lines import JournalLines, kind_of
+from service.watching.surroundings import UnitStates, disk_of, states_of, waiting_bytes
+from service.watching.tick_times import BOUNDS, STEP_SECONDS, TickTimes
 
 SAVED = "=line {}\n=melfjits-snapshot 1 5\n=end 2 2\n\n"
 
@@ -274,7 +274,7 @@ class Frames(unittest.TestCase):
     """The answers are counted in pieces of any size, and a frame's number or an operator's name makes no difference."""
 
     def figures(self, text, size=10**9):
-        from tools.watching.outputs import Outputs
+        from service.watching.outputs import Outputs
         figures, outputs = Figures({}), Outputs()
         for place in range(0, len(text), size):
             for piece in outputs.pieces(text[place:place + size]):
@@ -296,7 +296,7 @@ class Frames(unittest.TestCase):
 
     def test_much_text_is_counted_at_once(self):
         figures = Figures({})
-        with mock.patch("tools.watching.figures.MOST_TEXT", 100):
+        with mock.patch("service.watching.figures.MOST_TEXT", 100):
             for frame in range(20):
                 figures.take(b"F A %d 0/6/0/9\nMAP %d 01\n" % (frame, frame), 1.0)
         self.assertGreater(figures.outputs["map"], 15)

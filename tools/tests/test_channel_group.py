@@ -1,4 +1,4 @@
-"""Tests packaging/channel_group with commands of its own in place of groupadd and getent. Needs neither root nor systemd.
+"""Tests service/systemd/channel_group with commands of its own in place of groupadd and getent. Needs neither root nor systemd.
 
 tools/ci/package_trial tries it with real users and channels.
 """
@@ -8,7 +8,7 @@ import unittest
 from tools import ROOT
 from tools.tests.group_script import GroupScript
 
-SCRIPT = ROOT / "packaging/channel_group"
+SCRIPT = ROOT / "service/systemd/channel_group"
 UNITS = ("plant@{}.socket", "plant-bridge@{}.socket", "plant@{}.service", "plant-bridge@{}.service", "plant-ticker@{}.service", "plant-metrics@{}.service",
          "plant-renumber@{}.service")
 

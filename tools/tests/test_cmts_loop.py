@@ -5,10 +5,10 @@ import subprocess
 import tempfile
 import unittest
 
+from service.reference.answers import reference_answer
+from service.reference.plant import read_plant
 from tools import EXAMPLES
 from tools.compare import c_library
-from tools.reference.answers import reference_answer
-from tools.reference.plant import read_plant
 
 FOLDER = EXAMPLES / "cmts_loop"
 PLANT = EXAMPLES / "plant_p2.toml"

@@ -4,15 +4,15 @@ import unittest
 from collections import Counter
 from unittest import mock
 
+from service.reference import resuming
+from service.reference.answers import reference_answer
+from service.reference.changes import changed_core
+from service.reference.numbering import renumbered_core
+from service.reference.plant import read_plant
 from tools import EXAMPLES
 from tools.compare import continued_cases
 from tools.compare.continued_cases import Different, continued_case, judge
 from tools.compare.observing import own_lines, settled_state
-from tools.reference import resuming
-from tools.reference.answers import reference_answer
-from tools.reference.changes import changed_core
-from tools.reference.numbering import renumbered_core
-from tools.reference.plant import read_plant
 
 P2 = (EXAMPLES / "plant_p2.toml").read_text()
 STEP = 2**29

@@ -19,8 +19,8 @@ ENVIRONMENT = {**os.environ, "PYTHONPATH": str(ROOT)}
 # A service that does what the second implementation does, with a mistake.
 WRONG = """
 import os, sys
-from tools.reference import journals, state_folders
-from tools.reference.answers import reference_answer
+from service.reference import journals, state_folders
+from service.reference.answers import reference_answer
 Journal, Service = journals.Journal, state_folders.StateService
 {mistake}
 words = sys.argv[1:]

@@ -13,12 +13,12 @@ import tempfile
 import unittest
 from unittest import mock
 
+from service.watching import describe_state, folder_states
+from service.watching.folder_states import NoState
+from service.watching.outputs import Outputs
 from tools import EXAMPLES, ROOT
 from tools.compare.program import PROGRAM
 from tools.tests.test_watching import RECORDS, SNAPSHOT, journal_text, snapshot_text
-from tools.watching import describe_state, folder_states
-from tools.watching.folder_states import NoState
-from tools.watching.outputs import Outputs
 
 P2 = (EXAMPLES / "plant_p2.toml").read_text()
 # Operator A has room for 9 flows and 6 responses. A response awaits 4 ticks, then twice 4 more, and is retained for 20.
@@ -26,7 +26,7 @@ PLANT = (P2.replace("ucd_count = 1", "ucd_count = 1\nack_wait = 4\nresends = 2\n
          .replace("transactions = 4", "transactions = 6", 1).replace("elements = 8", "elements = 40", 1))
 PROVISIONED = PLANT.replace('"020000000002"]', '"020000000002"]\n[[operator.flow]]\nmodem = "020000000001"\nencoding = "0601070F0102"', 1)
 ONE, TWO, THREE = "020000000001", "020000000002", "020000000003"
-REFERENCE = [sys.executable, str(ROOT / "tools/reference")]
+REFERENCE = [sys.executable, str(ROOT / "service/reference")]
 COMMANDS = [REFERENCE] + [[PROGRAM]] * os.access(PROGRAM, os.X_OK)
 DELETED = re.compile(rb"R 020000000001 16[0-9A-F]{4}0000")
 
@@ -53,7 +53,7 @@ def snapshot_after(lines, plant=PLANT, command=REFERENCE):
 
 
 def describe(*words, given=b"", **environment):
-    done = subprocess.run([ROOT / "tools/describe_state", *words], input=given, capture_output=True, check=False, env={**os.environ, **environment})
+    done = subprocess.run([ROOT / "service/describe_state", *words], input=given, capture_output=True, check=False, env={**os.environ, **environment})
     return done.returncode, done.stdout.decode(), done.stderr.decode()
 
 
@@ -223,7 +223,7 @@ class Release(unittest.TestCase):
             output, end = os.pipe2(os.O_DIRECT)
             with open(end, "wb") as file:
                 environment = {**os.environ, "PYTHONUNBUFFERED": unbuffered}
-                subprocess.run([ROOT / "tools/describe_state", "--release", ONE, "-"], input=before, stdout=file, check=True, env=environment)
+                subprocess.run([ROOT / "service/describe_state", "--release", ONE, "-"], input=before, stdout=file, check=True, env=environment)
             with open(output, "rb", buffering=0) as file:
                 found = [file.read(4_096), file.read(4_096), file.read(4_096)]
             self.assertEqual(found, [f"M {ONE} 157FFF000000000101\n".encode(), f"M {ONE} 157FFE000000000102\n".encode(), b""])
@@ -357,7 +357,7 @@ class What(unittest.TestCase):
 
     def test_an_output_that_cannot_be_written(self):
         with open("/dev/full", "wb") as full:
-            done = subprocess.run([ROOT / "tools/describe_state", "-"], input=SNAPSHOT, stdout=full, stderr=subprocess.PIPE, check=False)
+            done = subprocess.run([ROOT / "service/describe_state", "-"], input=SNAPSHOT, stdout=full, stderr=subprocess.PIPE, check=False)
         self.assertEqual((done.returncode, done.stderr.count(b"\n")), (6, 1))
 
 

@@ -1,4 +1,4 @@
-"""Tests the command tools/dsx: its errors, its streams, and how it marks the TLVs that the program refuses.
+"""Tests the command service/dsx: its errors, its streams, and how it marks the TLVs that the program refuses.
 
 Where a mark has a code and a subtype, the second implementation has to reply with these.
 """
@@ -8,10 +8,10 @@ import subprocess
 import threading
 import unittest
 
+from service.reference.program import answer
 from tools import EXAMPLES, ROOT
-from tools.reference.program import answer
 
-DSX = ROOT / "tools/dsx"
+DSX = ROOT / "service/dsx"
 PLANT = (EXAMPLES / "plant_p2.toml").read_text()
 FLOW = "180A010200010601060F0102"
 # A command needs less memory than this. What reads an endless input as a whole needs more.
@@ -77,28 +77,28 @@ class Streams(unittest.TestCase):
 
     def test_a_full_device(self):
         for command in ("lines", "script", "names", f"read 0F0001{FLOW}", "dsa tid=1", "--help", f"read 0F0001{FLOW} XX"):
-            statuses, output, errors = in_shell(f"yes 'M 020000000001 0F0001{FLOW}' | timeout 30 tools/dsx {command} > /dev/full")
+            statuses, output, errors = in_shell(f"yes 'M 020000000001 0F0001{FLOW}' | timeout 30 service/dsx {command} > /dev/full")
             self.assertEqual((statuses[1], output), ("6", ""), command)
             self.assertEqual(errors, ["dsx: standard output cannot be written: No space left on device; the rest of the output is lost"])
 
     def test_a_reader_that_leaves(self):
         for command, first in {"lines": f"M 020000000001 0F0001{FLOW}", "script": f"M 020000000001 0F0001{FLOW}"}.items():
-            statuses, output, errors = in_shell(f"yes 'M 020000000001 0F0001{FLOW}' | timeout 30 tools/dsx {command} | head -1")
+            statuses, output, errors = in_shell(f"yes 'M 020000000001 0F0001{FLOW}' | timeout 30 service/dsx {command} | head -1")
             self.assertEqual((statuses[1], output.splitlines()), ("6", [first]), command)
             self.assertEqual(errors, ["dsx: the reader of standard output has left: the rest of the output is lost"])
 
     def test_a_reader_that_takes_what_it_wants(self):
-        self.assertEqual(in_shell("tools/dsx names | head -1"), (["0", "0"], "ref=           1  Service Flow Reference\n", []))
+        self.assertEqual(in_shell("service/dsx names | head -1"), (["0", "0"], "ref=           1  Service Flow Reference\n", []))
 
     def test_closed_streams(self):
-        self.assertEqual(in_shell("tools/dsx names >&-"), (["6"], "", ["dsx: standard output is closed: all output is lost"]))
-        self.assertEqual(in_shell("tools/dsx lines <&-"), (["6"], "", ["dsx: standard input is closed: give it a file or a pipe"]))
+        self.assertEqual(in_shell("service/dsx names >&-"), (["6"], "", ["dsx: standard output is closed: all output is lost"]))
+        self.assertEqual(in_shell("service/dsx lines <&-"), (["6"], "", ["dsx: standard input is closed: give it a file or a pipe"]))
 
     def test_inputs_without_an_end(self):
         for command in ("lines", "script"):
-            statuses, _, errors = in_shell(f"timeout 20 tr '\\0' x < /dev/zero | timeout 20 tools/dsx {command} > /dev/null")
+            statuses, _, errors = in_shell(f"timeout 20 tr '\\0' x < /dev/zero | timeout 20 service/dsx {command} > /dev/null")
             self.assertEqual((statuses[1], errors), ("6", ["dsx: line 1 has more than 1048576 characters, which no input of the program has"]))
-        statuses, output, errors = in_shell("timeout 20 yes '# of a plant file or of a script' | timeout 20 tools/dsx script")
+        statuses, output, errors = in_shell("timeout 20 yes '# of a plant file or of a script' | timeout 20 service/dsx script")
         self.assertEqual((statuses[1], output, errors), ("6", "", ["dsx: the first 1048576 characters of the input are comments"]))
 
     def test_a_line_is_copied_when_it_comes(self):

@@ -60,7 +60,7 @@ def commands(block):
 
 def room_for(folder, plant_script):
     """Prepares a folder in which the commands run as at the top of the repository."""
-    for name in ("examples", "tools"):
+    for name in ("examples", "service", "tools"):
         (folder / name).symlink_to(ROOT / name)
     script = folder / "plant_script"
     script.write_text(f'#!/bin/sh\nexec {plant_script} "$@"\n')
@@ -100,7 +100,7 @@ class Guide(unittest.TestCase):
     def test_by_the_second_implementation(self):
         for document in DOCUMENTS:
             with self.subTest(document):
-                self.assertEqual(differences_by(f"python3 '{ROOT}/tools/reference'", document), [])
+                self.assertEqual(differences_by(f"python3 '{ROOT}/service/reference'", document), [])
 
     @unittest.skipUnless(PROGRAM.is_file(), "the program is not built: it ran no command of the documents")
     def test_by_the_program(self):

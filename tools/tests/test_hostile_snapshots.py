@@ -6,12 +6,12 @@ import tempfile
 import unittest
 from collections import Counter
 
+from service.reference.answers import reference_answer
+from service.reference.saving import end_of
 from tools import EXAMPLES
 from tools.compare import hostile_snapshots, trials
 from tools.compare.program import Started
 from tools.generator.spoiling import with_other_operators
-from tools.reference.answers import reference_answer
-from tools.reference.saving import end_of
 
 P2 = (EXAMPLES / "plant_p2.toml").read_text()
 FRONT = f"melfjits-snapshot 1 {len(P2)}\n{P2}---\n"

@@ -10,11 +10,11 @@ import tempfile
 import unittest
 from unittest import mock
 
+from service.reference.answers import reference_answer
 from tools import ROOT
 from tools.compare import c_library
 from tools.measure import library, library_memory
 from tools.measure.latency import REPLY, SILENT, TICK, plant_text
-from tools.reference.answers import reference_answer
 
 NOT_BUILT = "the library for C is not built (tools/ci/build_channel_c): nothing was measured"
 # As callgrind writes it: a name is there once, and its number later. Two requests, of which one allocates.

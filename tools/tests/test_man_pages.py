@@ -108,8 +108,8 @@ class Pages(unittest.TestCase):
 
     def test_commands_of_dsx(self):
         """The page has the commands that `dsx --help` lists, and no other."""
-        listed = subprocess.run([ROOT / "tools/dsx", "--help"], capture_output=True, text=True, check=True).stdout
-        commands = re.findall(r"^    (?:tools/)?dsx (\w+)", listed.partition("\nKIND is")[0], re.MULTILINE)
+        listed = subprocess.run([ROOT / "service/dsx", "--help"], capture_output=True, text=True, check=True).stdout
+        commands = re.findall(r"^    dsx (\w+)", listed.partition("\nKIND is")[0], re.MULTILINE)
         terms = [term.split(" ")[0] for term in self.terms("dsx.1", "COMMANDS") if not term.startswith("-")]
         self.assertEqual((set(terms), "KIND" in terms), (set(commands), True))
 

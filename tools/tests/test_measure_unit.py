@@ -19,7 +19,7 @@ from tools.measure.unit import FRAMES_OF_A_LINE, Client, Growth, client_lines, f
 from tools.measure.unit_channels import CannotStart, CommandChannel, UnitChannel, size
 
 FRAME = 0.002
-PROGRAM = f'#!/bin/sh\nexec {sys.executable} {ROOT}/tools/reference "$@"\n'
+PROGRAM = f'#!/bin/sh\nexec {sys.executable} {ROOT}/service/reference "$@"\n'
 SYSTEMCTL = '#!/bin/sh\necho "$*" >>"$PLACE/asked"\ncase $1 in start) exit "$STATUS" ;; show) echo "$PROCESS" ;; esac\n'
 
 
@@ -135,7 +135,7 @@ class Channels(Folder):
         place.mkdir()
         channel = CommandChannel(place, "a = 1\n", program)
         self.assertEqual(channel.process.wait(10), 3)
-        self.assertEqual(channel.words(), [f"{ROOT}/packaging/serve_channel", f"{place}/plant.toml"])
+        self.assertEqual(channel.words(), [f"{ROOT}/service/systemd/serve_channel", f"{place}/plant.toml"])
         found = dict(line.split("=", 1) for line in (place / "folder.env").read_text().splitlines())
         self.assertEqual({name: found[name] for name in ("ANSWERS", "FOLDER", "STATE", "RUNTIME_DIRECTORY")},
                          {"ANSWERS": f"{place}/answers", "FOLDER": f"{place}/folder", "STATE": f"{place}/state", "RUNTIME_DIRECTORY": f"{place}/notes"})
@@ -190,7 +190,7 @@ class Runs(Folder):
         lines = list(itertools.islice(client_lines(), 64))
         flood = b"".join(itertools.islice(flood_lines(), 40))
         text = plant_text(2).encode() + b"---\n" + flood + b"".join(line + b"T\n" for line, _ in lines)
-        output = subprocess.run([sys.executable, ROOT / "tools/reference", "serve"], input=text, capture_output=True, check=True).stdout
+        output = subprocess.run([sys.executable, ROOT / "service/reference", "serve"], input=text, capture_output=True, check=True).stdout
         replies = [line.split() for line in output.splitlines() if line.startswith(b"R 0201")]
         self.assertEqual([(reply[1], reply[2][2:6], reply[2][6:8]) for reply in replies], [(*key, b"00") for _, key in lines if key])
         self.assertNotIn(b"fault", output)

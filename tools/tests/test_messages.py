@@ -1,4 +1,4 @@
-"""Tests tools/messages/words.py: words and bytes typed from docs/FORMATS.md, and each fault by its text. Every message in the repository, in
+"""Tests service/messages/words.py: words and bytes typed from docs/FORMATS.md, and each fault by its text. Every message in the repository, in
 the inputs of tools/run compare/handwritten_inputs and in generated cases, with its replies, and random bytes are translated to words and back.
 """
 
@@ -7,14 +7,14 @@ import re
 import subprocess
 import unittest
 
+from service.messages.verdicts import first_fault
+from service.messages.words import WordsFault, bytes_of_flow, bytes_of_message, parts_of_flow, parts_of_message, words_of
+from service.reference.encodings import LENGTHS, tlv
+from service.reference.messages import FIXED_PART, NoAnswer, read_header
+from service.reference.program import answer
 from tools import EXAMPLES, ROOT
 from tools.compare.handwritten_inputs import all_inputs
 from tools.generator.case import case
-from tools.messages.verdicts import first_fault
-from tools.messages.words import WordsFault, bytes_of_flow, bytes_of_message, parts_of_flow, parts_of_message, words_of
-from tools.reference.encodings import LENGTHS, tlv
-from tools.reference.messages import FIXED_PART, NoAnswer, read_header
-from tools.reference.program import answer
 
 CASES = 30
 TYPED = {
@@ -144,7 +144,7 @@ class Words(unittest.TestCase):
             self.assertEqual(bytes_of_flow(words_of(parts_of_flow(data))), data)
 
     def dsx(self, *words, given=""):
-        done = subprocess.run([ROOT / "tools/dsx", *words], input=given, capture_output=True, text=True, check=False)
+        done = subprocess.run([ROOT / "service/dsx", *words], input=given, capture_output=True, text=True, check=False)
         return done.returncode, done.stdout, done.stderr
 
     def test_tool(self):

@@ -1,11 +1,11 @@
-"""Tests packaging/operator_group with commands of its own in place of groupadd and getent. Needs neither root nor systemd."""
+"""Tests service/systemd/operator_group with commands of its own in place of groupadd and getent. Needs neither root nor systemd."""
 
 import unittest
 
 from tools import ROOT
 from tools.tests.group_script import GroupScript
 
-SCRIPT = ROOT / "packaging/operator_group"
+SCRIPT = ROOT / "service/systemd/operator_group"
 FOLDER = "plant-bridge@east.service.d"
 
 

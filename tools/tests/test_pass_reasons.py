@@ -1,4 +1,4 @@
-"""Tests packaging/pass_reasons: priorities, the limit and its counts, and that its writer never waits. test_serve_channel.py tests it in its place."""
+"""Tests service/systemd/pass_reasons: priorities, the limit and its counts, and that its writer never waits. test_serve_channel.py tests it in its place."""
 
 import io
 import os
@@ -14,7 +14,7 @@ import unittest
 
 from tools import ROOT
 
-SCRIPT = ROOT / "packaging/pass_reasons"
+SCRIPT = ROOT / "service/systemd/pass_reasons"
 TEXTS = {"pass_reasons": SCRIPT.read_text()}
 # What crates/program_runner writes of a refused change, with reasons of an invalid plant file, and what it writes at its end.
 REFUSED = """line 7: the plant is not changed: the plant file is invalid, for the reasons that follow; its lines are counted from 1

@@ -1,4 +1,4 @@
-"""Tests tools/plan_capacity: by channels of the second implementation, and by the library for C if that is built."""
+"""Tests service/plan_capacity: by channels of the second implementation, and by the library for C if that is built."""
 
 import contextlib
 import io
@@ -8,11 +8,11 @@ import tempfile
 import unittest
 
 from bindings.python.melfjits import Reply
+from service.planning import plan_capacity as TOOL
+from service.reference.plant import read_plant
+from service.reference.program import Core
 from tools import EXAMPLES, ROOT
 from tools.compare import c_library
-from tools.planning import plan_capacity as TOOL
-from tools.reference.plant import read_plant
-from tools.reference.program import Core
 
 # Budget 32, 4 flows, 8 elements, 4 cached responses. A call of 232 bytes takes 15 minislots of 16 bytes and an element.
 # A best effort flow takes no minislot without a reserve, and two elements.
@@ -84,7 +84,7 @@ class Command(unittest.TestCase):
         self.library = f"{folder.name}/libmelfjits.so"
 
     def run_command(self, *words):
-        done = subprocess.run([ROOT / "tools/plan_capacity", *words, "--library", self.library], capture_output=True, text=True, check=False)
+        done = subprocess.run([ROOT / "service/plan_capacity", *words, "--library", self.library], capture_output=True, text=True, check=False)
         return done.returncode, [re.split(r" *\| *", line)[1:-1] for line in done.stdout.splitlines()[2:]], done.stderr
 
     def test_the_library_says_the_same_as_the_second_implementation(self):

@@ -18,21 +18,21 @@ import subprocess
 import tempfile
 import unittest
 
+from service.reference.answers import reference_answer
+from service.reference.book import StepRefused, all_committed
+from service.reference.encodings import SCHEDULING
+from service.reference.program import Core, Fault, answer, judged_plant, judged_script
+from service.viewing.axis import slice_changes, spread, time_of
+from service.viewing.budgets import Budgets, read_budgets
+from service.viewing.kinds import kinds_in, kinds_of
+from service.viewing.page import page
+from service.viewing.picture import picture
+from service.viewing.run_output import NoOutput, part_of, read_output
+from service.viewing.styles import COLOURS, ink_on, styles
+from service.viewing.sums import sums_of
 from tools import EXAMPLES, ROOT
 from tools.generator.case import case
 from tools.measure.large_script import of_maps
-from tools.reference.answers import reference_answer
-from tools.reference.book import StepRefused, all_committed
-from tools.reference.encodings import SCHEDULING
-from tools.reference.program import Core, Fault, answer, judged_plant, judged_script
-from tools.viewing.axis import slice_changes, spread, time_of
-from tools.viewing.budgets import Budgets, read_budgets
-from tools.viewing.kinds import kinds_in, kinds_of
-from tools.viewing.page import page
-from tools.viewing.picture import picture
-from tools.viewing.run_output import NoOutput, part_of, read_output
-from tools.viewing.styles import COLOURS, ink_on, styles
-from tools.viewing.sums import sums_of
 
 OUTPUT = """R 020000000001 10000100180E0102000102040000010103020101
 S 020000000003 Empty

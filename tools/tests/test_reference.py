@@ -2,14 +2,14 @@
 
 import unittest
 
+from service.reference.captures import captured, header_sum
+from service.reference.encodings import FlowFault, read_flow
+from service.reference.plant import PlantFault, read_plant
+from service.reference.program import answer
+from service.reference.schedule import rank_of
+from service.reference.sets import NoSet, first_failing, need_of, parameter_set
+from service.reference.traces import fixed, traced
 from tools import EXAMPLES
-from tools.reference.captures import captured, header_sum
-from tools.reference.encodings import FlowFault, read_flow
-from tools.reference.plant import PlantFault, read_plant
-from tools.reference.program import answer
-from tools.reference.schedule import rank_of
-from tools.reference.sets import NoSet, first_failing, need_of, parameter_set
-from tools.reference.traces import fixed, traced
 
 P2 = (EXAMPLES / "plant_p2.toml").read_text()
 A1 = "020000000001"

@@ -13,9 +13,9 @@ import time
 import types
 import unittest
 
+from service.watching import renumber_channel
+from service.watching.renumber_channel import HALF, LAST_FRAME, Ended, judge, least_number, step_of
 from tools import EXAMPLES, ROOT
-from tools.watching import renumber_channel
-from tools.watching.renumber_channel import HALF, LAST_FRAME, Ended, judge, least_number, step_of
 
 PLANT = (EXAMPLES / "plant_p2.toml").read_text()
 # 72 minislots are 8 times 9, so numbers are 2^29 apart. This one is the sixth, beyond three quarters.
@@ -77,7 +77,7 @@ class Channel(unittest.TestCase):
         """Starts a channel, and waits until it has answered lines."""
         os.write(self.pipe, f"{text}---\n{lines}".encode())
         with open(self.top / "answers", "wb") as answers:
-            words = [sys.executable, ROOT / "tools/reference", "serve", "--state", self.top / "folder"]
+            words = [sys.executable, ROOT / "service/reference", "serve", "--state", self.top / "folder"]
             process = subprocess.Popen(words, stdin=self.pipe, stdout=answers)
         for done in (process.wait, process.kill):
             self.addCleanup(done)

@@ -2,14 +2,14 @@
 
 import unittest
 
+from service.reference.answers import reference_answer
+from service.reference.numbering import NotRenumbered, number_in, requests_number
+from service.reference.plant import read_plant
+from service.reference.program import Core
+from service.reference.resuming import Service
 from tools import EXAMPLES
 from tools.compare import renumbered_cases
 from tools.compare.answers import Answers, Differs
-from tools.reference.answers import reference_answer
-from tools.reference.numbering import NotRenumbered, number_in, requests_number
-from tools.reference.plant import read_plant
-from tools.reference.program import Core
-from tools.reference.resuming import Service
 
 P2 = (EXAMPLES / "plant_p2.toml").read_text()
 STEP = 2**29

@@ -12,16 +12,16 @@ import types
 import unittest
 import zlib
 
+from service.reference.answers import reference_answer
+from service.replication import engine
+from service.replication.answers import Batch, Claim, Malformed, Reader, parse_message
+from service.replication.numbering import Position, lines_of
+from service.replication.plant_process import MOST_BYTES, PlantFailed, PlantProcess, beginning, chunks_of, text_of, units_of
+from service.replication.replica import Deposed, Differs, Replica
+from service.replication.replicate import messages_of, whole_part
+from service.replication.state_file import Damaged, State, parse_state, read_state, write_state
 from tools import EXAMPLES, ROOT
-from tools.reference.answers import reference_answer
-from tools.replication import engine
-from tools.replication.answers import Batch, Claim, Malformed, Reader, parse_message
 from tools.replication.trial_load import random_line
-from tools.replication.numbering import Position, lines_of
-from tools.replication.plant_process import MOST_BYTES, PlantFailed, PlantProcess, beginning, chunks_of, text_of, units_of
-from tools.replication.replica import Deposed, Differs, Replica
-from tools.replication.replicate import messages_of, whole_part
-from tools.replication.state_file import Damaged, State, parse_state, read_state, write_state
 
 P2 = (EXAMPLES / "plant_p2.toml").read_bytes()
 MODEMS = (b"020000000001", b"020000000002", b"020000000003")

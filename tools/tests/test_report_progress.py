@@ -1,4 +1,4 @@
-"""Tests packaging/report_progress with processes of its own in place of a channel's, and a systemd-notify that only counts. Needs no systemd.
+"""Tests service/systemd/report_progress with processes of its own in place of a channel's, and a systemd-notify that only counts. Needs no systemd.
 
 tools/ci/package_trial tries it under systemd with the real program.
 """
@@ -16,7 +16,7 @@ import unittest
 
 from tools import ROOT
 
-SCRIPT = ROOT / "packaging/report_progress"
+SCRIPT = ROOT / "service/systemd/report_progress"
 TEXTS = {"report_progress": SCRIPT.read_text()}
 SECONDS = 10
 WATCHDOG_USEC = 400_000

@@ -5,15 +5,15 @@ import re
 import textwrap
 import unittest
 
+from service.reference.answers import reference_answer
+from service.reference.plant import read_plant
+from service.reference.resuming import resumed, split_snapshot
+from service.reference.saving import end_of
+from service.reference.snapshots import SnapshotFault, read_snapshot
+from service.reference.states import StateFault, books_of
 from tools import EXAMPLES, ROOT
 from tools.compare import answers, resumed_cases
 from tools.generator.spoiling import mended, spoiled
-from tools.reference.answers import reference_answer
-from tools.reference.plant import read_plant
-from tools.reference.resuming import resumed, split_snapshot
-from tools.reference.saving import end_of
-from tools.reference.snapshots import SnapshotFault, read_snapshot
-from tools.reference.states import StateFault, books_of
 
 P2 = (EXAMPLES / "plant_p2.toml").read_text()
 DOCUMENT = (ROOT / "docs/FORMATS.md").read_text()

@@ -34,7 +34,7 @@ def commands(text):
 
 class Page(unittest.TestCase):
     def test_each_alert_has_a_section_and_no_other(self):
-        alerts = re.findall(r"(?m)^ +- alert: (\w+)$", (ROOT / "packaging/prometheus/alerts.yml").read_text())
+        alerts = re.findall(r"(?m)^ +- alert: (\w+)$", (ROOT / "service/prometheus/alerts.yml").read_text())
         self.assertGreater(len(alerts), 20)
         self.assertEqual([heading for heading in sections() if heading.startswith("Melfjits")], alerts)
 
@@ -52,17 +52,17 @@ class Commands(unittest.TestCase):
         self.addCleanup(folder.cleanup)
         self.top = pathlib.Path(folder.name)
         (self.top / "folder").mkdir()
-        words = [sys.executable, ROOT / "tools/reference", "serve", "--state", self.top / "folder"]
+        words = [sys.executable, ROOT / "service/reference", "serve", "--state", self.top / "folder"]
         with open(self.top / "answers", "wb") as answers:
             subprocess.run(words, input=f"{PLANT}---\n{LINES}".encode(), stdout=answers, check=True)
         self.program = self.top / "program"
-        self.program.write_text(f'#!/bin/sh\nexec {sys.executable} {ROOT}/tools/reference "$@"\n')
+        self.program.write_text(f'#!/bin/sh\nexec {sys.executable} {ROOT}/service/reference "$@"\n')
         self.program.chmod(0o755)
 
     def run_command(self, heading, beginning):
         """Runs the command of a section that begins so, on the files of the channel, and returns what it prints."""
         found, = [line for line in commands(sections()[heading]) if line.startswith(beginning)]
-        text = found.split(" > ")[0].replace("--channel east", f"--folder {FOLDER}/folder").replace("describe_state", str(ROOT / "tools/describe_state"))
+        text = found.split(" > ")[0].replace("--channel east", f"--folder {FOLDER}/folder").replace("describe_state", str(ROOT / "service/describe_state"))
         done = subprocess.run(["sh", "-c", text.replace(FOLDER, str(self.top))], capture_output=True, text=True, check=False,
                               env={**os.environ, "PLANT_SCRIPT": str(self.program)})
         self.assertEqual((done.returncode, done.stderr), (0, ""), found)

@@ -5,8 +5,8 @@ and refuses one more of each operator, and no plant has room for one flow more. 
 import re
 import unittest
 
+from service.reference.program import answer
 from tools import ROOT
-from tools.reference.program import answer
 
 TEXT = (ROOT / "docs/SCOPE.md").read_text()
 CHANNEL = """[plant]

@@ -1,4 +1,4 @@
-"""Tests packaging/serve_channel with a program of its own, a script of sh, and a pipe that stays open as systemd keeps it. Needs no systemd.
+"""Tests service/systemd/serve_channel with a program of its own, a script of sh, and a pipe that stays open as systemd keeps it. Needs no systemd.
 
 tools/ci/package_trial tries the same script under systemd with the real program. The units' exposure is tested if systemd-analyze is there.
 """
@@ -22,9 +22,9 @@ import unittest
 
 from tools import ROOT
 
-SCRIPT = ROOT / "packaging/serve_channel"
+SCRIPT = ROOT / "service/systemd/serve_channel"
 TEXTS = {"serve_channel": SCRIPT.read_text()}
-UNITS = ROOT / "packaging/systemd"
+UNITS = ROOT / "service/systemd"
 SECONDS = 10
 # A test that waits fails after this time, once the script has an edit.
 SECONDS_OF_EDIT = 2
@@ -388,7 +388,7 @@ class Channel(unittest.TestCase):
         record = next((self.folder / "records").iterdir()).read_text()
         self.assertEqual(record, "a = 1\nb = 2\n---\none\nP\na = 2\n---\ntwo\n")
 
-    JOURNAL = {"JOURNAL_STREAM": "8:1", "PASS_REASONS": str(ROOT / "packaging/pass_reasons")}
+    JOURNAL = {"JOURNAL_STREAM": "8:1", "PASS_REASONS": str(ROOT / "service/systemd/pass_reasons")}
 
     def start_with_journal(self, **environment):
         """Starts a channel whose standard error is the journal's, and waits for its first answer."""

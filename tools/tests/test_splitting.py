@@ -1,4 +1,4 @@
-"""Tests `tools/dsx split` and `tools/dsx join`. All bytes are typed from Annex C of the standard. tshark reads each whole message.
+"""Tests `service/dsx split` and `service/dsx join`. All bytes are typed from Annex C of the standard. tshark reads each whole message.
 
 The second implementation replies to what split gives the program. Where tshark is not installed, what it reads is not tested.
 """
@@ -14,12 +14,12 @@ import tempfile
 import threading
 import unittest
 
+from service.messages.splitting import lines_of_join, lines_of_split
+from service.messages.words import WordsFault
+from service.reference.captures import framed, little
+from service.reference.encodings import split_tlvs, tlv
+from service.reference.program import answer
 from tools import EXAMPLES, ROOT
-from tools.messages.splitting import lines_of_join, lines_of_split
-from tools.messages.words import WordsFault
-from tools.reference.captures import framed, little
-from tools.reference.encodings import split_tlvs, tlv
-from tools.reference.program import answer
 
 CALL = EXAMPLES / "telephone_call"
 PLANT = (CALL / "run.txt").read_text().partition("---\n")[0]
@@ -84,7 +84,7 @@ def reply_to(message):
 
 
 def dsx(*words, given=""):
-    done = subprocess.run([ROOT / "tools/dsx", *words], input=given, capture_output=True, text=True, timeout=60, check=False)
+    done = subprocess.run([ROOT / "service/dsx", *words], input=given, capture_output=True, text=True, timeout=60, check=False)
     return done.returncode, done.stdout, done.stderr
 
 
@@ -149,7 +149,7 @@ class Commands(unittest.TestCase):
         self.assertEqual(dsx("join")[0], 2)
 
     def test_lines_that_come_one_by_one(self):
-        with subprocess.Popen([ROOT / "tools/dsx", "split"], stdin=subprocess.PIPE, stdout=subprocess.PIPE, stderr=subprocess.PIPE, text=True) as splitter:
+        with subprocess.Popen([ROOT / "service/dsx", "split"], stdin=subprocess.PIPE, stdout=subprocess.PIPE, stderr=subprocess.PIPE, text=True) as splitter:
             watch = threading.Timer(10, splitter.kill)
             watch.start()
             self.addCleanup(watch.cancel)
@@ -161,7 +161,7 @@ class Commands(unittest.TestCase):
             self.assertEqual(splitter.returncode, 2)
 
     def test_a_full_device(self):
-        done = subprocess.run(["bash", "-c", f"yes {REQUEST} | timeout 30 tools/dsx split > /dev/full"], cwd=ROOT, capture_output=True, text=True,
+        done = subprocess.run(["bash", "-c", f"yes {REQUEST} | timeout 30 service/dsx split > /dev/full"], cwd=ROOT, capture_output=True, text=True,
                               timeout=60, check=False)
         self.assertEqual(done.stderr, "dsx: standard output cannot be written: No space left on device; the rest of the output is lost\n")
         self.assertEqual(done.returncode, 6)

@@ -1,4 +1,4 @@
-"""Tests of tools/standby with two folders on one machine. As a command it measures how many answered lines a standby lacks:
+"""Tests of service/standby with two folders on one machine. As a command it measures how many answered lines a standby lacks:
 
     python3 -m tools.tests.test_standby PROGRAM [KILLS [LINES_A_SECOND]]
 """
@@ -13,10 +13,10 @@ import tempfile
 import time
 import unittest
 
+from service.replication.standby import CannotGoOn, Journal, hand_on, put_journal
 from tools import EXAMPLES, ROOT
-from tools.replication.standby import CannotGoOn, Journal, hand_on, put_journal
 
-STANDBY, PLANT = ROOT / "tools/standby", (EXAMPLES / "plant_p2.toml").read_bytes()
+STANDBY, PLANT = ROOT / "service/standby", (EXAMPLES / "plant_p2.toml").read_bytes()
 JOURNAL = b"=line 5\n=melfjits-snapshot 1 2\n=a\n=---\n=frame 3 0\n=end 6 9\n\n"
 
 
@@ -75,7 +75,7 @@ class Standby(unittest.TestCase):
         place = tempfile.TemporaryDirectory()
         self.addCleanup(place.cleanup)
         self.place, self.program = pathlib.Path(place.name), pathlib.Path(place.name) / "program"
-        self.program.write_text(f'#!/bin/sh\nexec {sys.executable} {ROOT}/tools/reference "$@"\n')
+        self.program.write_text(f'#!/bin/sh\nexec {sys.executable} {ROOT}/service/reference "$@"\n')
         self.program.chmod(0o755)
 
     def test_a_standby_has_each_line_over_saved_states_and_restarts(self):

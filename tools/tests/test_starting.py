@@ -274,7 +274,7 @@ class Unproved(Starting):
         place = self.place(has_rt=False)
         status, output, errors = place.run("plant_script", "run")
         self.assertEqual((status, output), (127, ""))
-        for part in ("no command rt", "./prove", "README.md", "tools/reference run"):
+        for part in ("no command rt", "./prove", "README.md", "service/reference run"):
             self.assertIn(part, errors)
 
 

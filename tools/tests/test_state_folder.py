@@ -9,11 +9,11 @@ import subprocess
 import tempfile
 import unittest
 
+from service.reference.journals import read_journal
+from service.reference.saving import end_of
+from service.reference.state_folders import serve_state
 from tools import EXAMPLES
 from tools.compare.program import PROGRAM
-from tools.reference.journals import read_journal
-from tools.reference.saving import end_of
-from tools.reference.state_folders import serve_state
 
 P2 = (EXAMPLES / "plant_p2.toml").read_text()
 WITH_GOLD = P2 + '[[class]]\nname = "gold"\nencoding = "070105"\n'

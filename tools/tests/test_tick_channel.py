@@ -1,4 +1,4 @@
-"""Tests packaging/tick_channel, with a pipe that stays open as systemd keeps it. tools/ci/package_trial tries it under systemd."""
+"""Tests service/systemd/tick_channel, with a pipe that stays open as systemd keeps it. tools/ci/package_trial tries it under systemd."""
 
 import os
 import pathlib
@@ -10,7 +10,7 @@ import unittest
 
 from tools import EXAMPLES, ROOT
 
-SCRIPT = ROOT / "packaging/tick_channel"
+SCRIPT = ROOT / "service/systemd/tick_channel"
 SECONDS = 10
 
 

@@ -1,4 +1,4 @@
-"""Tests the metrics of a channel and its state in words (tools/watching), from answers and snapshots that are typed from docs/FORMATS.md.
+"""Tests the metrics of a channel and its state in words (service/watching), from answers and snapshots that are typed from docs/FORMATS.md.
 
 The numbers that are expected are computed by hand from docs/RULES.md: what a flow needs, and which minislots a frame grants.
 """
@@ -20,12 +20,12 @@ import zlib
 from collections import Counter
 from unittest import mock
 
+from service.watching import describe_state, folder_states, metrics, watch_channel
+from service.watching.figures import Figures
+from service.watching.operator_state import Unreadable, operators_of_modems, read_state
+from service.watching.outputs import Outputs
+from service.watching.snapshot_requests import SnapshotRequests
 from tools import ROOT
-from tools.watching import describe_state, folder_states, metrics, watch_channel
-from tools.watching.figures import Figures
-from tools.watching.operator_state import Unreadable, operators_of_modems, read_state
-from tools.watching.outputs import Outputs
-from tools.watching.snapshot_requests import SnapshotRequests
 
 SECONDS = 30
 # A frame has 2,000 microseconds, and a minislot 16 bytes. So 64,000 bits a second reserve 1 minislot, and a grant of 64 bytes takes 4.
@@ -182,7 +182,7 @@ class SplittingOutputs(unittest.TestCase):
 
     def test_what_never_ends_is_not_kept(self):
         outputs = Outputs()
-        with mock.patch("tools.watching.outputs.MOST_BYTES", 1_000):
+        with mock.patch("service.watching.outputs.MOST_BYTES", 1_000):
             outputs.take(b"a" * 999)
             self.assertEqual(len(outputs.rest), 999)
             outputs.take(b"a" * 2)
@@ -571,7 +571,7 @@ class Process(unittest.TestCase):
 
     def test_a_channel_with_a_folder_is_not_asked(self):
         program, folder = self.folder / "program", self.folder / "folder"
-        program.write_text(f"#!/bin/sh\n[ $1 = resume ] || exit 2\nPYTHONPATH={ROOT} exec {sys.executable} -P -m tools.reference resume\n")
+        program.write_text(f"#!/bin/sh\n[ $1 = resume ] || exit 2\nPYTHONPATH={ROOT} exec {sys.executable} -P -m service.reference resume\n")
         program.chmod(0o755)
         folder.mkdir()
         (folder / "journal").write_bytes(journal_text())
@@ -638,7 +638,7 @@ Modem 02000000000A of operator Alfa: 2 flows, last transaction 1493 ticks ago
 """
 
     def run_with(self, *words, given=b""):
-        done = subprocess.run([ROOT / "tools/describe_state", *words], input=given, capture_output=True, check=False)
+        done = subprocess.run([ROOT / "service/describe_state", *words], input=given, capture_output=True, check=False)
         return done.returncode, done.stdout.decode(), done.stderr.decode()
 
     def test_words(self):
@@ -687,7 +687,7 @@ class Folder(unittest.TestCase):
         self.top, self.folder = pathlib.Path(folder.name), pathlib.Path(folder.name, "folder")
         self.folder.mkdir()
         self.program = self.top / "program"
-        self.program.write_text(f"#!/bin/sh\nPYTHONPATH={ROOT} exec {sys.executable} -P -m tools.reference \"$@\"\n")
+        self.program.write_text(f"#!/bin/sh\nPYTHONPATH={ROOT} exec {sys.executable} -P -m service.reference \"$@\"\n")
         self.program.chmod(0o755)
 
     def write(self, data):
@@ -695,7 +695,7 @@ class Folder(unittest.TestCase):
 
     def describe(self, *words):
         environment = {**os.environ, "PLANT_SCRIPT": str(self.program)}
-        done = subprocess.run([ROOT / "tools/describe_state", *words], capture_output=True, text=True, check=False, env=environment)
+        done = subprocess.run([ROOT / "service/describe_state", *words], capture_output=True, text=True, check=False, env=environment)
         return done.returncode, done.stdout, done.stderr
 
     def frame(self, data):

@@ -44,7 +44,7 @@ fn check_read(
 }
 
 #[test]
-fn each_read_that_fails_is_status_6(rt: HostRuntime) -> Result<(), Fail> {
+fn each_read_that_fails_is_an_io_fault(rt: HostRuntime) -> Result<(), Fail> {
     let input = script_input(rt.alloc())?;
     for case in CASES {
         for fails_at in 0..input.len().saturating_add(2) {
@@ -57,7 +57,7 @@ fn each_read_that_fails_is_status_6(rt: HostRuntime) -> Result<(), Fail> {
 
 /// An interrupted read is not tried again either.
 #[test]
-fn a_read_that_fails_is_status_6(rt: HostRuntime) -> Result<(), Fail> {
+fn a_read_that_fails_is_an_io_fault(rt: HostRuntime) -> Result<(), Fail> {
     // The input has 31 bytes, so its end is told by the 32nd read.
     for fails_at in 0..=32 {
         let kind = io::ErrorKind::Interrupted;
@@ -79,7 +79,7 @@ fn nothing_is_read_for_words_that_are_no_order(rt: HostRuntime) -> Result<(), Fa
 }
 
 #[test]
-fn an_input_that_is_too_long_is_status_6(rt: HostRuntime) -> Result<(), Fail> {
+fn an_input_that_is_too_long_is_an_io_fault(rt: HostRuntime) -> Result<(), Fail> {
     let mut reader = BufReader::new(rt.alloc(), Endless { reads: 0 })?;
     let mut text = Vec::new(rt.alloc());
     let status = run_program(&rt, rt.alloc(), &["one"], &mut reader, &mut text);

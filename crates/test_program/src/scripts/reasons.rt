@@ -27,7 +27,7 @@ fn a_key_of_a_flow_that_nothing_reads(rt: HostRuntime) -> Result<(), Fail> {
 }
 
 #[test]
-fn causes_of_statuses_5_to_7(rt: HostRuntime) -> Result<(), Fail> {
+fn causes_of_memory_input_and_stray_steps(rt: HostRuntime) -> Result<(), Fail> {
     for (trouble, wanted) in [
         (
             Trouble::Memory,

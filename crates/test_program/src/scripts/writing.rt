@@ -53,7 +53,7 @@ fn check_write(
 }
 
 #[test]
-fn each_write_that_fails_is_status_6(rt: HostRuntime) -> Result<(), Fail> {
+fn each_write_that_fails_is_an_io_fault(rt: HostRuntime) -> Result<(), Fail> {
     for case in CASES {
         for fails_at in 0..case.2.len().saturating_add(2) {
             check_write(&rt, rt.alloc(), case, fails_at)?;
@@ -65,7 +65,7 @@ fn each_write_that_fails_is_status_6(rt: HostRuntime) -> Result<(), Fail> {
 /// A capture whose writer fails is not whole, and the line of a failed write is after what was
 /// written.
 #[test]
-fn each_write_of_a_capture_that_fails_is_status_6(rt: HostRuntime) -> Result<(), Fail> {
+fn each_write_of_a_capture_that_fails_is_an_io_fault(rt: HostRuntime) -> Result<(), Fail> {
     let alloc = rt.alloc();
     let file = decode(alloc, CAPTURE).ok().ok_or("no digits")?;
     for fails_at in 0..file.len() / 3 + 2 {
@@ -88,7 +88,7 @@ fn each_write_of_a_capture_that_fails_is_status_6(rt: HostRuntime) -> Result<(),
 
 /// A writer that takes no byte fails, and nothing can be reported.
 #[test]
-fn a_writer_that_takes_nothing_is_status_6(rt: HostRuntime) -> Result<(), Fail> {
+fn a_writer_that_takes_nothing_is_an_io_fault(rt: HostRuntime) -> Result<(), Fail> {
     for (words, _status, _text) in CASES {
         let writer = Narrow::failing_once(rt.alloc(), 0, usize::MAX);
         let (told, held) = run_into_writer(&rt, rt.alloc(), words, writer)?;
@@ -100,7 +100,7 @@ fn a_writer_that_takes_nothing_is_status_6(rt: HostRuntime) -> Result<(), Fail> 
 
 /// A writer that fails from one write on: nothing more is reported.
 #[test]
-fn a_write_that_fails_is_status_6(rt: HostRuntime) -> Result<(), Fail> {
+fn a_write_that_fails_is_an_io_fault(rt: HostRuntime) -> Result<(), Fail> {
     for fails_at in 0..=41 {
         let mut reader = ADDITION.as_bytes();
         let mut writer = Narrow::failing_from(rt.alloc(), 1, fails_at);
@@ -113,7 +113,7 @@ fn a_write_that_fails_is_status_6(rt: HostRuntime) -> Result<(), Fail> {
 }
 
 #[test]
-fn a_flush_that_fails_is_status_6_and_told_if_it_can_be(rt: HostRuntime) -> Result<(), Fail> {
+fn a_flush_that_fails_is_an_io_fault_that_is_told_if_it_can_be(rt: HostRuntime) -> Result<(), Fail> {
     let mut reader = ADDITION.as_bytes();
     let held = Vec::new(rt.alloc());
     let mut writer = Unflushed { held };

@@ -1,1 +1,0 @@
-"""Draws the output of a run or of a service: reads its lines, sums them, and makes the page or the picture of tools/run plant_view."""
