@@ -113,7 +113,9 @@ fn a_write_that_fails_is_an_io_fault(rt: HostRuntime) -> Result<(), Fail> {
 }
 
 #[test]
-fn a_flush_that_fails_is_an_io_fault_that_is_told_if_it_can_be(rt: HostRuntime) -> Result<(), Fail> {
+fn a_flush_that_fails_is_an_io_fault_that_is_told_if_it_can_be(
+    rt: HostRuntime,
+) -> Result<(), Fail> {
     let mut reader = ADDITION.as_bytes();
     let held = Vec::new(rt.alloc());
     let mut writer = Unflushed { held };
