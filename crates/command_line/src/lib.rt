@@ -12,7 +12,7 @@ mod reading;
 mod wrong_texts;
 
 pub use asked::{
-    BatchWord, CommandLine, CommandWord, LineFault, OptionsFault, RunReport, ServiceWord, Word,
+    BatchWord, CommandLine, CommandWord, LineFault, OptionsFault, RunReport, ServiceWord,
     WordsFault,
 };
 pub use command::VERSION;

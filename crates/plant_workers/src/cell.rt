@@ -26,7 +26,7 @@ use std::sync::{Mutex, Wait};
 #[derive(Drop)]
 pub struct OperatorCell {
     op: Op,
-    held: Mutex<Held>,
+    state: Mutex<Held>,
     signal: Signal,
 }
 
@@ -50,13 +50,13 @@ impl OperatorCell {
     }
 
     /// Returns the cell round this.
-    fn holding(op: Op, held: Held) -> OperatorCell
+    fn holding(op: Op, state: Held) -> OperatorCell
         ensures { result.op ≡ op }
     {
-        let count = held.count();
+        let count = state.count();
         OperatorCell {
             op,
-            held: Mutex::new(held),
+            state: Mutex::new(state),
             signal: Signal::new(count),
         }
     }
@@ -68,10 +68,10 @@ impl OperatorCell {
     {
         let OperatorCell {
             op: _,
-            held,
+            state,
             signal: _,
         } = self;
-        held.into_inner().into_parts()
+        state.into_inner().into_parts()
     }
 
     /// Returns what is done under the lock.
@@ -87,7 +87,7 @@ impl OperatorCell {
     {
         Turn {
             op: self.op,
-            held: &self.held,
+            state: &self.state,
             signal: &self.signal,
             looks,
         }

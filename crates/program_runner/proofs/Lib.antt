@@ -2,5 +2,7 @@ mod Common
 mod WithoutOptions
 mod StateLemmas
 mod HeadLemmas
+mod NoteLemmas
 mod RestoreLemmas
 mod SnapshotLemmas
+mod SnapshotRunLemmas

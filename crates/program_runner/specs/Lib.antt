@@ -1,5 +1,6 @@
 pub mod Answered
 pub mod Heads
+pub mod Numbers
 pub mod Resume
 pub mod StateCommand
 pub mod Version
