@@ -417,8 +417,7 @@ class Answers(Bridge):
         client.write("subscribe json", f"M {ONE} {ADD}")
         self.passed(1)
         told = {"bytes": ADDED, "check": 22, "check_name": "accepted", "code": 0, "line": 4711, "message": "DSA-RSP", "modem": ONE, "text": f"R {ONE} {ADDED}", "transaction": 1, "type": "reply"}
-        accepted = json.dumps({"accepted": True, "line": 4711, "type": "accepted"})
-        self.answer(json.dumps(told), accepted, json.dumps({**told, "line": 4712}), "{", '{"text":5}')
+        self.answer(json.dumps(told), json.dumps({**told, "line": 4712}), "{", '{"text":5}')
         self.assertEqual([json.loads(line) for line in client.read(3)[1:]], [{**told, "line": 2}, {name: value for name, value in told.items() if name != "line"}])
         self.assertEqual(plain.read(2), [f"1 R {ONE} {ADDED}".replace("1 ", "- ", 1), f"- R {ONE} {ADDED}"])
 

@@ -9,7 +9,7 @@ use Rattle.command_line.specs.Options.{OptionTexts, are_wrong, joined, texts_of}
 use Rattle.command_line.specs.declared.asked.CommandLine.{CommandLine}
 use Rattle.command_line.specs.declared.asked.LineFault.{LineFault}
 use Rattle.command_line.specs.declared.asked.LineFault.TheVariants as line
-use Rattle.command_line.specs.declared.asked.BatchWord.{BatchWord}
+use Rattle.command_line.specs.declared.asked.Word.{Word}
 use Rattle.command_line.specs.declared.asked.WordsFault.{WordsFault}
 use Rattle.command_line.specs.declared.asked.WordsFault.TheVariants as fault
 use Rattle.command_line.specs.declared.names.CommandName.{CommandName}
@@ -94,13 +94,13 @@ refused_reading words k f memory gives (inr among) = read_given (length words ==
 -- ---- the clauses of `read_words`
 
 -- the answer is what the reading is for `run_program`
-abbrev pub IsOf : Reading → Result BatchWord WordsFault → Type 0
+abbrev pub IsOf : Reading → Result Word WordsFault → Type 0
 IsOf r (Ok word) = bare_order r ≡ Some (order_of word)
 IsOf r (Err (fault.Help text)) = MayHelp r
 IsOf r (Err fault.Wrong) = (bare_order r ≡ None) × (r ≢ help)
 IsOf r (Err fault.NoMemory) = ⊤
 
-pub of_line : (r : Reading) (l : CommandLine) (found : Option BatchWord) → GivesLine r l
+pub of_line : (r : Reading) (l : CommandLine) (found : Option Word) → GivesLine r l
     → option_map order_of found ≡ bare_order (command (asked_of l.word) (texts_of l.options)) → IsOf r (ok_or found fault.Wrong)
 of_line (command asked options) l (Some word) (is, same) bare = sym (bare ∙ ap₂ (λ a o. bare_order (command a o)) is same)
 of_line (command asked options) l None (is, same) bare = (sym (bare ∙ ap₂ (λ a o. bare_order (command a o)) is same), λ e. cc)
@@ -163,29 +163,29 @@ wrong_or_help words wrong is none other = inl (record {
   unhelped = λ asks. let no = sym is ∙ asks in cc;
 })
 
-pub clause_ok : (words : List Text) (r : Result BatchWord WordsFault) → IsOf (reading words) r → IfOk r (λ word. NamesOrder words (order_of word))
+pub clause_ok : (words : List Text) (r : Result Word WordsFault) → IsOf (reading words) r → IfOk r (λ word. NamesOrder words (order_of word))
 clause_ok words (Ok word) is = is
 clause_ok words (Err f) is = tt
 
-pub clause_fault : (words : List Text) (r : Result BatchWord WordsFault) → IsOf (reading words) r → IfErr r (Allows words)
+pub clause_fault : (words : List Text) (r : Result Word WordsFault) → IsOf (reading words) r → IfErr r (Allows words)
 clause_fault words (Ok word) is = tt
 clause_fault words (Err (fault.Help text)) is = helps words (reading words) refl is
 clause_fault words (Err fault.Wrong) is = wrong_or_help words (reading words) refl is.0 is.1
 clause_fault words (Err fault.NoMemory) is = tt
 
-pub clause_named : (words : List Text) (r : Result BatchWord WordsFault) → IsOf (reading words) r → (o : Order) → NamesOrder words o → GivesOrder o r
+pub clause_named : (words : List Text) (r : Result Word WordsFault) → IsOf (reading words) r → (o : Order) → NamesOrder words o → GivesOrder o r
 clause_named words (Ok word) is o names = let same = sym is ∙ names in cc
 clause_named words (Err (fault.Help text)) is o names = no_help_order (reading words) o is names
 clause_named words (Err fault.Wrong) is o names = let no = sym is.0 ∙ names in cc
 clause_named words (Err fault.NoMemory) is o names = tt
 
-pub clause_help : (words : List Text) (r : Result BatchWord WordsFault) → IsOf (reading words) r → AsksHelp words → GivesHelp r
+pub clause_help : (words : List Text) (r : Result Word WordsFault) → IsOf (reading words) r → AsksHelp words → GivesHelp r
 clause_help words (Ok word) is asks = let no = sym is ∙ ap bare_order asks in cc
 clause_help words (Err (fault.Help text)) is asks = tt
 clause_help words (Err fault.Wrong) is asks = is.1 asks
 clause_help words (Err fault.NoMemory) is asks = tt
 
-pub clause_wrong : (words : List Text) (r : Result BatchWord WordsFault) → IsOf (reading words) r → AreWrong words → GivesWrong r
+pub clause_wrong : (words : List Text) (r : Result Word WordsFault) → IsOf (reading words) r → AreWrong words → GivesWrong r
 clause_wrong words (Ok word) is bad = bad.unnamed (order_of word) is
 clause_wrong words (Err (fault.Help text)) is bad =
     elim (helps words (reading words) refl is) [ inl asks ↦ bad.unasked asks | inr word ↦ bad.unhelped word ]

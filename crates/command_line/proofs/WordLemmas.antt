@@ -1,11 +1,11 @@
 -- What words come to that are written out.
 use Rattle.std.proofs.Common.{◌≡◌, ℕ, List, [], ◌∷◌, Some, true, refl, codes}
-use Rattle.command_line.proofs.Common.{order, service, one, check, run, threads, capture, trace, history, command}
+use Rattle.command_line.proofs.Common.{order, service, one, check, run, threads, capture, serve, trace, history, command}
 use Rattle.clap.proofs.OnLiterals.{clap_on_literals}
 use Rattle.command_line.specs.ClapLine.{entered_subcommand, faults, top_rows}
 use Rattle.command_line.specs.CommandLine.{AreRefused, AsksHelp, AsksVersion, NamesOrder, NamesService, reading}
 use Rattle.command_line.specs.Options.{no_options}
-use Rattle.command_line.specs.declared.asked.ServiceWord.TheVariants.{Serve, Resume, Restore, Snapshot}
+use Rattle.command_line.specs.declared.asked.ServiceWord.TheVariants.{Resume, Restore, Snapshot}
 
 pub orders_are_named_one : NamesOrder (codes "one" ∷ []) one
 unfolding reading faults top_rows entered_subcommand clap_on_literals
@@ -31,6 +31,10 @@ pub orders_are_named_capture : NamesOrder (codes "capture" ∷ []) capture
 unfolding reading faults top_rows entered_subcommand clap_on_literals
 orders_are_named_capture = refl
 
+pub orders_are_named_serve : NamesOrder (codes "serve" ∷ []) serve
+unfolding reading faults top_rows entered_subcommand clap_on_literals
+orders_are_named_serve = refl
+
 pub orders_are_named_trace : NamesOrder (codes "trace" ∷ []) trace
 unfolding reading faults top_rows entered_subcommand clap_on_literals
 orders_are_named_trace = refl
@@ -42,10 +46,6 @@ orders_are_named_history = refl
 pub orders_are_named_operand : (name : List ℕ) → NamesOrder (codes "history" ∷ codes "--" ∷ name ∷ []) (history name)
 unfolding reading faults top_rows entered_subcommand clap_on_literals
 orders_are_named_operand name = refl
-
-pub services_are_named_serve : NamesService (codes "serve" ∷ []) Serve
-unfolding reading faults top_rows entered_subcommand clap_on_literals
-services_are_named_serve = refl
 
 pub services_are_named_resume : NamesService (codes "resume" ∷ []) Resume
 unfolding reading faults top_rows entered_subcommand clap_on_literals
@@ -75,7 +75,7 @@ pub options_are_read_equals : reading (codes "resume" ∷ codes "--input=a" ∷ 
 unfolding reading faults top_rows entered_subcommand clap_on_literals
 options_are_read_equals = refl
 
-pub options_are_read_state : reading (codes "--state" ∷ codes "d" ∷ codes "serve" ∷ codes "--snapshot-every" ∷ codes "5" ∷ []) ≡ command (service Serve) (record no_options { state = Some (codes "d"); snapshot_every = Some (codes "5") })
+pub options_are_read_state : reading (codes "--state" ∷ codes "d" ∷ codes "serve" ∷ codes "--snapshot-every" ∷ codes "5" ∷ []) ≡ command (order serve) (record no_options { state = Some (codes "d"); snapshot_every = Some (codes "5") })
 unfolding reading faults top_rows entered_subcommand clap_on_literals
 options_are_read_state = refl
 

@@ -5,8 +5,7 @@ use Rattle.clap.specs.Words.{subcommand_of, with_rule, with_subcommand}
 use Rattle.clap.specs.declared.builder.action.ArgAction.TheVariants.{SetTrue}
 use Rattle.command_line.specs.Names.{name_text, option_text, has_option, has_value}
 use Rattle.command_line.specs.declared.names.CommandName.{CommandName}
-use Rattle.command_line.specs.declared.names.CommandName.TheVariants.{One, Check, Run, Threads, Capture, Serve, Trace, History, Resume}
-use Rattle.command_line.specs.declared.names.CommandName.TheVariants.{Restore, Snapshot}
+use Rattle.command_line.specs.declared.names.CommandName.TheVariants.{One, Check, Run, Threads, Capture, Serve, Trace, History, Resume, Restore, Snapshot}
 use Rattle.command_line.specs.declared.names.OptionName.{OptionName}
 use Rattle.command_line.specs.declared.names.OptionName.TheVariants.{Input, Json, Strict, State, SnapshotEvery}
 

@@ -14,7 +14,7 @@ use Rattle.command_line.specs.declared.asked.CommandLine.{CommandLine}
 use Rattle.command_line.specs.declared.asked.LineFault.{LineFault}
 use Rattle.command_line.specs.declared.asked.LineFault.TheVariants as line
 use Rattle.command_line.specs.declared.asked.ServiceWord.{ServiceWord}
-use Rattle.command_line.specs.declared.asked.BatchWord.{BatchWord}
+use Rattle.command_line.specs.declared.asked.Word.{Word}
 use Rattle.command_line.specs.declared.asked.WordsFault.{WordsFault}
 use Rattle.command_line.specs.declared.asked.WordsFault.TheVariants as fault
 use Rattle.command_line.specs.declared.names.CommandName.{CommandName}
@@ -171,19 +171,19 @@ Allows words fault.Wrong = AreWrong words ⊎ IsHelpWord words
 Allows words fault.NoMemory = ⊤
 
 -- the answer is the order, or out of memory
-abbrev pub GivesOrder : Order → Result BatchWord WordsFault → Type 0
+abbrev pub GivesOrder : Order → Result Word WordsFault → Type 0
 GivesOrder o (Ok word) = order_of word ≡ o
 GivesOrder o (Err fault.NoMemory) = ⊤
 GivesOrder o (Err _) = ⊥
 
 -- the answer is help, or out of memory
-abbrev pub GivesHelp : Result BatchWord WordsFault → Type 0
+abbrev pub GivesHelp : Result Word WordsFault → Type 0
 GivesHelp (Err (fault.Help text)) = ⊤
 GivesHelp (Err fault.NoMemory) = ⊤
 GivesHelp _ = ⊥
 
 -- the answer is that the words are wrong, or out of memory
-abbrev pub GivesWrong : Result BatchWord WordsFault → Type 0
+abbrev pub GivesWrong : Result Word WordsFault → Type 0
 GivesWrong (Err fault.Wrong) = ⊤
 GivesWrong (Err fault.NoMemory) = ⊤
 GivesWrong _ = ⊥

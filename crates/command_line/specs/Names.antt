@@ -2,8 +2,7 @@
 -- `run`, `threads` and `history`).
 use Rattle.std.specs.Prelude.{ℕ, Bool, true, false, cond, List, Option, Some, None, codes, bytes_eq}
 use Rattle.command_line.specs.declared.names.CommandName.{CommandName}
-use Rattle.command_line.specs.declared.names.CommandName.TheVariants.{One, Check, Run, Threads, Capture, Serve, Trace, History, Resume}
-use Rattle.command_line.specs.declared.names.CommandName.TheVariants.{Restore, Snapshot}
+use Rattle.command_line.specs.declared.names.CommandName.TheVariants.{One, Check, Run, Threads, Capture, Serve, Trace, History, Resume, Restore, Snapshot}
 use Rattle.command_line.specs.declared.names.OptionName.{OptionName}
 use Rattle.command_line.specs.declared.names.OptionName.TheVariants.{Input, Json, Strict, State, SnapshotEvery}
 
@@ -56,7 +55,6 @@ abbrev pub has_option : OptionName → CommandName → Bool
 has_option Input _ = true
 has_option Json Run = true
 has_option Json Serve = true
-has_option Json Resume = true
 has_option Json Check = true
 has_option Json Trace = true
 has_option Strict Check = true

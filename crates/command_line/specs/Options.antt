@@ -104,8 +104,7 @@ is_stray top command option = is_found top option && not (has_option option comm
 
 -- an option is before a command that does not have it; all have `--input`
 abbrev pub is_beyond : OptionTexts → CommandName → Bool
-is_beyond top command = is_stray top command Json
-    || (is_stray top command Strict || (is_stray top command State || is_stray top command SnapshotEvery))
+is_beyond top command = is_stray top command Json || (is_stray top command Strict || (is_stray top command State || is_stray top command SnapshotEvery))
 
 -- the state is saved without a folder, or objects are to be written of a service with a folder
 abbrev pub is_mismatch : OptionTexts → Bool

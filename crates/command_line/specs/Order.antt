@@ -8,31 +8,39 @@ use Rattle.command_line.specs.declared.names.CommandName.TheVariants as name
 use Rattle.command_line.specs.declared.asked.CommandWord.{CommandWord}
 use Rattle.command_line.specs.declared.asked.CommandWord.TheVariants as any
 use Rattle.command_line.specs.declared.asked.ServiceWord.{ServiceWord}
-use Rattle.command_line.specs.declared.asked.ServiceWord.TheVariants.{Serve, Resume, Restore, Snapshot}
+use Rattle.command_line.specs.declared.asked.ServiceWord.TheVariants.{Resume, Restore, Snapshot}
+use Rattle.command_line.specs.declared.asked.Word.{Word}
+use Rattle.command_line.specs.declared.asked.Word.TheVariants as word
 use Rattle.command_line.specs.declared.asked.BatchWord.{BatchWord}
 use Rattle.command_line.specs.declared.asked.BatchWord.TheVariants as batch
 use Rattle.command_line.specs.declared.asked.RunReport.TheVariants as report
 
 -- the messages of one modem, a check of a plant and a script, a run, a run on threads, a run's capture,
--- a run reported in words, or one operator's history (implementation-specific)
+-- a plant in service, a run reported in words, or one operator's history (implementation-specific)
 pub data Order : Type 0 where
   one : Order
   check : Order
   run : Order
   threads : Order
   capture : Order
+  serve : Order
   trace : Order
   history : List ℕ → Order
 
--- what a word of the program orders; of an operator the bytes of its name
-abbrev pub order_of : BatchWord → Order
-order_of batch.One = one
-order_of batch.Check = check
-order_of batch.Threads = threads
-order_of (batch.Run report.Outputs) = run
-order_of (batch.Run report.Capture) = capture
-order_of (batch.Run report.Trace) = trace
-order_of (batch.Run (report.History operator)) = history operator.now
+-- the order of a word that reads all of its input; of an operator the bytes of its name
+abbrev pub batch_order : BatchWord → Order
+batch_order batch.One = one
+batch_order batch.Check = check
+batch_order batch.Threads = threads
+batch_order (batch.Run report.Outputs) = run
+batch_order (batch.Run report.Capture) = capture
+batch_order (batch.Run report.Trace) = trace
+batch_order (batch.Run (report.History operator)) = history operator.now
+
+-- what a word of the program orders
+abbrev pub order_of : Word → Order
+order_of word.Serve = serve
+order_of (word.Batch batch) = batch_order batch
 
 -- an order, or a service that may begin with a snapshot
 pub data Asked : Type 0 where
@@ -51,7 +59,7 @@ asked_by name.Check rows = Some (order check)
 asked_by name.Run rows = Some (order run)
 asked_by name.Threads rows = Some (order threads)
 asked_by name.Capture rows = Some (order capture)
-asked_by name.Serve rows = Some (service Serve)
+asked_by name.Serve rows = Some (order serve)
 asked_by name.Trace rows = Some (order trace)
 asked_by name.History rows = option_map (λ operator. order (history operator)) (first_of (codes "operator") rows)
 asked_by name.Resume rows = Some (service Resume)
@@ -65,9 +73,9 @@ asked_name (order check) = name.Check
 asked_name (order run) = name.Run
 asked_name (order threads) = name.Threads
 asked_name (order capture) = name.Capture
+asked_name (order serve) = name.Serve
 asked_name (order trace) = name.Trace
 asked_name (order (history operator)) = name.History
-asked_name (service Serve) = name.Serve
 asked_name (service Resume) = name.Resume
 asked_name (service Restore) = name.Restore
 asked_name (service Snapshot) = name.Snapshot

@@ -21,7 +21,7 @@ pub enum RunReport<Operator> {
     History(Operator),
 }
 
-/// A command that `run_program` carries out: it reads all of its input before it answers.
+/// A command that reads all of its input before it answers.
 #[derive(Clone, Copy, Debug, PartialEq, Eq)]
 pub enum BatchWord<'a> {
     /// Processes messages of one modem on a built-in plant.
@@ -35,12 +35,19 @@ pub enum BatchWord<'a> {
     Run(RunReport<&'a str>),
 }
 
+/// A command that `run_program` carries out.
+#[derive(Clone, Copy, Debug, PartialEq, Eq)]
+pub enum Word<'a> {
+    /// Keeps a plant running, and processes each line as it arrives.
+    Serve,
+    /// Reads all of its input, and answers it.
+    Batch(BatchWord<'a>),
+}
+
 /// A command whose service may begin with a snapshot.
 #[derive(Clone, Copy, Debug, PartialEq, Eq)]
 pub enum ServiceWord {
-    /// `serve`: serves the lines after a plant file or a snapshot, and processes each line as it arrives.
-    Serve,
-    /// `resume`: another name of `serve`.
+    /// `resume`: serves the lines after a plant file or a snapshot.
     Resume,
     /// `restore`: serves the lines after a snapshot.
     Restore,
@@ -52,7 +59,7 @@ pub enum ServiceWord {
 #[derive(Clone, Copy, Debug, PartialEq, Eq)]
 pub enum CommandWord<'a> {
     /// One that `run_program` carries out.
-    Order(BatchWord<'a>),
+    Order(Word<'a>),
     /// One whose service may begin with a snapshot.
     Service(ServiceWord),
 }

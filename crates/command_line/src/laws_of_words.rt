@@ -1,12 +1,12 @@
 //! Laws of what words result in. They need no value, and run nothing.
 ghost use Rattle.std.specs.Prelude.{◌≡◌, ◌≢◌, ◌⊎◌, List, ℕ, [], ◌∷◌, Some, true, codes};
-ghost use Rattle.command_line.specs.Order.{Order, bare_texts, Asked, order, service, one, check, run, threads, capture, trace, history};
+ghost use Rattle.command_line.specs.Order.{Order, bare_texts, Asked, order, service, one, check, run, threads, capture, serve, trace, history};
 ghost use Rattle.command_line.specs.CommandLine.{AreRefused, AreWrong, AsksHelp, AsksVersion, IsHelpWord, NamesOrder, NamesService, command, reading};
 ghost use Rattle.command_line.specs.Names.{name_text};
 ghost use Rattle.command_line.specs.Options.{no_options};
 ghost use Rattle.command_line.specs.declared.names.CommandName.{CommandName};
 ghost use Rattle.command_line.specs.declared.names.CommandName.TheVariants.{History};
-ghost use Rattle.command_line.specs.declared.asked.ServiceWord.TheVariants.{Serve, Resume, Restore, Snapshot};
+ghost use Rattle.command_line.specs.declared.asked.ServiceWord.TheVariants.{Resume, Restore, Snapshot};
 
 /// States that all words are an order's, ask for help, begin with clap's own `help`, or are wrong;
 /// of these they are one alone, and of one order.
@@ -33,6 +33,7 @@ pub fn orders_are_named()
     ensures ended { NamesOrder (codes "run" ∷ codes "--" ∷ []) run }
     ensures threads { NamesOrder (codes "threads" ∷ []) threads }
     ensures capture { NamesOrder (codes "capture" ∷ []) capture }
+    ensures serve { NamesOrder (codes "serve" ∷ []) serve }
     ensures trace { NamesOrder (codes "trace" ∷ []) trace }
     ensures history { NamesOrder (codes "history" ∷ codes "A" ∷ []) (history (codes "A")) }
     ensures operand { (name : List ℕ) → NamesOrder (codes "history" ∷ codes "--" ∷ name ∷ []) (history name) }
@@ -41,7 +42,6 @@ pub fn orders_are_named()
 
 /// States that the words of each service name it.
 pub fn services_are_named()
-    ensures serve { NamesService (codes "serve" ∷ []) Serve }
     ensures resume { NamesService (codes "resume" ∷ []) Resume }
     ensures restore { NamesService (codes "restore" ∷ []) Restore }
     ensures snapshot { NamesService (codes "snapshot" ∷ []) Snapshot }
@@ -49,16 +49,12 @@ pub fn services_are_named()
 
 /// States that options are read before a command and after it.
 pub fn options_are_read()
-    ensures after { reading (codes "run" ∷ codes "--json" ∷ [])
-        ≡ command (order run) (record no_options { has_json = true }) }
-    ensures before { reading (codes "--strict" ∷ codes "check" ∷ [])
-        ≡ command (order check) (record no_options { has_strict = true }) }
-    ensures file { reading (codes "one" ∷ codes "--input" ∷ codes "a" ∷ [])
-        ≡ command (order one) (record no_options { input = Some (codes "a") }) }
-    ensures equals { reading (codes "resume" ∷ codes "--input=a" ∷ [])
-        ≡ command (service Resume) (record no_options { input = Some (codes "a") }) }
+    ensures after { reading (codes "run" ∷ codes "--json" ∷ []) ≡ command (order run) (record no_options { has_json = true }) }
+    ensures before { reading (codes "--strict" ∷ codes "check" ∷ []) ≡ command (order check) (record no_options { has_strict = true }) }
+    ensures file { reading (codes "one" ∷ codes "--input" ∷ codes "a" ∷ []) ≡ command (order one) (record no_options { input = Some (codes "a") }) }
+    ensures equals { reading (codes "resume" ∷ codes "--input=a" ∷ []) ≡ command (service Resume) (record no_options { input = Some (codes "a") }) }
     ensures state { reading (codes "--state" ∷ codes "d" ∷ codes "serve" ∷ codes "--snapshot-every" ∷ codes "5" ∷ [])
-        ≡ command (service Serve) (record no_options { state = Some (codes "d"); snapshot_every = Some (codes "5") }) }
+        ≡ command (order serve) (record no_options { state = Some (codes "d"); snapshot_every = Some (codes "5") }) }
 {}
 
 /// States that an option is refused that is there twice, has no value, is not one of the command's, or does not go with the others.
@@ -109,7 +105,6 @@ pub fn commands_have_no_operand()
 
 /// States that a first word is wrong unless it is a command, an option or `help`, whatever follows.
 pub fn other_names_are_wrong()
-    ensures { (word : List ℕ) → (rest : List (List ℕ)) → ((name : CommandName) → word ≢ name_text name)
-        → word ≢ codes "help"
+    ensures { (word : List ℕ) → (rest : List (List ℕ)) → ((name : CommandName) → word ≢ name_text name) → word ≢ codes "help"
         → ((t : List ℕ) → word ≢ 45 ∷ t) → AreRefused (word ∷ rest) }
 {}

@@ -12,7 +12,7 @@ mod reading;
 mod wrong_texts;
 
 pub use asked::{
-    BatchWord, CommandLine, CommandWord, LineFault, OptionsFault, RunReport, ServiceWord,
+    BatchWord, CommandLine, CommandWord, LineFault, OptionsFault, RunReport, ServiceWord, Word,
     WordsFault,
 };
 pub use command::VERSION;

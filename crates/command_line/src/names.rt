@@ -22,13 +22,13 @@ pub enum CommandName {
     Threads,
     /// Runs a script, and writes a pcap file.
     Capture,
-    /// Keeps a plant running from a plant file or a snapshot.
+    /// Keeps a plant running.
     Serve,
     /// Runs a script, and explains each step.
     Trace,
     /// Runs a script, and prints the history of an operator.
     History,
-    /// The same as `Serve`.
+    /// Serves the lines after a plant file or a snapshot.
     Resume,
     /// Serves the lines after a snapshot.
     Restore,
@@ -64,11 +64,11 @@ impl CommandName {
             CommandName::Run => "Run a script on a plant, and print replies, frames and MAPs",
             CommandName::Threads => "Run a script as run does, with a thread for each operator",
             CommandName::Capture => "Run a script on a plant, and write a pcap file",
-            CommandName::Serve =>
-                "Keep a plant running from a plant file or a snapshot, save it and change it",
+            CommandName::Serve => "Keep a plant running, and process each line as it arrives",
             CommandName::Trace => "Run a script on a plant, and explain what decided each step",
             CommandName::History => "Run a script on a plant, and print the history of an operator",
-            CommandName::Resume => "The same as serve",
+            CommandName::Resume =>
+                "Serve a plant from a plant file or a snapshot, save it and change it",
             CommandName::Restore => "Go on from a snapshot with the lines after it",
             CommandName::Snapshot =>
                 "Perform a script and write the snapshot of the plant after it",
@@ -193,11 +193,7 @@ pub(crate) fn has_option(option: OptionName, command: CommandName) -> bool
         OptionName::Input => true,
         OptionName::Json => matches!(
             &command,
-            CommandName::Run
-                | CommandName::Serve
-                | CommandName::Resume
-                | CommandName::Check
-                | CommandName::Trace
+            CommandName::Run | CommandName::Serve | CommandName::Check | CommandName::Trace
         ),
         OptionName::Strict => matches!(&command, CommandName::Check),
         OptionName::State | OptionName::SnapshotEvery => matches!(&command, CommandName::Serve),

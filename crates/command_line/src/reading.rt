@@ -26,7 +26,7 @@ ghost use Rattle.command_line.specs.CommandLine.{
 };
 
 use crate::asked::{
-    BatchWord, CommandLine, CommandWord, LineFault, RunReport, ServiceWord, WordsFault,
+    BatchWord, CommandLine, CommandWord, LineFault, RunReport, ServiceWord, Word, WordsFault,
 };
 use crate::command::matches_of;
 use crate::names::{CommandName, name_of};
@@ -89,10 +89,10 @@ fn word_of<'a>(name: CommandName, inner: &ArgMatches<'a>) -> Option<CommandWord<
     ensures { option_map asked_of result ≡ asked_by name (rows_of (found_of inner.now)) }
 {
     let batch = match name {
-        CommandName::Serve => return Some(CommandWord::Service(ServiceWord::Serve)),
         CommandName::Resume => return Some(CommandWord::Service(ServiceWord::Resume)),
         CommandName::Restore => return Some(CommandWord::Service(ServiceWord::Restore)),
         CommandName::Snapshot => return Some(CommandWord::Service(ServiceWord::Snapshot)),
+        CommandName::Serve => return Some(CommandWord::Order(Word::Serve)),
         CommandName::One => BatchWord::One,
         CommandName::Check => BatchWord::Check,
         CommandName::Threads => BatchWord::Threads,
@@ -101,7 +101,7 @@ fn word_of<'a>(name: CommandName, inner: &ArgMatches<'a>) -> Option<CommandWord<
         CommandName::Trace => BatchWord::Run(RunReport::Trace),
         CommandName::History => BatchWord::Run(RunReport::History(inner.get_str("operator")?)),
     };
-    Some(CommandWord::Order(batch))
+    Some(CommandWord::Order(Word::Batch(batch)))
 }
 
 /// Returns what a failed parse says of so many words. The text of help is clap's own, of which clap promises nothing.
@@ -139,9 +139,8 @@ fn is_bare(options: ProgramOptions<'_>) -> bool
 }
 
 /// Returns the command that `run_program` carries out, if the line is one and has no option.
-fn bare_word<'a>(line: CommandLine<'a>) -> Option<BatchWord<'a>>
-    ensures { option_map order_of result ≡ bare_order
-        (command (asked_of line.entry.word) (texts_of line.entry.options)) }
+fn bare_word<'a>(line: CommandLine<'a>) -> Option<Word<'a>>
+    ensures { option_map order_of result ≡ bare_order (command (asked_of line.entry.word) (texts_of line.entry.options)) }
 {
     if !is_bare(line.options) {
         return None;
@@ -167,7 +166,7 @@ fn words_fault(fault: LineFault) -> WordsFault
 ///
 /// An `Err` is help that was asked for, an invalid command line, or a failed allocation, which any command line may meet. No
 /// clause says more of the text of help than that it is there: clap promises nothing of it.
-pub fn read_words<'a>(alloc: Global, words: &'a [&'a str]) -> Result<BatchWord<'a>, WordsFault>
+pub fn read_words<'a>(alloc: Global, words: &'a [&'a str]) -> Result<Word<'a>, WordsFault>
     // A command is returned only if the arguments name it and have no option.
     ensures ok { IfOk result (λ word. NamesOrder (texts words.entry.now) (order_of word)) }
     ensures fault { IfErr result (Allows (texts words.entry.now)) }
@@ -187,14 +186,14 @@ fn name_of_word(word: CommandWord<'_>) -> CommandName
     ensures { result ≡ asked_name (asked_of word.entry) }
 {
     match word {
-        CommandWord::Service(ServiceWord::Serve) => CommandName::Serve,
         CommandWord::Service(ServiceWord::Resume) => CommandName::Resume,
         CommandWord::Service(ServiceWord::Restore) => CommandName::Restore,
         CommandWord::Service(ServiceWord::Snapshot) => CommandName::Snapshot,
-        CommandWord::Order(BatchWord::One) => CommandName::One,
-        CommandWord::Order(BatchWord::Check) => CommandName::Check,
-        CommandWord::Order(BatchWord::Threads) => CommandName::Threads,
-        CommandWord::Order(BatchWord::Run(report)) => match report {
+        CommandWord::Order(Word::Serve) => CommandName::Serve,
+        CommandWord::Order(Word::Batch(BatchWord::One)) => CommandName::One,
+        CommandWord::Order(Word::Batch(BatchWord::Check)) => CommandName::Check,
+        CommandWord::Order(Word::Batch(BatchWord::Threads)) => CommandName::Threads,
+        CommandWord::Order(Word::Batch(BatchWord::Run(report))) => match report {
             RunReport::Outputs => CommandName::Run,
             RunReport::Capture => CommandName::Capture,
             RunReport::Trace => CommandName::Trace,
@@ -208,7 +207,9 @@ fn operand_of<'a>(word: CommandWord<'a>) -> Option<&'a str>
     ensures { option_map (λ operand. operand.now) result ≡ operand_of (asked_of word.entry) }
 {
     match word {
-        CommandWord::Order(BatchWord::Run(RunReport::History(operator))) => Some(operator),
+        CommandWord::Order(Word::Batch(BatchWord::Run(RunReport::History(operator)))) => Some(
+            operator,
+        ),
         _ => None,
     }
 }

@@ -23,7 +23,7 @@ const HOW_FILE_IS_GIVEN: &str =
 fn commands_with(option: OptionName) -> &'static str {
     match option {
         OptionName::Input => "all commands have it",
-        OptionName::Json => "run, serve, resume, check and trace have it",
+        OptionName::Json => "run, serve, check and trace have it",
         OptionName::Strict => "check has it",
         OptionName::State | OptionName::SnapshotEvery => "serve has it",
     }

@@ -18,7 +18,6 @@ mod reasons;
 mod refusals;
 mod report;
 mod scan;
-mod service_lines;
 mod show;
 mod strict;
 mod tree;
@@ -30,10 +29,5 @@ mod unworkable_limits;
 mod values;
 mod wanted;
 
-pub use reasons::{
-    Trouble, reason_of, reason_of_invalid_lines, reason_of_plant_file, reason_of_trouble,
-    reason_of_words,
-};
-pub use refusals::AskedStep;
-pub use service_lines::{reason_of_invalid_line, reason_of_refused_step};
+pub use reasons::{Trouble, reason_of, reason_of_trouble, reason_of_words};
 pub use strict::{StrictFault, strict_fault_of};

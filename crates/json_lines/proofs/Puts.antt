@@ -1,5 +1,5 @@
 -- What is put into members and lists that the program writes keeps them so.
-use Rattle.std.proofs.Common.{◌≤◌, ◌++◌, ℕ, true, false, List, [], ◌∷◌, arith}
+use Rattle.std.proofs.Common.{◌≤◌, ◌++◌, ℕ, List, [], ◌∷◌, arith}
 use Rattle.std.proofs.Math.Nat.{max-le}
 use Rattle.std.specs.Ordering.{nat_cmp, match_ordering}
 use Rattle.std.specs.declared.cmp.Ordering.{Ordering}
@@ -48,8 +48,7 @@ value_depth (string s) is = omega arith
 value_depth (number (unsigned n)) is = omega arith
 value_depth (array ds) is = omega (arith, texts_depth ds is)
 value_depth null is = absurd is
-value_depth (boolean true) is = omega arith
-value_depth (boolean false) is = absurd is
+value_depth (boolean b) is = absurd is
 value_depth (number (negative z)) is = absurd is
 value_depth (number (float x)) is = absurd is
 value_depth (object ms) is = absurd is

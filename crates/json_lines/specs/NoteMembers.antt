@@ -1,11 +1,10 @@
 -- Which members an object has of what is known of an output besides its own line (implementation-specific).
-use Rattle.std.specs.Prelude.{ℕ, true, List, Option, Some, None, codes}
+use Rattle.std.specs.Prelude.{ℕ, List, Option, Some, None, codes}
 use Rattle.std.specs.String.{string_bytes}
-use Rattle.serde_json.specs.Data.{Members, boolean, no_members, number, put, string, unsigned}
+use Rattle.serde_json.specs.Data.{Members, number, put, string, unsigned}
 use Rattle.json_lines.specs.declared.context.Comparison.{Comparison}
 use Rattle.json_lines.specs.declared.context.DecidingCheck.{DecidingCheck}
 use Rattle.json_lines.specs.declared.context.OutputNote.{OutputNote}
-use Rattle.json_lines.specs.declared.detail.ReplyDetail.{ReplyDetail}
 
 -- a number, where there is one
 abbrev pub put_if : List ℕ → Option ℕ → Members → Members
@@ -36,22 +35,3 @@ with_check (Some check) members =
 -- the members that an object has of the line of the script, of the check that decided it, and of the numbers that the check compared
 abbrev pub with_note : OutputNote → Members → Members
 with_note note members = with_check note.check (put_if (codes "line") note.line members)
-
--- what a reply says: its message, its transaction, its code by number and name, and what it names
-abbrev pub with_reply : ReplyDetail → Members → Members
-with_reply reply members =
-    put_if (codes "parameter") reply.parameter
-    (put_if (codes "sid") reply.sid
-    (put_if (codes "sfid") reply.sfid
-    (put_if (codes "reference") reply.reference
-    (put (codes "code_name") (string reply.code_name.now)
-    (put (codes "code") (number (unsigned reply.code))
-    (put (codes "transaction") (number (unsigned reply.transaction))
-    (put (codes "message") (string reply.message.now) members)))))))
-
--- the members of the object for a line of the script that is accepted
-abbrev pub accepted_members : ℕ → Members
-accepted_members line =
-    put (codes "accepted") (boolean true)
-    (put (codes "line") (number (unsigned line))
-    (put (codes "type") (string (codes "accepted")) no_members))

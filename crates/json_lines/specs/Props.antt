@@ -1,8 +1,6 @@
 -- That members are writable is a fact: it has at most one proof.
 use Rattle.std.proofs.Props.{props}
-use Rattle.std.specs.Prelude.{true, false}
-use Rattle.serde_json.specs.Data.{Data, null, boolean, number, string, array, object, unsigned, negative, float, Items, no_items, item}
-use Rattle.serde_json.specs.Data.{Members, no_members, member}
+use Rattle.serde_json.specs.Data.{Data, null, boolean, number, string, array, object, unsigned, negative, float, Items, no_items, item, Members, no_members, member}
 use Rattle.json_lines.specs.Writable.{IsText, AreTexts, IsWritable, AreWritable}
 
 text_prop : (d : Data) → IsProp (IsText d)
@@ -22,8 +20,7 @@ value_prop (string s) = Prim.hlevel props
 value_prop (number (unsigned n)) = Prim.hlevel props
 value_prop (array ds) = texts_prop ds
 value_prop null = Prim.hlevel props
-value_prop (boolean true) = Prim.hlevel props
-value_prop (boolean false) = Prim.hlevel props
+value_prop (boolean b) = Prim.hlevel props
 value_prop (number (negative z)) = Prim.hlevel props
 value_prop (number (float x)) = Prim.hlevel props
 value_prop (object ms) = Prim.hlevel props

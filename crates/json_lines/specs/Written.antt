@@ -18,12 +18,6 @@ pub record IsObjectOf (members : Members) (text : List ℕ) : Type 0 where
 abbrev pub with_line : List ℕ → Members → Members
 with_line line members = put (codes "text") (string line) members
 
--- an object of JSON of just these members is written on one line, and a line feed
-pub record HasWrittenAlone (members : Members) (old new : Option (List ℕ)) : Type 0 where
-  pub text : List ℕ
-  pub is_object : IsObjectOf members text
-  pub written : Appends old new (text ++ 10 ∷ [])
-
 -- an object of JSON is written on one line, and a line feed: it has these members, and the line of the program as its member `text`
 pub record HasWritten (line : List ℕ) (members : Members) (old new : Option (List ℕ)) : Type 0 where
   pub text : List ℕ

@@ -3,14 +3,14 @@
 #![tactic(auto)]
 
 mod context;
-mod detail;
 mod members;
 mod object;
 mod plain_line;
 mod remark;
+mod trace_notes;
 mod writer;
 
-pub use context::{Comparison, DecidingCheck};
-pub use detail::{OutputDetail, ReplyDetail};
-pub use object::{JsonObject, write_alone, write_object};
+pub use context::{Comparison, DecidingCheck, OutputNote};
+pub use object::{JsonObject, write_object};
+pub use trace_notes::TraceNotes;
 pub use writer::{JsonLines, LineSource};

@@ -3,54 +3,52 @@
 ghost use Rattle.std.specs.Prelude.{◌≡◌, Some, OnOk, codes};
 ghost use Rattle.serde_json.specs.Data.{put, string};
 ghost use Rattle.serde_json.specs.View.{members_view};
-ghost use Rattle.json_lines.specs.NoteMembers.{put_if, with_comparison, with_check, with_note, with_reply};
+ghost use Rattle.json_lines.specs.NoteMembers.{put_if, with_comparison, with_check, with_note};
 
 use crate::context::{Comparison, DecidingCheck, OutputNote};
-use crate::detail::{OutputDetail, ReplyDetail};
 use crate::object::JsonObject;
 use crate::plain_line::PlainLine;
 use crate::remark::{Remark, StepSubject, remark_of};
 use std::alloc::AllocError;
 
-/// Adds a number, if there is one.
-fn put_number_if(object: &mut JsonObject, key: &str, number: Option<u64>) -> Result<(), AllocError>
-    ensures { OnOk result (members_view object.new.members.entries
-        ≡ put_if key.now number (members_view object.old.members.entries)) }
-{
-    match number {
-        Some(number) => object.put_number(key, number),
-        None => Ok(()),
+/// Returns the name of a reply's message, by its type in hexadecimal.
+fn message_name(digits: &str) -> Option<&'static str> {
+    match digits {
+        "10" => Some("DSA-RSP"),
+        "13" => Some("DSC-RSP"),
+        "16" => Some("DSD-RSP"),
+        _ => None,
     }
 }
 
-/// Adds what a reply says.
-fn put_reply(object: &mut JsonObject, reply: &ReplyDetail) -> Result<(), AllocError>
-    ensures { OnOk result (members_view object.new.members.entries
-        ≡ with_reply reply.now (members_view object.old.members.entries)) }
-{
-    object.put_text("message", reply.message)?;
-    object.put_number("transaction", reply.transaction)?;
-    object.put_number("code", reply.code)?;
-    object.put_text("code_name", reply.code_name)?;
-    put_number_if(object, "reference", reply.reference)?;
-    put_number_if(object, "sfid", reply.sfid)?;
-    put_number_if(object, "sid", reply.sid)?;
-    put_number_if(object, "parameter", reply.parameter)
+/// Adds a number that is written in hexadecimal at a place of a text.
+fn put_hexadecimal(
+    object: &mut JsonObject,
+    key: &str,
+    digits: Option<&str>,
+) -> Result<(), AllocError> {
+    let Some(digits) = digits else {
+        return Ok(());
+    };
+    match u64::from_str_radix(digits, 16) {
+        Ok(number) => object.put_number(key, number),
+        Err(_error) => Ok(()),
+    }
 }
 
-/// Adds what an output says besides its line.
-pub(crate) fn put_detail(object: &mut JsonObject, detail: &OutputDetail) -> Result<(), AllocError> {
-    match detail {
-        OutputDetail::Reply(reply) => put_reply(object, reply),
-        OutputDetail::Drop { operator } => object.put_text("operator", operator.as_str()),
-        OutputDetail::Nothing => Ok(()),
+/// Adds what the bytes of a reply begin with: the message, its transaction and its code.
+fn put_reply(object: &mut JsonObject, bytes: &str) -> Result<(), AllocError> {
+    object.put_text("bytes", bytes)?;
+    if let Some(name) = bytes.get(0..2).and_then(message_name) {
+        object.put_text("message", name)?;
     }
+    put_hexadecimal(object, "transaction", bytes.get(2..6))?;
+    put_hexadecimal(object, "code", bytes.get(6..8))
 }
 
 /// Adds the numbers that a check compared.
 fn put_comparison(object: &mut JsonObject, comparison: Comparison) -> Result<(), AllocError>
-    ensures { OnOk result (members_view object.new.members.entries
-        ≡ with_comparison comparison (members_view object.old.members.entries)) }
+    ensures { OnOk result (members_view object.new.members.entries ≡ with_comparison comparison (members_view object.old.members.entries)) }
 {
     object.put_number("held", comparison.held)?;
     object.put_number("limit", comparison.limit)?;
@@ -65,8 +63,7 @@ fn put_comparison(object: &mut JsonObject, comparison: Comparison) -> Result<(),
 
 /// Adds the check that decided an output, and the numbers that it compared.
 fn put_check(object: &mut JsonObject, check: &DecidingCheck) -> Result<(), AllocError>
-    ensures { OnOk result (members_view object.new.members.entries
-        ≡ with_check (Some check.now) (members_view object.old.members.entries)) }
+    ensures { OnOk result (members_view object.new.members.entries ≡ with_check (Some check.now) (members_view object.old.members.entries)) }
 {
     object.put_number("check", check.number)?;
     object.put_text("check_name", check.name.as_str())?;
@@ -79,8 +76,7 @@ fn put_check(object: &mut JsonObject, check: &DecidingCheck) -> Result<(), Alloc
 /// Adds what is known of an output besides its own line.
 pub(crate) fn put_note(object: &mut JsonObject, note: &OutputNote) -> Result<(), AllocError>
     // An object has the note's line, its check and the numbers of the check, each under its name, and nothing else.
-    ensures { OnOk result (members_view object.new.members.entries
-        ≡ with_note note.now (members_view object.old.members.entries)) }
+    ensures { OnOk result (members_view object.new.members.entries ≡ with_note note.now (members_view object.old.members.entries)) }
 {
     if let Some(line) = note.line {
         object.put_number("line", line)?;
@@ -211,7 +207,7 @@ fn put_output(object: &mut JsonObject, line: PlainLine<'_>) -> Result<(), AllocE
         PlainLine::Reply { modem, bytes } => {
             object.put_text("type", "reply")?;
             object.put_text("modem", modem)?;
-            object.put_text("bytes", bytes)
+            put_reply(object, bytes)
         }
         PlainLine::Drop { modem, cause } => {
             object.put_text("type", "drop")?;

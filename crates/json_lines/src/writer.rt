@@ -1,16 +1,12 @@
 //! A writer that takes the lines of the program, and writes an object of JSON for each.
 
-ghost use Rattle.std.specs.Prelude.{◌≡◌, ◌≤◌, [], false, None, Some, IfOk, OnOk, length};
-ghost use Rattle.serde_json.specs.View.{members_view};
+ghost use Rattle.std.specs.Prelude.{◌≡◌, ◌≤◌, [], false, None, Some, IfOk, length};
 ghost use Rattle.json_lines.specs.declared.writer.LineSource.TheVariants as sources;
-ghost use Rattle.json_lines.specs.NoteMembers.{accepted_members};
 ghost use Rattle.json_lines.specs.Sources.{begun_line, with_next_check};
-ghost use Rattle.json_lines.specs.Written.{HasWrittenAlone};
 
-use crate::context::{DecidingCheck, OutputContext, TakenLine};
-use crate::detail::OutputDetail;
-use crate::members::{put_comparison_line, put_detail, put_line, put_note};
-use crate::object::{JsonObject, write_alone, write_object};
+use crate::context::{DecidingCheck, OutputContext, OutputNote, TakenLine};
+use crate::members::{put_comparison_line, put_line, put_note};
+use crate::object::{JsonObject, write_object};
 use crate::plain_line::{PlainLine, plain_line};
 use memchr::memchr;
 use std::alloc::{AllocError, Global};
@@ -25,7 +21,9 @@ pub enum LineSource {
     Alone,
     /// A trace: its lines say from which line of the script an output comes, and which check decided it.
     Trace(OutputContext),
-    /// A run or a service, which says of each output from which line of the script it comes, and which check decides it.
+    /// A run whose outputs have these notes.
+    Run(IntoIter<OutputNote>),
+    /// A service, which says of each output from which line of the script it comes, and which check decides it.
     Service(OutputContext),
 }
 
@@ -37,9 +35,7 @@ pub struct JsonLines<'a, W> {
     writer: &'a mut W,
     source: LineSource,
     /// The line so far.
-    line: Vec<u8>,
-    /// What the next replies, and messages without one, say besides their lines.
-    details: IntoIter<OutputDetail>,
+    held: Vec<u8>,
     /// Whether an allocation failed.
     is_full: bool,
 }
@@ -69,8 +65,23 @@ impl LineSource {
                 TakenLine::Other => Ok(TakenLine::Output(context.note_of_line())),
                 taken => Ok(taken),
             },
+            LineSource::Run(notes) => Ok(note_of_run(notes, line)),
             LineSource::Service(context) => Ok(note_of_service(context, line)),
         }
+    }
+}
+
+/// Returns the next note where a line of a run is an output.
+fn note_of_run(notes: &mut IntoIter<OutputNote>, line: PlainLine<'_>) -> TakenLine {
+    match line {
+        PlainLine::Reply { .. }
+        | PlainLine::Drop { .. }
+        | PlainLine::Frame { .. }
+        | PlainLine::Map { .. } => match notes.next() {
+            Some(note) => TakenLine::Output(note),
+            None => TakenLine::Other,
+        },
+        _ => TakenLine::Other,
     }
 }
 
@@ -104,36 +115,16 @@ fn object_of(
     Ok(object)
 }
 
-/// Returns the object that says that a line of the script is accepted.
-fn accepted_object(alloc: Global, number: u64) -> Result<JsonObject, AllocError>
-    ensures { IfOk result (λ object. members_view object.members.entries ≡ accepted_members number) }
-{
-    let mut object = JsonObject::new(alloc);
-    object.put_text("type", "accepted")?;
-    object.put_number("line", number)?;
-    object.put_true("accepted")?;
-    Ok(object)
-}
-
-/// Writes the object that says that a line of the script is accepted.
-fn write_accepted_object<W: Write>(alloc: Global, number: u64, writer: &mut W) -> io::Result<()>
-    ensures { OnOk result (HasWrittenAlone (accepted_members number) (W.contents writer.old) (W.contents writer.new)) }
-{
-    let object = accepted_object(alloc, number)?;
-    write_alone(writer, object)
-}
-
 impl<'a, W: Write> JsonLines<'a, W> {
     /// Returns that no line was written.
     pub fn new(alloc: Global, writer: &'a mut W, source: LineSource) -> JsonLines<'a, W>
-        ensures { (result.source ≡ source) × (result.line.items ≡ []) × (result.is_full ≡ false) }
+        ensures { (result.source ≡ source) × (result.held.items ≡ []) × (result.is_full ≡ false) }
     {
         JsonLines {
             alloc,
             writer,
             source,
-            line: Vec::new(alloc),
-            details: Vec::new(alloc).into_iter(),
+            held: Vec::new(alloc),
             is_full: false,
         }
     }
@@ -141,7 +132,7 @@ impl<'a, W: Write> JsonLines<'a, W> {
     /// Begins a line of the script of a service. Has no effect on another source.
     pub fn begin_line(&mut self, number: u64)
         ensures source { self.new.source ≡ begun_line number self.old.source }
-        ensures same { (self.new.line.items ≡ self.old.line.items) × (self.new.is_full ≡ self.old.is_full) }
+        ensures same { (self.new.held.items ≡ self.old.held.items) × (self.new.is_full ≡ self.old.is_full) }
     {
         if let LineSource::Service(context) = &mut self.source {
             context.begin_line(number);
@@ -151,36 +142,11 @@ impl<'a, W: Write> JsonLines<'a, W> {
     /// Says which check decides the next output of a service, if one does. Has no effect on another source.
     pub fn say_check(&mut self, check: Option<DecidingCheck>)
         ensures source { self.new.source ≡ with_next_check check self.old.source }
-        ensures same { (self.new.line.items ≡ self.old.line.items) × (self.new.is_full ≡ self.old.is_full) }
+        ensures same { (self.new.held.items ≡ self.old.held.items) × (self.new.is_full ≡ self.old.is_full) }
     {
         if let LineSource::Service(context) = &mut self.source {
             context.say_check(check);
         }
-    }
-
-    /// Says what the next replies, and messages without one, say besides their lines, in their order. An error is that an allocation
-    /// for it failed.
-    pub fn say_details(
-        &mut self,
-        details: Result<Vec<OutputDetail>, AllocError>,
-    ) -> io::Result<()> {
-        match details {
-            Ok(details) => {
-                self.details = details.into_iter();
-                Ok(())
-            }
-            Err(full) => {
-                self.is_full = true;
-                Err(io::Error::from(full))
-            }
-        }
-    }
-
-    /// Writes the object that says that a line of the script is accepted.
-    pub fn write_accepted(&mut self, number: u64) -> io::Result<()> {
-        let outcome = write_accepted_object(self.alloc, number, self.writer);
-        self.note_memory(&outcome);
-        outcome
     }
 
     /// Returns whether an allocation failed for an object.
@@ -197,23 +163,11 @@ impl<'a, W: Write> JsonLines<'a, W> {
         }
     }
 
-    /// Takes what a reply, or a message without one, says besides its line.
-    fn take_detail(&mut self, line: PlainLine<'_>) -> Option<OutputDetail> {
-        match line {
-            PlainLine::Reply { .. } | PlainLine::Drop { .. } => self.details.next(),
-            _ => None,
-        }
-    }
-
     /// Returns the object of a line.
     fn take_object(&mut self, text: &str) -> Result<JsonObject, AllocError> {
         let line = plain_line(text);
         let taken = self.source.take_line(self.alloc, line)?;
-        let mut object = object_of(self.alloc, line, &taken)?;
-        if let Some(detail) = self.take_detail(line) {
-            put_detail(&mut object, &detail)?;
-        }
-        Ok(object)
+        object_of(self.alloc, line, &taken)
     }
 
     /// Writes the object of a line.
@@ -227,10 +181,10 @@ impl<'a, W: Write> JsonLines<'a, W> {
 
     /// Writes the object of the line that is held.
     fn end_line(&mut self) -> io::Result<()> {
-        let mut line = mem::replace(&mut self.line, Vec::new(self.alloc));
-        let outcome = self.write_line(line.as_slice());
-        line.clear();
-        self.line = line;
+        let mut held = mem::replace(&mut self.held, Vec::new(self.alloc));
+        let outcome = self.write_line(held.as_slice());
+        held.clear();
+        self.held = held;
         outcome
     }
 
@@ -240,12 +194,12 @@ impl<'a, W: Write> JsonLines<'a, W> {
     {
         match memchr(b'\n', buf) {
             Some(place) => {
-                self.line.extend_from_slice(&buf[..place])?;
+                self.held.extend_from_slice(&buf[..place])?;
                 self.end_line()?;
                 Ok(place + 1)
             }
             None => {
-                self.line.extend_from_slice(buf)?;
+                self.held.extend_from_slice(buf)?;
                 Ok(buf.len())
             }
         }

@@ -7,7 +7,7 @@ mod asked;
 mod book;
 mod boxed_verdict;
 mod committing;
-mod deciding;
+mod flow_fault;
 mod handling;
 mod history;
 mod judging;
@@ -19,7 +19,11 @@ mod plan;
 mod planning;
 mod refusal;
 mod reslicing;
+mod response_fault;
 mod resuming;
+mod row_fault;
+mod share_fault;
+mod state_fault;
 mod state_view;
 mod tick_memory;
 mod ticking;
@@ -31,8 +35,10 @@ pub use history::History;
 pub use live::{Machine, SoundMachine};
 pub use logged::RecordedMachine;
 pub use operator_model::{
-    Action, Arrival, Cause, Entry, Heard, NextShare, Output, Outputs, Share, SliceRow, StateView,
-    Unfit,
+    Action, Arrival, Cause, Entry, Heard, NextShare, Output, Outputs, Share, SliceRow, Unfit,
 };
 pub use plan::{Plan, SpareOutputs, output_copies};
+pub use row_fault::row_faults;
+pub use state_fault::StateFault;
+pub use state_view::StateView;
 pub use tick_memory::TickMemory;

@@ -1,32 +1,31 @@
 //! One operator's machine at work, with no history.
 
-ghost use Rattle.std.specs.Prelude.{◌≡◌, ◌≢◌, ◌≤◌, ◌↔◌, vec_len, true, Err, Some, None, IfOk, OnOk, OnErr};
+ghost use Rattle.std.specs.Prelude.{◌≡◌, ◌≢◌, ◌≤◌, ◌↔◌, ◌⊎◌, vec_len, true, Err, Some, None, IfOk, IfErr, OnOk, OnErr};
 ghost use Rattle.dsx_messages.specs.declared.modem.Modem.{Modem};
 ghost use Rattle.plant.specs.Row.{IsRowOf};
 ghost use Rattle.operator_model.specs.declared.action.Unfit.{Unfit};
 ghost use Rattle.operator_model.specs.declared.action.Action.TheVariants as actions;
-ghost use Rattle.operator_model.specs.Deciding.{first_decision};
 ghost use Rattle.operator_model.specs.State.{operator, opened_state, opened_before};
 ghost use Rattle.operator_model.specs.Machine.{stranger_of, is_spent, unfit_of, unfit_from, own_step, after_step, IsAllowed};
 ghost use Rattle.operator_model.specs.Sound.{IsSound};
 ghost use Rattle.operator_book.specs.declared.handling.FirstRequest.{FirstRequest};
 ghost use Rattle.operator_book.specs.Planned.{IsFirstRequest, IsPlanOf, IsCommittable, after_effect};
+ghost use Rattle.operator_book.specs.Resuming.{state_fault, IsStateUnder};
+ghost use Rattle.operator_book.specs.declared.state_fault.StateFault.TheVariants.{NoMemory};
 
 use crate::book::BookFault;
 use crate::handling::FirstRequest;
 use crate::machine::MachineState;
 use crate::plan::{Plan, SpareOutputs};
+use crate::state_fault::StateFault;
+use crate::state_view::StateView;
 use crate::tick_memory::TickMemory;
 use dsx_messages::Modem;
-use flow_table::Flows;
 use grant_policy::Ranks;
-use operator_model::{
-    Action, Decision, Heard, NextShare, Output, Share, SliceRow, StateView, Unfit, step_keeps_sound,
-};
+use operator_model::{Action, Heard, NextShare, Output, Share, SliceRow, Unfit, step_keeps_sound};
 use plant::{Consts, OperatorRow};
 use std::alloc::{AllocError, Global};
 use std::marker::Model;
-use transactions::Kept;
 
 /// A machine of which the state is sound. Contracts see the operator.
 #[derive(Drop)]
@@ -86,24 +85,22 @@ impl SoundMachine {
         let _ = &self.machine;
     }
 
-    /// Returns the machine of an operator that goes on from a sound state, of which these are the
-    /// tables.
+    /// Returns the machine of an operator that goes on from a state.
+    #[tactic(auto, using(crate::proofs::UnderState::only_memory))]
     fn resume(
         alloc: Global,
         row: &OperatorRow,
         consts: &Consts,
-        flows: Flows,
-        kept: Kept,
         state: StateView,
-    ) -> Result<SoundMachine, AllocError>
-        requires flows { flows ≡ record { capacity = row.now.flows; units = consts.now.units; flows = state.flows } }
-        requires kept { kept
-            ≡ record { capacity = row.now.transactions; waits = consts.now.timers; entries = state.kept } }
-        requires sound { IsSound (operator consts.now row.now state) }
-        ensures { IfOk result (λ sound. sound ≡ operator consts.now row.now state) }
+    ) -> Result<SoundMachine, StateFault>
+        ensures ok { IfOk result (λ sound. sound ≡ operator consts.now row.now state) }
+        ensures fault { IfErr result (λ f. (f ≡ NoMemory) ⊎ (state_fault consts.now row.now state ≡ Some f)) }
+        ensures only { IsStateUnder consts.now row.now state → IfErr result (λ f. f ≡ NoMemory) }
     {
-        let machine = MachineState::resume(alloc, row, consts, flows, kept, state)?;
-        Ok(SoundMachine { machine })
+        match MachineState::resume(alloc, row, consts, state) {
+            Ok(machine) => Ok(SoundMachine { machine }),
+            Err(fault) => Err(fault),
+        }
     }
 
     /// Plans an action that is not refused.
@@ -151,8 +148,7 @@ impl SoundMachine {
         requires { IsAllowed self.old (actions.Arrive modem heard) }
         ensures state { OnOk result (self.new ≡ after_step self.old (actions.Arrive modem heard)) }
         // The outputs are those of a step of the operator's own machine.
-        ensures outputs { IfOk result (λ outputs. outputs.items
-            ≡ (own_step self.old (actions.Arrive modem heard)).outputs) }
+        ensures outputs { IfOk result (λ outputs. outputs.items ≡ (own_step self.old (actions.Arrive modem heard)).outputs) }
         ensures few { IfOk result (λ outputs. vec_len outputs ≤ 1) }
         ensures err { OnErr result (self.new ≡ self.old) }
     {
@@ -179,13 +175,6 @@ impl SoundMachine {
         // For the proof: an action that is not refused leaves a sound state.
         step_keeps_sound();
         self.machine.take_request(alloc, first)
-    }
-
-    /// Returns the check that decides what was received first.
-    fn first_decision(&self, alloc: Global) -> Result<Option<Decision>, AllocError>
-        ensures { IfOk result (λ decision. decision ≡ first_decision self.now self.now.state.inbox) }
-    {
-        self.machine.first_decision(alloc)
     }
 
     /// Takes a slice that fits from a later frame on, with no memory.
@@ -221,31 +210,29 @@ impl Machine {
         frame: u32,
     ) -> Result<Machine, AllocError>
         requires { IsRowOf consts.now row.now }
-        ensures { IfOk result (λ live. live.sound
-            ≡ operator consts.now row.now (opened_before frame consts.now row.now)) }
+        ensures { IfOk result (λ live. live.sound ≡ operator consts.now row.now (opened_before frame consts.now row.now)) }
     {
         let sound = SoundMachine::open_before(alloc, row, consts, frame)?;
         Ok(Machine { sound })
     }
 
     /// Returns the machine of an operator that goes on from a state under this row: a state that was
-    /// saved, or that of a machine with another row. The caller has judged it (`judge_state` of
-    /// `state_judge`): it is sound under the row, and these are its tables.
+    /// saved, or that of a machine with another row. It goes on from every state that is sound under
+    /// the row, whose responses are as the cache keeps them, and of which all modems are the row's.
     pub fn resume(
         alloc: Global,
         row: &OperatorRow,
         consts: &Consts,
-        flows: Flows,
-        kept: Kept,
         state: StateView,
-    ) -> Result<Machine, AllocError>
-        requires flows { flows ≡ record { capacity = row.now.flows; units = consts.now.units; flows = state.flows } }
-        requires kept { kept
-            ≡ record { capacity = row.now.transactions; waits = consts.now.timers; entries = state.kept } }
-        requires sound { IsSound (operator consts.now row.now state) }
+    ) -> Result<Machine, StateFault>
         ensures ok { IfOk result (λ live. live.sound ≡ operator consts.now row.now state) }
+        // The fault is the first one of the state in a stated order, or memory ran out.
+        ensures fault { IfErr result (λ f. (f ≡ NoMemory) ⊎ (state_fault consts.now row.now state ≡ Some f)) }
+        // No other fault than memory comes of a sound state whose responses are as the cache keeps them, and whose
+        // modems the row lists.
+        ensures only { IsStateUnder consts.now row.now state → IfErr result (λ fault. fault ≡ NoMemory) }
     {
-        let sound = SoundMachine::resume(alloc, row, consts, flows, kept, state)?;
+        let sound = SoundMachine::resume(alloc, row, consts, state)?;
         Ok(Machine { sound })
     }
 
@@ -374,15 +361,6 @@ impl Machine {
         ensures err { OnErr result (self.new.sound ≡ self.old.sound) }
     {
         self.sound.take_request(alloc, first)
-    }
-
-    /// Returns the check that decides what was received first, which the operator handles next: the
-    /// one that its verdict names, or one before it. No check decides an acknowledgement or a
-    /// bandwidth request. Takes memory as the verdict does.
-    pub fn first_decision(&self, alloc: Global) -> Result<Option<Decision>, AllocError>
-        ensures { IfOk result (λ decision. decision ≡ first_decision self.now.sound self.now.sound.state.inbox) }
-    {
-        self.sound.first_decision(alloc)
     }
 
     /// Plans an action and commits the plan. A refused action changes nothing. A tick ranks the flows by

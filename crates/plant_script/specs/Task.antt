@@ -74,8 +74,7 @@ IsNotThreaded (outcomes.Threads plant lines) = ⊥
 -- the status and the text of an answer: what is said, and after it the invalid line, if there is one
 abbrev pub IsEnded : List ℕ → Option ℕ → Answer → Type 0
 IsEnded text None answer = (status_code answer.status ≡ 0) × (answer.text.items ≡ text)
-IsEnded text (Some number) answer = (status_code answer.status ≡ 4)
-    × (answer.text.items ≡ text ++ (codes "fault: line " ++ (decimal number ++ 10 ∷ [])))
+IsEnded text (Some number) answer = (status_code answer.status ≡ 4) × (answer.text.items ≡ text ++ (codes "fault: line " ++ (decimal number ++ 10 ∷ [])))
 
 -- what `run` results in is written
 abbrev pub EndsRun : PlantFields → List LineStep → ℕ → (List ℕ → Type 0) → Type 0

@@ -26,7 +26,7 @@ use std::sync::{Mutex, Wait};
 #[derive(Drop)]
 pub struct OperatorCell {
     op: Op,
-    state: Mutex<Held>,
+    held: Mutex<Held>,
     signal: Signal,
 }
 
@@ -50,13 +50,13 @@ impl OperatorCell {
     }
 
     /// Returns the cell round this.
-    fn holding(op: Op, state: Held) -> OperatorCell
+    fn holding(op: Op, held: Held) -> OperatorCell
         ensures { result.op ≡ op }
     {
-        let count = state.count();
+        let count = held.count();
         OperatorCell {
             op,
-            state: Mutex::new(state),
+            held: Mutex::new(held),
             signal: Signal::new(count),
         }
     }
@@ -68,10 +68,10 @@ impl OperatorCell {
     {
         let OperatorCell {
             op: _,
-            state,
+            held,
             signal: _,
         } = self;
-        state.into_inner().into_parts()
+        held.into_inner().into_parts()
     }
 
     /// Returns what is done under the lock.
@@ -87,7 +87,7 @@ impl OperatorCell {
     {
         Turn {
             op: self.op,
-            state: &self.state,
+            held: &self.held,
             signal: &self.signal,
             looks,
         }

@@ -28,7 +28,7 @@ pub(crate) enum EarlyEnd {
 /// What a thread of a run reports when it has ended.
 #[derive(Drop)]
 pub(crate) struct ThreadReport {
-    pub receipts: Vec<Told>,
+    pub told: Vec<Told>,
     pub refused: Option<EarlyEnd>,
 }
 

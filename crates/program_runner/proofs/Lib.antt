@@ -2,7 +2,5 @@ mod Common
 mod WithoutOptions
 mod StateLemmas
 mod HeadLemmas
-mod NoteLemmas
 mod RestoreLemmas
 mod SnapshotLemmas
-mod SnapshotRunLemmas

@@ -41,8 +41,7 @@ pub(crate) fn refuse<'a, W: Write, E: Write>(
     writer: &mut W,
     reasons: &mut E,
 ) -> u8
-    ensures { output ≡ Plain → result ≢ 6 → (result ≡ 2)
-        × Appends (W.contents writer.old) (W.contents writer.new) words_line }
+    ensures { output ≡ Plain → result ≢ 6 → (result ≡ 2) × Appends (W.contents writer.old) (W.contents writer.new) words_line }
 {
     tell(reasons, text_of_wrong(alloc, words));
     match output {

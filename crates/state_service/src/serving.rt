@@ -16,7 +16,7 @@ use crate::durable::{DurableState, KeptState, SavedState, StartState, put_snapsh
 use crate::fault::StateServiceFault;
 use crate::period_end::{DueState, PeriodEnd};
 use crate::periods::serve_period;
-use crate::resumed::ServiceObserver;
+use crate::resumed::RefusalNotes;
 use crate::starting::{GivenPlant, StartedService, start_service};
 use line_journal::{Device, Journal};
 use plant_restart::restore;
@@ -35,7 +35,7 @@ struct ServedPeriod {
 
 /// Puts a state that is due in the place of the lines since the last one, writes the answer that waits for it, and serves lines with a
 /// core in that state until another one is due.
-fn serve_kept<D: Device, B: BufRead, W: Write, O: ServiceObserver<Vec<u8>>>(
+fn serve_kept<D: Device, B: BufRead, W: Write, N: RefusalNotes>(
     alloc: Global,
     journal: &mut Journal<D>,
     due: DueState,
@@ -45,23 +45,20 @@ fn serve_kept<D: Device, B: BufRead, W: Write, O: ServiceObserver<Vec<u8>>>(
     period: u64,
     reader: &mut B,
     writer: &mut W,
-    observer: &mut O,
+    notes: &mut N,
 ) -> Result<ServedPeriod, StateServiceFault>
     requires settled { IsJournalSettled D.seen D.may_leave journal.old.device journal.old.gate }
     requires says { SaysDue count due }
     ensures settled { OnOk result (IsJournalSettled D.seen D.may_leave journal.new.device journal.new.gate) }
-    ensures on { IfOk result (λ served. (found : Option JournalContent) (given : List ℕ)
-        (known written : Option (List ℕ))
+    ensures on { IfOk result (λ served. (found : Option JournalContent) (given : List ℕ) (known written : Option (List ℕ))
         → IsServedUpTo found (journal_content (D.seen journal.old.device)) given file count (Due due) part.old.items
         known (B.remaining reader.old) written (W.contents writer.old)
-        → IsServedUpTo found (journal_content (D.seen journal.new.device)) given served.file served.count served.end
-        part.new.items
+        → IsServedUpTo found (journal_content (D.seen journal.new.device)) given served.file served.count served.end part.new.items
         known (B.remaining reader.new) written (W.contents writer.new)) }
     ensures any_moment { (found : Option JournalContent) (given : List ℕ) (known written : Option (List ℕ))
         → IsServedUpTo found (journal_content (D.seen journal.old.device)) given file count (Due due) part.old.items
         known (B.remaining reader.old) written (W.contents writer.old)
-        → LeavesOnly D.moment D.left_since journal.old.device journal.new.device
-        (λ c. IsLeftUnder found given known (journal_content c)) }
+        → LeavesOnly D.moment D.left_since journal.old.device journal.new.device (λ c. IsLeftUnder found given known (journal_content c)) }
     ensures fault { IfErr result (IsServingFault (D.faults journal.old.device) (D.faults journal.new.device)) }
     ensures counted { D.faults journal.old.device ≤ D.faults journal.new.device }
 {
@@ -88,7 +85,7 @@ fn serve_kept<D: Device, B: BufRead, W: Write, O: ServiceObserver<Vec<u8>>>(
         period,
         reader,
         writer,
-        observer,
+        notes,
     )?;
     Ok(ServedPeriod {
         file: service.file,
@@ -99,7 +96,7 @@ fn serve_kept<D: Device, B: BufRead, W: Write, O: ServiceObserver<Vec<u8>>>(
 
 /// Restores the state of a journal, does its lines again, and serves the first lines of the input under the plant file, until a state is
 /// due.
-fn serve_first<D: Device, B: BufRead, W: Write, O: ServiceObserver<Vec<u8>>>(
+fn serve_first<D: Device, B: BufRead, W: Write, N: RefusalNotes>(
     alloc: Global,
     journal: &mut Journal<D>,
     state: SavedState,
@@ -108,24 +105,20 @@ fn serve_first<D: Device, B: BufRead, W: Write, O: ServiceObserver<Vec<u8>>>(
     period: u64,
     reader: &mut B,
     writer: &mut W,
-    observer: &mut O,
+    notes: &mut N,
 ) -> Result<ServedPeriod, StateServiceFault>
-    requires found { StandsForState (journal_content (D.seen journal.old.device)) state.start.count state.start.plant
-        state.start.saved
+    requires found { StandsForState (journal_content (D.seen journal.old.device)) state.start.count state.start.plant state.start.saved
         (texts state.lines.items) }
     requires settled { IsJournalSettled D.seen D.may_leave journal.old.device state.gate }
     requires given { text_plant (parse_document given.file.items) ≡ Ok given.plant }
     requires part { part.old.items ≡ [] }
     ensures settled { OnOk result (IsJournalSettled D.seen D.may_leave journal.new.device journal.new.gate) }
-    ensures on { IfOk result (λ served. IsServedUpTo (journal_content (D.seen journal.old.device))
-        (journal_content (D.seen journal.new.device))
+    ensures on { IfOk result (λ served. IsServedUpTo (journal_content (D.seen journal.old.device)) (journal_content (D.seen journal.new.device))
         given.file.items served.file served.count served.end part.new.items
         (B.remaining reader.old) (B.remaining reader.new) (W.contents writer.old) (W.contents writer.new)) }
     ensures any_moment { LeavesOnly D.moment D.left_since journal.old.device journal.new.device
-        (λ c. IsLeftUnder (journal_content (D.seen journal.old.device)) given.file.items (B.remaining reader.old)
-        (journal_content c)) }
-    ensures fault { IfErr result (IsStartFault (journal_content (D.seen journal.old.device)) given.file.items
-        (D.faults journal.old.device)
+        (λ c. IsLeftUnder (journal_content (D.seen journal.old.device)) given.file.items (B.remaining reader.old) (journal_content c)) }
+    ensures fault { IfErr result (IsStartFault (journal_content (D.seen journal.old.device)) given.file.items (D.faults journal.old.device)
         (D.faults journal.new.device)) }
     ensures counted { D.faults journal.old.device ≤ D.faults journal.new.device }
 {
@@ -155,7 +148,7 @@ fn serve_first<D: Device, B: BufRead, W: Write, O: ServiceObserver<Vec<u8>>>(
         period,
         reader,
         writer,
-        observer,
+        notes,
     )?;
     Ok(ServedPeriod {
         file: service.file,
@@ -165,8 +158,8 @@ fn serve_first<D: Device, B: BufRead, W: Write, O: ServiceObserver<Vec<u8>>>(
 }
 
 /// Serves the lines of an input from the state of a journal, under a plant file. A state that is due takes the place of the lines since the
-/// last one. Returns how many bytes are kept of what follows the last line feed of the input, which is not done.
-pub(crate) fn serve_restored<D: Device, B: BufRead, W: Write, O: ServiceObserver<Vec<u8>>>(
+/// last one.
+pub(crate) fn serve_restored<D: Device, B: BufRead, W: Write, N: RefusalNotes>(
     alloc: Global,
     journal: &mut Journal<D>,
     state: SavedState,
@@ -174,38 +167,33 @@ pub(crate) fn serve_restored<D: Device, B: BufRead, W: Write, O: ServiceObserver
     period: u64,
     reader: &mut B,
     writer: &mut W,
-    observer: &mut O,
-) -> Result<usize, StateServiceFault>
-    requires found { StandsForState (journal_content (D.seen journal.old.device)) state.start.count state.start.plant
-        state.start.saved
+    notes: &mut N,
+) -> Result<(), StateServiceFault>
+    requires found { StandsForState (journal_content (D.seen journal.old.device)) state.start.count state.start.plant state.start.saved
         (texts state.lines.items) }
     requires settled { IsJournalSettled D.seen D.may_leave journal.old.device state.gate }
     requires given { text_plant (parse_document given.file.items) ≡ Ok given.plant }
-    ensures served { IfOk result (λ unfinished. IfSome (B.remaining reader.old)
-        (λ input. IsServiceOn (journal_content (D.seen journal.old.device))
-        given.file.items input unfinished (journal_content (D.seen journal.new.device)) (W.contents writer.old)
-        (W.contents writer.new))) }
+    ensures served { OnOk result (IfSome (B.remaining reader.old) (λ input. IsServiceOn (journal_content (D.seen journal.old.device))
+        given.file.items input (journal_content (D.seen journal.new.device)) (W.contents writer.old) (W.contents writer.new))) }
     ensures settled { OnOk result (IsJournalSettled D.seen D.may_leave journal.new.device journal.new.gate) }
     ensures any_moment { LeavesOnly D.moment D.left_since journal.old.device journal.new.device
-        (λ c. IsLeftUnder (journal_content (D.seen journal.old.device)) given.file.items (B.remaining reader.old)
-        (journal_content c)) }
-    ensures fault { IfErr result (IsStartFault (journal_content (D.seen journal.old.device)) given.file.items
-        (D.faults journal.old.device)
+        (λ c. IsLeftUnder (journal_content (D.seen journal.old.device)) given.file.items (B.remaining reader.old) (journal_content c)) }
+    ensures fault { IfErr result (IsStartFault (journal_content (D.seen journal.old.device)) given.file.items (D.faults journal.old.device)
         (D.faults journal.new.device)) }
     ensures counted { D.faults journal.old.device ≤ D.faults journal.new.device }
 {
     let mut part = Vec::new(alloc);
     let mut served = serve_first(
-        alloc, journal, state, given, &mut part, period, reader, writer, observer,
+        alloc, journal, state, given, &mut part, period, reader, writer, notes,
     )?;
     for _ in 0..u64::MAX {
         let ServedPeriod { file, count, end } = served;
         let due = match end {
-            PeriodEnd::Ended { unfinished } => return Ok(unfinished),
+            PeriodEnd::Ended => return Ok(()),
             PeriodEnd::Due { due } => due,
         };
         served = serve_kept(
-            alloc, journal, due, file, count, &mut part, period, reader, writer, observer,
+            alloc, journal, due, file, count, &mut part, period, reader, writer, notes,
         )?;
     }
     Err(StateServiceFault::from(io::Error::from(io::ErrorKind::Other)))

@@ -19,7 +19,7 @@ use crate::fault::StateServiceFault;
 use crate::greeting::{resting_frame, write_greeting};
 use crate::period_end::{DueState, PeriodEnd};
 use crate::periods::serve_period;
-use crate::resumed::ServiceObserver;
+use crate::resumed::RefusalNotes;
 use line_journal::{Device, Journal};
 use plant::Plant;
 use plant_restart::{change, refused_states};
@@ -57,8 +57,7 @@ fn change_service<W: Write>(
     ensures says { IfOk result (λ started. SaysAtEnd started.service.count started.end) }
     ensures leads { IfOk result (λ started. (content : Option JournalContent)
         → LeadsAtEnd started.end content (live_view started.service.core) started.service.count) }
-    ensures on { IfOk result (λ started. (found : Option JournalContent) (input : List ℕ)
-        → LeadsHere found (live_view service.core) service.count
+    ensures on { IfOk result (λ started. (found : Option JournalContent) (input : List ℕ) → LeadsHere found (live_view service.core) service.count
         → IsSavedWith found service.file → IsServiceSoFar found given.file.items started.end found input input []
         (live_view started.service.core) started.service.count (W.contents writer.old) (W.contents writer.new)) }
     ensures fault { IfErr result (IsFaultOfChange (live_view service.core) given.plant) }
@@ -87,7 +86,7 @@ fn change_service<W: Write>(
 
 /// Does the lines of a journal again with a restored core, writes where the service goes on, and serves the first lines of the input. If
 /// the plant file is not the one that was saved, the plant is changed to it instead, before any line.
-pub(crate) fn start_service<D: Device, B: BufRead, W: Write, O: ServiceObserver<Vec<u8>>>(
+pub(crate) fn start_service<D: Device, B: BufRead, W: Write, N: RefusalNotes>(
     alloc: Global,
     journal: &mut Journal<D>,
     mut service: DurableState,
@@ -97,11 +96,10 @@ pub(crate) fn start_service<D: Device, B: BufRead, W: Write, O: ServiceObserver<
     period: u64,
     reader: &mut B,
     writer: &mut W,
-    observer: &mut O,
+    notes: &mut N,
 ) -> Result<StartedService, StateServiceFault>
     requires settled { IsJournalSettled D.seen D.may_leave journal.old.device journal.old.gate }
-    requires restored { IsRestoredFrom (journal_content (D.seen journal.old.device)) service.file service.count
-        (texts lines.now)
+    requires restored { IsRestoredFrom (journal_content (D.seen journal.old.device)) service.file service.count (texts lines.now)
         (live_view service.core) }
     requires given { text_plant (parse_document given.file.items) ≡ Ok given.plant }
     requires part { part.old.items ≡ [] }
@@ -112,19 +110,13 @@ pub(crate) fn start_service<D: Device, B: BufRead, W: Write, O: ServiceObserver<
     ensures says { IfOk result (λ started. SaysAtEnd started.service.count started.end) }
     ensures leads { IfOk result (λ started. LeadsAtEnd started.end (journal_content (D.seen journal.new.device))
         (live_view started.service.core) started.service.count) }
-    ensures on { IfOk result (λ started. WhereKnown (B.remaining reader.old) (B.remaining reader.new)
-        (λ input rest. IsServiceSoFar
-        (journal_content (D.seen journal.old.device)) given.file.items started.end
-        (journal_content (D.seen journal.new.device)) input rest
-        part.new.items (live_view started.service.core) started.service.count (W.contents writer.old)
-        (W.contents writer.new))) }
-    ensures no_fewer { OnOk result (HasNoFewer (service.count + length lines.now)
-        (journal_content (D.seen journal.new.device))) }
+    ensures on { IfOk result (λ started. WhereKnown (B.remaining reader.old) (B.remaining reader.new) (λ input rest. IsServiceSoFar
+        (journal_content (D.seen journal.old.device)) given.file.items started.end (journal_content (D.seen journal.new.device)) input rest
+        part.new.items (live_view started.service.core) started.service.count (W.contents writer.old) (W.contents writer.new))) }
+    ensures no_fewer { OnOk result (HasNoFewer (service.count + length lines.now) (journal_content (D.seen journal.new.device))) }
     ensures any_moment { LeavesOnly D.moment D.left_since journal.old.device journal.new.device
-        (λ c. IsLeftUnder (journal_content (D.seen journal.old.device)) given.file.items (B.remaining reader.old)
-        (journal_content c)) }
-    ensures fault { IfErr result (IsStartFault (journal_content (D.seen journal.old.device)) given.file.items
-        (D.faults journal.old.device)
+        (λ c. IsLeftUnder (journal_content (D.seen journal.old.device)) given.file.items (B.remaining reader.old) (journal_content c)) }
+    ensures fault { IfErr result (IsStartFault (journal_content (D.seen journal.old.device)) given.file.items (D.faults journal.old.device)
         (D.faults journal.new.device)) }
     ensures counted { D.faults journal.old.device ≤ D.faults journal.new.device }
 {
@@ -141,7 +133,7 @@ pub(crate) fn start_service<D: Device, B: BufRead, W: Write, O: ServiceObserver<
         period,
         reader,
         writer,
-        observer,
+        notes,
     )?;
     Ok(StartedService { service, end })
 }

@@ -53,13 +53,13 @@ impl Held {
         let index = self.count();
         // For the proof: the state of the book is the replay of its history.
         self.book.always_replayed();
-        let Ok(copied) = action.copy(alloc) else {
+        let Ok(told) = action.copy(alloc) else {
             return Err(BookFault::NoMemory);
         };
         match self.book.act(alloc, action) {
             Ok(outputs) => Ok(Receipt {
                 index,
-                action: copied,
+                action: told,
                 outputs: Outputs::from_vec(outputs),
             }),
             Err(_) => Err(BookFault::NoMemory),

@@ -42,11 +42,9 @@ pub fn do_batch<D: Device>(
 
     // The lines are on the disk.
     ensures acknowledged { OnOk result (IsJournalSettled D.seen D.may_leave journal.new.device journal.new.gate
-        × (journal_content (D.seen journal.new.device)
-        ≡ with_lines (texts lines.now) (journal_content (D.seen journal.old.device)))) }
+        × (journal_content (D.seen journal.new.device) ≡ with_lines (texts lines.now) (journal_content (D.seen journal.old.device)))) }
     // After whatever run led to the core, they are done, and the text is exactly that of their answers, by number.
-    ensures done { IfOk result (λ text. BehindEachRun (live_view service.old.core)
-        (λ plant start before shown. AreLinesDone plant start before shown
+    ensures done { IfOk result (λ text. BehindEachRun (live_view service.old.core) (λ plant start before shown. AreLinesDone plant start before shown
         (service.old.count + 1) (texts lines.now) (live_view service.new.core) text.items)) }
     ensures reached { OnOk result (IsReachableFromStart (live_view service.new.core)) }
     ensures count { OnOk result (service.new.count ≡ service.old.count + length lines.now) }
@@ -54,13 +52,11 @@ pub fn do_batch<D: Device>(
     // The journal still leads to the core.
     ensures leads { OnOk result ((plant : PlantFields)
         → IsLeading (journal_content (D.seen journal.old.device)) plant (live_view service.old.core) service.old.count
-        → IsLeading (journal_content (D.seen journal.new.device)) plant (live_view service.new.core)
-        service.new.count) }
+        → IsLeading (journal_content (D.seen journal.new.device)) plant (live_view service.new.core) service.new.count) }
 
     // A crash at any moment of the call leaves the lines from before it, with all the new ones or with none.
     ensures any_moment { LeavesOnly D.moment D.left_since journal.old.device journal.new.device
-        (IsBeforeOrAfter (journal_content (D.seen journal.old.device))
-        (with_lines (texts lines.now) (journal_content (D.seen journal.old.device)))) }
+        (IsBeforeOrAfter (journal_content (D.seen journal.old.device)) (with_lines (texts lines.now) (journal_content (D.seen journal.old.device)))) }
 
     // `Disk` comes only if the disk has failed.
     ensures disk { result ≡ Err faults.Disk → D.faults journal.old.device < D.faults journal.new.device }

@@ -11,8 +11,8 @@ returns-in-Ended-clause-served g c =
     let on = c.loop.invariant.on in
     let new = journal_content (g.D.Device.seen c.loop.journal.device) in
     all_served (journal_content (g.D.Device.seen c.args.journal.now.device)) new c.args.given.file.items c.loop.part.items served.end on.live served.count
-    (g.B.Read.remaining c.args.reader.now) (g.B.Read.remaining c.loop.reader) (g.W.Write.contents c.args.writer.now) (g.W.Write.contents c.loop.writer) c.in-Ended.unfinished c.in-Ended.is
-    (ended_leads served.end new on.live served.count c.in-Ended.unfinished c.in-Ended.is on.leads) on.serves
+    (g.B.Read.remaining c.args.reader.now) (g.B.Read.remaining c.loop.reader) (g.W.Write.contents c.args.writer.now) (g.W.Write.contents c.loop.writer) c.in-Ended.is
+    (ended_leads served.end new on.live served.count c.in-Ended.is on.leads) on.serves
 
 pub returns-in_err-served-2-clause-any_moment : goal.returns-in_err-served-2-clause-any_moment
 returns-in_err-served-2-clause-any_moment g c =

@@ -5,5 +5,5 @@ use Rattle.operator_book.proofs.machine.MachineState.added_under.Goals as goal
 
 pub put_within_limit-requires : goal.put_within_limit-requires
 put_within_limit-requires c =
-    new_may_stand (flow_table_of c.args.self.now) c.in-Some.sfid c.in-Some-2.sid c.args.self.now.row.sids c.new_flow-flow.result
+    new_may_stand (flow_table_of c.args.self.now) c.in-Some-Some.sfid c.in-Some-Some.sid c.args.self.now.row.sids c.new_flow-flow.result
     (search rules) c.requires.room (search rules) (search rules)

@@ -1,5 +1,0 @@
-mod CountLemmas
-mod FairLemmas
-mod ItemLemmas
-mod RunLemmas
-mod TurnLemmas

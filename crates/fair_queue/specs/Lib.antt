@@ -1,4 +1,0 @@
-pub mod Fair
-pub mod Items
-pub mod Laws
-pub mod Runs

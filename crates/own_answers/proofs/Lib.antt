@@ -1,2 +1,0 @@
-mod SegmentLemmas
-mod WriteLemmas

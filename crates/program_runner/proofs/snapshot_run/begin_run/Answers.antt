@@ -1,7 +1,0 @@
-use Rattle.program_runner.proofs.SnapshotRunLemmas.{run_not_begun}
-use Rattle.program_runner.proofs.snapshot_run.begin_run.Goals as goal
-
-pub returns-in-Ok-Err-clause-refused : goal.returns-in-Ok-Err-clause-refused
-returns-in-Ok-Err-clause-refused g c =
-    run_not_begun (g.R.Read.remaining c.args.reader.now) (g.W.Write.contents c.args.writer.now) (g.W.Write.contents c.refuse_to_begin.new.writer) c.refuse_to_begin.result
-    c.in-Ok-Err.fault c.in-Ok-Err.ensures.fault c.refuse_to_begin.ensures
