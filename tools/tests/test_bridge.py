@@ -33,6 +33,7 @@ from service.reference.program import Core
 from service.reference.services import answer_of_line
 from tools import EXAMPLES, ROOT
 from tools.compare.program import PROGRAM
+from tools.tests.killing import kill_group
 
 SECONDS, SECONDS_TO_START = 30, 60
 # A test that waits fails after this time, once the bridge has an edit. One with a channel has the whole time.
@@ -731,8 +732,7 @@ class Channel(Bridge):
         self.assertEqual(of_a.read(), [f"1 R {ONE} {ADDED}"])
         self.tick(1)
         self.assertEqual(of_a.read(), ["- F A 0 0/6/8/32"])
-        os.killpg(self.channel.pid, signal.SIGKILL)
-        self.channel.wait()
+        kill_group(self.channel, SECONDS)
         of_a.write(f"Q {ONE} 257 5")
         self.start_channel()
         self.assertEqual((of_a.read(), self.owner.read()), (["- started frame 1"], ["- S line 4 frame 1"]))

@@ -21,6 +21,7 @@ import time
 import unittest
 
 from tools import ROOT
+from tools.tests.killing import kill_group
 
 SCRIPT = ROOT / "service/systemd/serve_channel"
 TEXTS = {"serve_channel": SCRIPT.read_text()}
@@ -611,8 +612,7 @@ class FolderChannel(Channel):
 
     def test_a_folder_goes_on_after_all_processes_were_killed(self):
         process = self.start_and_send()
-        os.killpg(process.pid, signal.SIGKILL)
-        process.wait()
+        kill_group(process, SECONDS)
         self.send("two\n")
         self.start()
         self.answered("S line 2 frame 0", "A 2 two a = 1;b = 2;")

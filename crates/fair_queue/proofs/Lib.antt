@@ -1,0 +1,5 @@
+mod CountLemmas
+mod FairLemmas
+mod ItemLemmas
+mod RunLemmas
+mod TurnLemmas

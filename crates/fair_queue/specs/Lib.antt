@@ -1,0 +1,4 @@
+pub mod Fair
+pub mod Items
+pub mod Laws
+pub mod Runs
