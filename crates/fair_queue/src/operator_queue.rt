@@ -10,7 +10,7 @@ use std::alloc::{AllocError, Global};
 use std::collections::VecDeque;
 use std::marker::Model;
 
-/// Says that a queue of which no line may be chosen was to be opened_queue: the operator would never be served.
+/// Says that a queue was to be opened of which no line may be chosen: the operator would never be served.
 #[derive(Clone, Copy, Debug, PartialEq, Eq)]
 pub struct ZeroLimit;
 

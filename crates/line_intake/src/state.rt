@@ -1,7 +1,9 @@
 //! What the lock of an intake guards. All that a caller under the lock can do is a call here.
 
-ghost use Rattle.std.specs.Prelude.{◌≡◌, ◌≤◌, ◌⊎◌, true, false, IfSome, IfNone, OnOk, OnErr, vec_capacity};
-ghost use Rattle.fair_queue.specs.Fair.{IsChoice, IsOffered, IsOwnerOffered};
+ghost use Rattle.std.specs.Prelude.{◌≡◌, ◌≤◌, ◌<◌, ◌+◌, ◌⊎◌, ◌↔◌, true, false, Some, Err, IsTrue, IfSome, IfNone, OnOk, OnErr, length, slice_get, vec_capacity};
+ghost use Rattle.fair_queue.specs.Fair.{IsChoice, IsNothingReady, IsOffered, IsOwnerOffered};
+ghost use Rattle.fair_queue.specs.Items.{QueueView, owner_bytes, waiting_bytes};
+ghost use Rattle.line_intake.specs.declared.state.OfferFault.TheVariants as faults;
 ghost use Rattle.line_intake.specs.Batches.{is_tick_choice, IsBatchTaken};
 
 use fair_queue::{Choice, FairQueue, Line, OwnerLine};
@@ -44,7 +46,9 @@ fn is_tick(choice: &Choice) -> bool
 
 impl IntakeState {
     /// Returns whether the readers have to wait until all threads are made.
-    pub fn must_begin(&self) -> bool {
+    pub fn must_begin(&self) -> bool
+        ensures { IsTrue result ↔ ((self.now.is_begun ≡ false) × (self.now.is_stopped ≡ false)) }
+    {
         !self.is_begun && !self.is_stopped
     }
 
@@ -67,6 +71,10 @@ impl IntakeState {
     pub fn offer(&mut self, op: usize, line: Line) -> Result<(), OfferFault>
         ensures ok { OnOk result (IsOffered op line self.old.queue self.new.queue) }
         ensures err { OnErr result (self.new.queue ≡ self.old.queue) }
+        ensures stopped { (result ≡ Err faults.Stopped) ↔ (self.old.is_stopped ≡ true) }
+        // There is no such input, or no room for the line.
+        ensures full { result ≡ Err faults.Full → (q : QueueView) → slice_get self.old.queue.queues op ≡ Some q
+            → q.most_bytes ≤ waiting_bytes q.items + length line }
     {
         if self.is_stopped {
             return Err(OfferFault::Stopped);
@@ -84,6 +92,10 @@ impl IntakeState {
     pub fn offer_owner(&mut self, line: OwnerLine) -> Result<(), OfferFault>
         ensures ok { OnOk result (IsOwnerOffered line self.old.queue self.new.queue) }
         ensures err { OnErr result ((self.new.queue ≡ self.old.queue) ⊎ (self.new.is_stopped ≡ true)) }
+        ensures stopped { (result ≡ Err faults.Stopped) ↔ (self.old.is_stopped ≡ true) }
+        // There is no room for the line.
+        ensures full { result ≡ Err faults.Full → self.old.queue.owner.most_bytes
+            ≤ owner_bytes self.old.queue.owner.lines + length line.line }
     {
         if self.is_stopped {
             return Err(OfferFault::Stopped);
@@ -104,6 +116,7 @@ impl IntakeState {
     pub fn choose(&mut self) -> Option<Choice>
         ensures some { IfSome result (λ choice. IsChoice choice self.old.queue self.new.queue) }
         ensures none { IfNone result (self.new.queue ≡ self.old.queue) }
+        ensures why { IfNone result ((self.old.is_stopped ≡ true) ⊎ IsNothingReady self.old.queue) }
     {
         if self.is_stopped {
             return None;
@@ -130,7 +143,13 @@ impl IntakeState {
     }
 
     /// Notes that an input has ended, or could not be read.
-    pub fn end_input(&mut self, is_failed: bool) {
+    pub fn end_input(&mut self, is_failed: bool)
+        ensures open { (self.old.open ≡ 0 → self.new.open ≡ 0)
+            × (0 < self.old.open → self.new.open + 1 ≡ self.old.open) }
+        ensures same { (self.new.queue ≡ self.old.queue) × (self.new.is_stopped ≡ self.old.is_stopped) }
+        ensures failed { (is_failed ≡ false → self.new.failed ≡ self.old.failed)
+            × (is_failed ≡ true → 0 < self.new.failed) }
+    {
         self.open = self.open.saturating_sub(1);
         if is_failed {
             self.failed = self.failed.saturating_add(1);
@@ -138,7 +157,12 @@ impl IntakeState {
     }
 
     /// Returns whether an input could not be read that is not reported yet, and notes that it is.
-    pub fn take_failure(&mut self) -> bool {
+    pub fn take_failure(&mut self) -> bool
+        ensures failed { IsTrue result ↔ (0 < self.old.failed) }
+        ensures noted { (self.old.failed ≡ 0 → self.new.failed ≡ 0)
+            × (0 < self.old.failed → self.new.failed + 1 ≡ self.old.failed) }
+        ensures same { (self.new.queue ≡ self.old.queue) × (self.new.is_stopped ≡ self.old.is_stopped) }
+    {
         let is_failed = self.failed > 0;
         self.failed = self.failed.saturating_sub(1);
         is_failed
