@@ -7,10 +7,10 @@ use crate::reason::{GapText, Reason};
 use crate::report::Report;
 use crate::values::say_address;
 use line_service::{FieldError, FieldFault, LineStep, NumberName, message_in, put_line};
-use plant::{OperatorRow, Plant, Routes};
+use plant::{OperatorRow, Plant, Routing};
 
 /// Returns the field of a line, counted from 0; an empty one where there is none.
-fn field_of(line: &str, field: usize) -> &str {
+pub(crate) fn field_of(line: &str, field: usize) -> &str {
     line.split(' ').nth(field).unwrap_or("")
 }
 
@@ -123,15 +123,6 @@ fn say_field_count(reason: &mut Reason, plant: &Plant, line: &str) {
     }
 }
 
-/// Says that a first field is a line of other commands.
-fn say_service_line(reason: &mut Reason, word: &str, commands: &str) {
-    reason.say("{} is a line of ", &[GapText::Words(word)]);
-    reason.say(
-        "{}: a script after a plant file has M, Q, T and Z",
-        &[GapText::Words(commands)],
-    );
-}
-
 /// Says that a first field is not a command of a script.
 fn say_no_word(reason: &mut Reason, word: &str) {
     match word {
@@ -143,8 +134,10 @@ fn say_no_word(reason: &mut Reason, word: &str) {
             "unknown command {}: write it as a capital letter",
             &[GapText::Quoted(word)],
         ),
-        "K" | "N" => say_service_line(reason, word, "serve --state, resume, restore and snapshot"),
-        "P" => say_service_line(reason, word, "resume, restore and snapshot"),
+        "K" | "N" | "P" => reason.say(
+            "{} is a line of serve, restore and snapshot: a script after a plant file has M, Q, T and Z",
+            &[GapText::Words(word)],
+        ),
         _ if word.starts_with('#') => reason.say("a script has no comments: remove the line", &[]),
         _ => reason.say(
             "unknown command {}: a line must begin with M, Q, T or Z",
@@ -154,7 +147,7 @@ fn say_no_word(reason: &mut Reason, word: &str) {
 }
 
 /// Returns what is wrong with how a line ends or is separated into fields, whatever these are.
-fn separation_error(line: &str) -> Option<&'static str> {
+pub(crate) fn separation_error(line: &str) -> Option<&'static str> {
     if line.ends_with('\r') {
         Some("it ends in a carriage return (CRLF): end lines with LF alone")
     } else if line.contains('\t') {
@@ -171,7 +164,7 @@ fn separation_error(line: &str) -> Option<&'static str> {
 }
 
 /// Says what is wrong first with the fields of a line.
-fn say_error<'a>(reason: &mut Reason, plant: &Plant, line: &'a str, error: FieldError) {
+pub(crate) fn say_error<'a>(reason: &mut Reason, plant: &Plant, line: &'a str, error: FieldError) {
     match error {
         FieldError::UnknownCommand => say_no_word(reason, field_of(line, 0)),
         FieldError::FieldCount => say_field_count(reason, plant, line),
@@ -253,9 +246,9 @@ fn add_fault<'a>(
 
 /// Returns the steps of a script, and adds each of its invalid lines; if there is one, the steps are not all. The line of three
 /// dashes has the number `bar`.
-pub(crate) fn steps_of(
+pub(crate) fn steps_of<P: Routing>(
     report: &mut Report,
-    routes: &mut Routes,
+    routes: &mut P,
     script: &str,
     bar: usize,
 ) -> Vec<LineStep> {

@@ -6,5 +6,3 @@ pub mod Opening
 pub mod Kept
 pub mod ViewOf
 pub mod MostOutputs
-pub mod Resuming
-pub mod RowFaults

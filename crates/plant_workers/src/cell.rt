@@ -7,7 +7,7 @@ ghost use Rattle.plant_workers.specs.cell_state.Receiving.{IsOfSomeBook};
 ghost use Rattle.plant_workers.specs.cell_state.Taking.{frames_at, IsFrameOfSomeBook};
 ghost use Rattle.plant_workers.specs.cell_state.Telling.{IsOfBook, IsOfTurn, IsOfTaking};
 
-use crate::cell_state::{CellFault, Held};
+use crate::cell_state::{CellFault, CellState};
 use crate::gate::Gate;
 use crate::part::LOOKS;
 use crate::receipts::Receipt;
@@ -26,7 +26,7 @@ use std::sync::{Mutex, Wait};
 #[derive(Drop)]
 pub struct OperatorCell {
     op: Op,
-    held: Mutex<Held>,
+    state: Mutex<CellState>,
     signal: Signal,
 }
 
@@ -37,7 +37,7 @@ impl OperatorCell {
         requires { book.ranking.policy ≡ book.kept.book.row.policy }
         ensures { result.op ≡ op }
     {
-        OperatorCell::holding(op, Held::of(book))
+        OperatorCell::holding(op, CellState::of(book))
     }
 
     /// Returns a cell round a book of which so many frames are collected: what `into_parts` gives,
@@ -46,17 +46,17 @@ impl OperatorCell {
         requires { taken ≤ length (frames_at (view_of book)) }
         ensures { result.op ≡ op }
     {
-        OperatorCell::holding(op, Held::again(book, taken))
+        OperatorCell::holding(op, CellState::again(book, taken))
     }
 
     /// Returns the cell round this.
-    fn holding(op: Op, held: Held) -> OperatorCell
+    fn holding(op: Op, state: CellState) -> OperatorCell
         ensures { result.op ≡ op }
     {
-        let count = held.count();
+        let count = state.count();
         OperatorCell {
             op,
-            held: Mutex::new(held),
+            state: Mutex::new(state),
             signal: Signal::new(count),
         }
     }
@@ -68,10 +68,10 @@ impl OperatorCell {
     {
         let OperatorCell {
             op: _,
-            held,
+            state,
             signal: _,
         } = self;
-        held.into_inner().into_parts()
+        state.into_inner().into_parts()
     }
 
     /// Returns what is done under the lock.
@@ -87,7 +87,7 @@ impl OperatorCell {
     {
         Turn {
             op: self.op,
-            held: &self.held,
+            state: &self.state,
             signal: &self.signal,
             looks,
         }

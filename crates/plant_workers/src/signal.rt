@@ -1,6 +1,6 @@
 //! What signals to those who wait for a turn that an operator's history has grown.
 
-use crate::cell_state::Held;
+use crate::cell_state::CellState;
 use std::array;
 use std::sync::atomic::{AtomicUsize, Ordering};
 use std::sync::{Condvar, Mutex, MutexGuard, Wait};
@@ -45,22 +45,22 @@ impl Signal {
     pub(crate) fn wait_for<'a, R: Wait>(
         &self,
         rt: &R,
-        held: &'a Mutex<Held>,
+        state: &'a Mutex<CellState>,
         index: usize,
         looks: usize,
-    ) -> MutexGuard<'a, Held> {
+    ) -> MutexGuard<'a, CellState> {
         self.look(index, looks);
-        let held = held.lock(rt);
-        if index <= held.count() || held.stopped {
-            return held;
+        let state = state.lock(rt);
+        if index <= state.count() || state.stopped {
+            return state;
         }
         // Counted before the lock is released, so that whoever changes the history next finds that one sleeps.
         self.sleepers.fetch_add(1, Ordering::SeqCst);
-        let held = self.grown[index % GROUPS].wait_while(rt, held, |held| {
-            held.count() < index && !held.stopped
+        let state = self.grown[index % GROUPS].wait_while(rt, state, |state| {
+            state.count() < index && !state.stopped
         });
         self.sleepers.fetch_sub(1, Ordering::SeqCst);
-        held
+        state
     }
 
     /// Signals that the history has grown to so many entries. Call it after the lock is released, for each entry.

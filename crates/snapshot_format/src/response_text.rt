@@ -81,12 +81,12 @@ fn put_heard(
     alloc: Global,
     text: &mut String,
     modem: Modem,
-    heard: &Heard,
+    received: &Heard,
 ) -> Result<(), AllocError>
-    ensures { OnOk result (string_bytes text.new ≡ string_bytes text.old ++ heard_text modem heard.now) }
+    ensures { OnOk result (string_bytes text.new ≡ string_bytes text.old ++ heard_text modem received.now) }
 {
     let address_field = encode_upper(alloc, modem.0.as_slice())?;
-    match heard {
+    match received {
         Heard::Message(bytes) => {
             write!(text, "message {address_field} ")?;
             put_bytes(alloc, text, bytes)?;

@@ -1,5 +1,6 @@
 pub mod Common
 pub mod BeginLemmas
+pub mod BegunLemmas
 pub mod ItemLemmas
 pub mod PeriodLemmas
 pub mod PlantFileLemmas

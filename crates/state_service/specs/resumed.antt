@@ -1,4 +1,5 @@
 pub mod Beginning
+pub mod BegunCores
 pub mod Items
 pub mod LastStates
 pub mod NewFrames

@@ -1,6 +1,8 @@
-//! Tests of a journal's file, and of services whose lines are in a journal.
+//! Tests of services, of those whose lines are in a journal, and of a journal's file.
 #![tactic(auto)]
 
+#[cfg(test)]
+mod flushing;
 #[cfg(test)]
 mod folders;
 #[cfg(test)]

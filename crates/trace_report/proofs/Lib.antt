@@ -1,5 +1,4 @@
 pub mod TableLemmas
-pub mod ChecksLemmas
 mod Common
 pub mod DecisionLemmas
 pub mod LineLemmas

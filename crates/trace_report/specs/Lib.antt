@@ -1,7 +1,5 @@
 pub mod table
-pub mod checks
 pub mod Decision
-pub mod Names
 pub mod Quotes
 pub mod Reading
 pub mod Remarks

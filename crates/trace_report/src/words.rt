@@ -13,7 +13,8 @@ use run_model::Out;
 use slice_scheduler::{Elements, Iuc, Span};
 use std::alloc::{AllocError, Global};
 
-fn response_name(kind: Kind) -> &'static str {
+/// Returns the name of the response of a kind of transaction.
+pub fn response_name(kind: Kind) -> &'static str {
     match kind {
         Kind::Dsa => "DSA-RSP",
         Kind::Dsc => "DSC-RSP",
@@ -22,7 +23,7 @@ fn response_name(kind: Kind) -> &'static str {
 }
 
 /// Returns a confirmation code in the standard's words (CM-SP-MULPIv3.1, Annex C, C.4).
-fn code_name(code: Code) -> &'static str {
+pub fn code_name(code: Code) -> &'static str {
     match code {
         Code::Okay => "okay",
         Code::RejectOther => "reject-other",

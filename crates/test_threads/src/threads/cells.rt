@@ -37,8 +37,8 @@ pub(crate) fn arrives<R: Wait>(
     cell: &OperatorCell,
     index: usize,
 ) -> Result<bool, AllocError> {
-    let heard = Heard::Message(Bytes::from_slice(alloc, &ADDITION)?);
-    Ok(has_arrived(&cell.arrive(rt, alloc, modem(1), heard), index))
+    let message = Heard::Message(Bytes::from_slice(alloc, &ADDITION)?);
+    Ok(has_arrived(&cell.arrive(rt, alloc, modem(1), message), index))
 }
 
 /// Returns whether this is a receipt at this place that outputs nothing.

@@ -64,9 +64,9 @@ fn is_settled(settled: &Result<Settled, RunFault>, wanted: Result<usize, RunFaul
     }
 }
 
-/// Returns whether a run of the steps on threads, over a plant with these rankings, results in
-/// that.
-fn run_comes_to<R: Threads + Wait + Sync, G: Gate<R> + Sync>(
+/// Returns what a run of the steps on threads results in, over a plant with these rankings, if they
+/// are those of its rows.
+fn settled_run<R: Threads + Wait + Sync, G: Gate<R> + Sync>(
     rt: &R,
     alloc: Global,
     plant: Plant,
@@ -74,13 +74,11 @@ fn run_comes_to<R: Threads + Wait + Sync, G: Gate<R> + Sync>(
     steps: Vec<Step>,
     gate: &G,
     stacks: &[usize],
-    wanted: Result<usize, RunFault>,
-) -> Result<bool, AllocError> {
+) -> Option<Result<Settled, RunFault>> {
     if are_ranked(&plant, rankings.as_slice()) {
-        let settled = run_workers_on(rt, alloc, plant, rankings, steps, gate, stacks);
-        Ok(is_settled(&settled, wanted))
+        Some(run_workers_on(rt, alloc, plant, rankings, steps, gate, stacks))
     } else {
-        Ok(false)
+        None
     }
 }
 
@@ -95,7 +93,10 @@ pub(crate) fn steps_come_to<R: Threads + Wait + Sync, G: Gate<R> + Sync>(
 ) -> Result<bool, AllocError> {
     let rankings = Vec::from_array(alloc, [strict!(alloc), strict!(alloc)])?;
     match read_plant(alloc, PLANT) {
-        Ok(plant) => run_comes_to(rt, alloc, plant, rankings, steps, gate, stacks, wanted),
+        Ok(plant) => match settled_run(rt, alloc, plant, rankings, steps, gate, stacks) {
+            Some(settled) => Ok(is_settled(&settled, wanted)),
+            None => Ok(false),
+        },
         Err(_) => Ok(false),
     }
 }

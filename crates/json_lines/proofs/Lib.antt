@@ -1,2 +1,0 @@
-mod OneLine
-mod Puts

@@ -1,0 +1,62 @@
+-- Which members an object has of what is known of an output besides its own line (implementation-specific).
+use Rattle.std.specs.Prelude.{ℕ, true, List, Option, Some, None, codes}
+use Rattle.std.specs.String.{string_bytes}
+use Rattle.serde_json.specs.Data.{Members, boolean, no_members, number, put, string, unsigned}
+use Rattle.program_runner.specs.declared.json_lines.context.Comparison.{Comparison}
+use Rattle.program_runner.specs.declared.json_lines.context.DecidingCheck.{DecidingCheck}
+use Rattle.program_runner.specs.declared.json_lines.context.OutputNote.{OutputNote}
+use Rattle.program_runner.specs.declared.json_lines.detail.ReplyDetail.{ReplyDetail}
+
+-- a number, where there is one
+abbrev pub put_if : List ℕ → Option ℕ → Members → Members
+put_if key None members = members
+put_if key (Some value) members = put key (number (unsigned value)) members
+
+-- the numbers that a check compared
+abbrev pub with_comparison : Comparison → Members → Members
+with_comparison comparison members =
+    put_if (codes "from_frame") comparison.from_frame
+    (put_if (codes "needed") comparison.needed
+    (put (codes "limit") (number (unsigned comparison.limit))
+    (put (codes "held") (number (unsigned comparison.held)) members)))
+
+-- the numbers that a check compared, if it compared any
+abbrev pub with_comparison_if : Option Comparison → Members → Members
+with_comparison_if None members = members
+with_comparison_if (Some comparison) members = with_comparison comparison members
+
+-- the check by its number and its name, and what it compared
+abbrev pub with_check : Option DecidingCheck → Members → Members
+with_check None members = members
+with_check (Some check) members =
+    with_comparison_if check.comparison
+    (put (codes "check_name") (string (string_bytes check.name))
+    (put (codes "check") (number (unsigned check.number)) members))
+
+-- the members that an object has of the line of the script, of the check that decided it, and of the numbers that the check compared
+abbrev pub with_note : OutputNote → Members → Members
+with_note note members = with_check note.check (put_if (codes "line") note.line members)
+
+-- the code of a reply, by number and name
+abbrev pub with_code : ReplyDetail → Members → Members
+with_code reply members =
+    put (codes "code_name") (string (string_bytes reply.code_name))
+    (put (codes "code") (number (unsigned reply.code)) members)
+
+-- what a reply says: its message, its transaction, its code by number and name, and what it names
+abbrev pub with_reply : ReplyDetail → Members → Members
+with_reply reply members =
+    put_if (codes "parameter") reply.parameter
+    (put_if (codes "sid") reply.sid
+    (put_if (codes "sfid") reply.sfid
+    (put_if (codes "reference") reply.reference
+    (with_code reply
+    (put (codes "transaction") (number (unsigned reply.transaction))
+    (put (codes "message") (string (string_bytes reply.message)) members))))))
+
+-- the members of the object for a line of the script that is accepted
+abbrev pub accepted_members : ℕ → Members
+accepted_members line =
+    put (codes "accepted") (boolean true)
+    (put (codes "line") (number (unsigned line))
+    (put (codes "type") (string (codes "accepted")) no_members))

@@ -1,0 +1,26 @@
+-- What members an object has that the program writes: texts, numbers of 64 bits, lists of texts, and what is true (implementation-specific).
+use Rattle.std.specs.Prelude.{◌<◌, ◌^◌, ⊤, true}
+use Rattle.serde_json.specs.Data.{Data, boolean, string, number, unsigned, array, Items, no_items, item, Members, no_members, member}
+
+-- a value of JSON is a text
+abbrev pub IsText : Data → Type 0
+IsText (string text) = ⊤
+IsText _ = ⊥
+
+-- each value of a list is a text
+abbrev pub AreTexts : Items → Type 0
+AreTexts no_items = ⊤
+AreTexts (item value values) = IsText value × AreTexts values
+
+-- a value that the program writes: a text, a number of 64 bits, a list of texts, or true
+abbrev pub IsWritable : Data → Type 0
+IsWritable (string text) = ⊤
+IsWritable (number (unsigned n)) = n < 2 ^ 64
+IsWritable (array values) = AreTexts values
+IsWritable (boolean true) = ⊤
+IsWritable _ = ⊥
+
+-- each member of an object has such a value
+abbrev pub AreWritable : Members → Type 0
+AreWritable no_members = ⊤
+AreWritable (member key value members) = IsWritable value × AreWritable members

@@ -1,0 +1,4 @@
+mod Common
+pub mod Resumes
+pub mod SoundState
+pub mod UnderState

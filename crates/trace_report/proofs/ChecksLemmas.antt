@@ -1,5 +1,0 @@
-pub mod Common
-pub mod ListLemmas
-pub mod HoldLemmas
-pub mod FirstLemmas
-pub mod MessageLemmas

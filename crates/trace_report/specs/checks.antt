@@ -1,4 +1,0 @@
-pub mod Asking
-pub mod Deciding
-pub mod Messages
-pub mod OperatorSnapshot
