@@ -33,7 +33,7 @@ _plant_script() {
     serve) words='--input --json --state --snapshot-every -h --help' ;;
     trace) words='--input --json -h --help' ;;
     history) words='--input -h --help' ;;
-    resume) words='--input --json -h --help' ;;
+    resume) words='--input -h --help' ;;
     restore) words='--input -h --help' ;;
     snapshot) words='--input -h --help' ;;
     help) words='one check run threads capture serve trace history resume restore snapshot help' ;;

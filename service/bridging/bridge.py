@@ -148,8 +148,6 @@ class Bridge:
     def route(self, output):
         """Sends an output to the connections that it is for."""
         members, pending = output.members, self.pending
-        if output.type == "accepted":
-            return
         if output.type == "start":
             self.route_start(output)
         elif output.type == "reply":

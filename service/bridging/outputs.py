@@ -66,8 +66,7 @@ def read_output(data):
         return read_text(text)
     try:
         members = json.loads(text)
-        # An accepted line has no line of the channel, and none for a client.
-        output = Output(text) if members.get("type") == "accepted" else read_text(members.pop("text"))
+        output = read_text(members.pop("text"))
     except (ValueError, TypeError, KeyError, AttributeError):
         return Output(text)
     members.pop("line", None)

@@ -18,7 +18,7 @@ def main():
     words = sys.argv[1:]
     if has_state_option(words):
         sys.exit(run(words))
-    # The lines of a service have no limit. A snapshot, on which `run` may run a script, is longer than a plant file.
+    # The lines of a service have no limit. `run` may begin one, with a snapshot.
     has_limit = words[:1] not in (["serve"], ["resume"], ["restore"], ["snapshot"], ["run"])
     status, text = reference_answer(words, sys.stdin.buffer.read(MOST_INPUT + 1 if has_limit else -1))
     sys.stdout.buffer.write(text)

@@ -2,21 +2,22 @@
 
 from .captures import captured
 from .program import answer
-from .resuming import is_snapshot, restored, resumed, run_on_snapshot, saved
+from .resuming import is_snapshot, restored, resumed, saved
+from .services import served
 from .traces import traced
 
 
 def reference_answer(words, data):
-    if words in (["serve", "--"], ["resume", "--"], ["restore", "--"], ["snapshot", "--"]):
+    if words in (["resume", "--"], ["restore", "--"], ["snapshot", "--"]):
         words = words[:1]
     if words == ["capture"]:
         return captured(data)
     if words == ["trace"]:
         status, text = traced(data)
-    elif words in (["serve"], ["resume"]):
+    elif words == ["serve"]:
+        status, text = served(data)
+    elif words == ["resume"] or words in (["run"], ["run", "--"]) and is_snapshot(data):
         status, text = resumed(data)
-    elif words in (["run"], ["run", "--"]) and is_snapshot(data):
-        status, text = run_on_snapshot(data)
     elif words == ["restore"]:
         status, text = restored(data)
     elif words == ["snapshot"]:

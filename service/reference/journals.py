@@ -40,10 +40,6 @@ def read_all(file):
     return b"".join(iter(lambda: os.read(file, 1 << 20), b""))
 
 
-class NoJournal(Exception):
-    """The file of a journal is a symbolic link, or has no byte in a folder in which a journal was begun."""
-
-
 class Journal:
     """The journal of a folder, which is locked until it is closed. Each call raises OSError if a call of the system fails."""
 
@@ -51,7 +47,7 @@ class Journal:
         self.files = {}
         try:
             self.open(folder)
-        except (OSError, NoJournal):
+        except OSError:
             self.close()
             raise
 
@@ -61,11 +57,6 @@ class Journal:
         self.path = os.path.join(folder, "journal")
         self.files["lock"] = os.open(os.path.join(folder, "lock"), os.O_RDWR | os.O_CREAT, MODE)
         fcntl.flock(self.files["lock"], fcntl.LOCK_EX | fcntl.LOCK_NB)
-        self.begun = os.path.join(folder, "begun")
-        if os.path.islink(self.path) or os.path.exists(self.begun) and os.path.exists(self.path) and not os.path.getsize(self.path):
-            raise NoJournal(f"{self.path} is a link, or was emptied")
-        if not os.path.exists(self.path) and os.path.exists(self.begun):
-            os.unlink(self.begun)
         self.files["old"] = os.open(self.path, os.O_RDWR | os.O_CREAT, MODE)
         self.found = read_all(self.files["old"])
         self.write_anew(self.found)
@@ -87,8 +78,6 @@ class Journal:
         os.fsync(file)
         os.rename(self.path + ".new", self.path)
         os.fsync(self.files["folder"])
-        if data:
-            os.close(os.open(self.begun, os.O_RDWR | os.O_CREAT, MODE))
         if "journal" in self.files:
             os.close(self.files["journal"])
         self.files["journal"] = self.files.pop("new")

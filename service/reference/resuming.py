@@ -1,13 +1,13 @@
-"""Runs the command `serve`, also called `resume`: serves from a plant file or a snapshot, writes snapshots (`K`), and changes the plant (`P`) and frame numbers (`N`).
+"""Runs the command `resume`: serves from a plant file or a snapshot, writes snapshots (`K`), and changes the plant (`P`) and frame numbers (`N`).
 
-Runs `restore`, which takes a snapshot alone, `snapshot`, which writes the snapshot after the last line, and `run` on a snapshot.
+Runs `restore`, which takes a snapshot alone, and `snapshot`, which writes the snapshot after the last line.
 """
 
 import re
 
 from .changes import NotChanged, changed_core
 from .numbering import NotRenumbered, renumbered_core, requests_number
-from .program import IO, LINE, PLANT, Core, Fault, judged_plant, judged_script, lines_of, text_of
+from .program import IO, PLANT, Core, Fault, judged_plant, text_of
 from .saving import snapshot_of
 from .services import answer_of_line, invalid_line, split_service
 from .snapshots import SnapshotFault, read_snapshot
@@ -23,7 +23,7 @@ def is_snapshot(data):
 
 
 def resumed(data):
-    """Returns the exit status of `serve`, and what it prints."""
+    """Returns the exit status of `resume`, and what it prints."""
     try:
         service, lines = begun(data)
     except Fault as fault:
@@ -36,24 +36,13 @@ def restored(data):
     return resumed(data) if is_snapshot(data) else (PLANT, "fault: snapshot 1\n")
 
 
-def run_on_snapshot(data):
-    """Returns the exit status of `run` on a snapshot, and what it prints: as after a plant file, from the states of the snapshot on."""
-    out = []
-    try:
-        core, _plant_text, lines = snapshot_begun(data)
-        script = lines_of(text_of(b"\n".join(lines)))
-        core.run(judged_script(core.plant, script), out.append)
-        return 0, "".join(line + "\n" for line in out)
-    except Fault as fault:
-        return fault.status, "".join(line + "\n" for line in [*out, fault.last_line])
-
-
 def saved(data):
     """Returns the exit status of `snapshot`, and what it prints."""
     try:
         service, lines = begun(data)
-        answers = "".join(service.answers(lines))
-        return LINE if re.search(r"(?m)^fault: ", answers) else 0, service.last_snapshot()
+        for _answer in service.answers(lines):
+            pass
+        return 0, service.last_snapshot()
     except Fault as fault:
         return fault.status, fault.last_line + "\n"
 

@@ -1,8 +1,18 @@
-"""Answers the lines of a service: executes the lines of a script, and continues after an invalid one."""
+"""Runs the command `serve`: executes the lines of a script, and continues after an invalid one."""
 
-from .program import Fault, judged_script
+from .program import Core, Fault, judged_plant, judged_script, text_of
 
 MOST_LINE = 4_096
+
+
+def served(data):
+    """Returns the exit status of `serve`, and what it prints: for each line what its steps output, and its number if it is invalid."""
+    file, lines = split_service(data)
+    try:
+        plant, _none = judged_plant(text_of(file))
+    except Fault as fault:
+        return fault.status, fault.last_line + "\n"
+    return 0, served_lines(Core(plant), lines)
 
 
 def split_service(data):
@@ -12,6 +22,11 @@ def split_service(data):
         return data, []
     bar = lines.index(b"---")
     return b"".join(line + b"\n" for line in lines[:bar]), lines[bar + 1:]
+
+
+def served_lines(core, lines):
+    """Returns what a service prints for its lines."""
+    return "".join(answer_of_line(core, number, line) for number, line in enumerate(lines, 1))
 
 
 def answer_of_line(core, number, line):

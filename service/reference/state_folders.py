@@ -6,7 +6,7 @@ import re
 import sys
 
 from .changes import NotChanged, changed_core
-from .journals import Journal, NoJournal
+from .journals import Journal
 from .numbering import NotRenumbered, renumbered_core, requests_number
 from .program import IO, MOST_INPUT, PLANT, WORDS, Core, Fault, judged_plant, text_of
 from .saving import snapshot_of, snapshot_text
@@ -14,8 +14,6 @@ from .services import MOST_LINE, answer_of_line, split_service
 from .snapshots import SnapshotFault, read_snapshot
 from .states import StateFault, books_of
 
-# The most lines of a batch.
-MOST_LINES = 256
 # A longer line is invalid. So much of it is stored that it stays so.
 MOST_STORED = MOST_LINE + 1
 EVERY, MOST_EVERY, MOST_COUNT = 10_000, 2**63, 2**64 - 1
@@ -61,26 +59,25 @@ def is_command(line):
 
 
 def batches(chunks):
-    """Yields the lines that each reading of the input ends. What follows the last line feed of the input is no line."""
+    """Yields the lines that each reading of the input ends. The last one of the input need not be ended."""
     part = b""
     for chunk in chunks:
         *lines, part = (part + chunk).split(b"\n")
         part = part[:MOST_STORED]
         yield from split_at_commands([line[:MOST_STORED] for line in lines])
     if part:
-        print(f"the input ended after {len(part)} bytes of a line, which is not done", file=sys.stderr)
+        yield from split_at_commands([part])
 
 
 def split_at_commands(lines):
-    """Yields the lines up to each command, with the command, and other lines with None. A batch has at most so many lines."""
+    """Yields the lines up to each command, with the command, and those after the last one, with None."""
     while lines:
-        end = next((place for place, line in enumerate(lines[:MOST_LINES]) if is_command(line)), None)
+        end = next((place for place, line in enumerate(lines) if is_command(line)), None)
         if end is None:
-            yield lines[:MOST_LINES], None
-            lines = lines[MOST_LINES:]
-        else:
-            yield lines[:end], lines[end]
-            lines = lines[end + 1:]
+            yield lines, None
+            return
+        yield lines[:end], lines[end]
+        lines = lines[end + 1:]
 
 
 class StateService:
@@ -198,8 +195,6 @@ def serve_state(words, read, write):
                     write(service.do_command(command))
                 service.save_after(every)
         return 0
-    except NoJournal as fault:
-        last_line, status, why = "fault: state", PLANT, fault
     except Fault as fault:
         last_line, status = fault.last_line, fault.status
         why = repr(fault.__cause__ or fault)

@@ -2,10 +2,9 @@
 
     tools/run ci/json_lines [PROGRAM]     Prints each difference; exits with 1 if there is one.
 
-Each line of the plain output must have one object, in its order. Serve has one more for each line of the script that is accepted. The
-member `text` must be the line, and the line that is made again of the other members must be the same. Statuses and standard error must
-be the same. The outputs of run, of trace and of serve must come from the same lines of the script, by the same checks, with the same
-numbers, and their replies must name the same. After an invalid line only serve goes on.
+Each line of the plain output must have one object, in its order. Its member `text` must be the line, and the line that is made again
+of the other members must be the same. Statuses and standard error must be the same. The outputs of run, of trace and of serve must
+come from the same lines of the script, by the same checks, with the same numbers. After an invalid line only serve goes on.
 """
 
 import json
@@ -25,8 +24,6 @@ TYPES = {"10": "DSA-RSP", "13": "DSC-RSP", "16": "DSD-RSP"}
 # Members that say which check decided an output, and what it compared.
 DECISION = ("line", "check", "check_name", "held", "limit", "needed", "from_frame")
 OUTPUTS = ("reply", "drop", "frame", "map")
-# Members of what a reply says in words.
-NAMED = ("code_name", "reference", "sfid", "sid", "parameter")
 
 
 def answer_of(program, words, data):
@@ -67,9 +64,6 @@ def output_line(found):
             return fault_line(found)
         case "ok":
             return "ok"
-        # of the answers to K, P and N
-        case "other":
-            return found["text"]
     return f"an object of another type: {found}"
 
 
@@ -127,7 +121,7 @@ def differences(word, plain, objects):
         yield f"status {objects[0]}, without --json {plain[0]}"
     if plain[2] != objects[2]:
         yield f"standard error {objects[2]!r}, without --json {plain[2]!r}"
-    lines, found = plain[1].split("\n"), [one for one in objects_in(objects[1]) if one["type"] != "accepted"]
+    lines, found = plain[1].split("\n"), objects_in(objects[1])
     if lines.pop() != "" or len(lines) != len(found):
         yield f"{len(found)} objects for {len(lines)} lines"
     for line, one in zip(lines, found):
@@ -138,9 +132,8 @@ def differences(word, plain, objects):
 
 
 def decisions(text):
-    """Returns the type of each output, its line of the script, what decided it, and what a reply names."""
-    return [(found["type"], *(found.get(key) for key in DECISION), *(found.get(key) for key in NAMED if found["type"] == "reply"))
-            for found in objects_in(text) if found["type"] in OUTPUTS]
+    """Returns the type of each output, its line of the script, and what decided it."""
+    return [(found["type"], *(found.get(key) for key in DECISION)) for found in objects_in(text) if found["type"] in OUTPUTS]
 
 
 def lines_of_service(text, script):
@@ -169,7 +162,7 @@ def found_in(program, case):
 
 
 def is_compared(case):
-    """Tests whether a case has an input of a plant file and a script that run takes, and that is not large. Trace takes no snapshot."""
+    """Tests whether a case has an input of a plant file and a script that run takes, and that is not large. With --json no command takes a snapshot."""
     is_snapshot = (case.plant.encode() + case.data).startswith(SNAPSHOT)
     return case.words[:1] and case.words[0] in COMMANDS and len(case.plant) + len(case.data) < 300_000 and not is_snapshot
 

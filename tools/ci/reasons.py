@@ -85,7 +85,7 @@ CASES = [
      line(2, "Z 1 8/32/32 40/32/32", "operator A is at frame 1: new slices must start at a later frame, not at 1")),
     ("trace", script("T", "Z 1 8/32/32 40/32/32"), 4,
      line(2, "Z 1 8/32/32 40/32/32", "operator A is at frame 1: new slices must start at a later frame, not at 1")),
-    ("run", script("K"), 4, line(1, "K", "K is a line of serve, restore and snapshot: a script after a plant file has M, Q, T and Z")),
+    ("run", script("K"), 4, line(1, "K", "K is a line of serve --state, resume, restore and snapshot: a script after a plant file has M, Q, T and Z")),
     ("run plant.toml", "", 2, "..\nA command reads standard input, or a file with the option --input: plant_script run --input script.txt\n"),
     ("trace", changed("head = 8", "head = 8\nack_wayt = 9") + "---\n", 0, "warning: line 4: unknown key plant.ack_wayt (did you mean ack_wait?)\n"),
     ("trace", PLANT, 0, NO_BAR),

@@ -5,7 +5,7 @@ from dataclasses import dataclass, field
 
 from .faults import NoPage
 
-FOLDER = "crates/diagnostics/src/command_line"
+FOLDER = "crates/command_line/src"
 # The table of commands and options; the ends of the helps, which are constants; and the summary of the program with the operand.
 SOURCE, TEXTS, PROGRAM_SOURCE = (f"{FOLDER}/{name}.rt" for name in ("names", "help_texts", "command"))
 TEXT = r'"((?:[^"\\]|\\.)*)"'

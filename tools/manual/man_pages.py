@@ -4,7 +4,7 @@
     tools/run man_pages --check      tests whether the pages are those of the sources, and exits with 1 if one is not
     tools/run man_pages --markdown NAME      prints a page as pandoc reads it
 
-The sources are the table of commands and the help texts in crates/diagnostics/src/command_line, docs/FORMATS.md, docs/OPERATING.md, docs/MONITORING.md,
+The sources are the table of commands and the help texts in crates/command_line/src, docs/FORMATS.md, docs/OPERATING.md, docs/MONITORING.md,
 README.md, CHANGELOG.md and examples/plant_p2.toml. tools/manual/pages/ says what a page takes from them.
 
 A page has two sums in its head: of what pandoc read, and of what it wrote. So --check needs no pandoc. It reports a page whose sources have

@@ -136,7 +136,7 @@ EDITS = [
     ("a_refused_change_is_a_warning_and_an_end_is_an_error", "GROUP_SECONDS = 0.5", "GROUP_SECONDS = 5"),
     ("a_refused_change_is_a_warning_and_an_end_is_an_error", "GROUP_SECONDS = 0.5", "GROUP_SECONDS = 0"),
     ("an_end_alone_is_an_error_and_a_warning_is_none", "        return 3", "        return 4"),
-    ("an_end_alone_is_an_error_and_a_warning_is_none", ')|warning: "', ')"'),
+    ("an_end_alone_is_an_error_and_a_warning_is_none", "not changed|warning: ", "not changed"),
     ("of_a_burst_so_many_lines_are_passed_and_the_others_counted", "self.passed < self.most", "self.passed <= self.most"),
     ("of_a_burst_so_many_lines_are_passed_and_the_others_counted", "    report(True)\n", ""),
     ("of_a_burst_so_many_lines_are_passed_and_the_others_counted", 'b"" if held == 1 else b"s"', 'b"s"'),

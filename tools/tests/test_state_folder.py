@@ -74,7 +74,7 @@ RUNS = {
     "a beginning": (None, P2, REQUEST + "T\nX\n", 0, "S line 1 frame 0\n" + RESPONSE + A0 + B0 + MAP0 + "fault: line 3\n",
                     journal(state_of(0, P2, ""), REQUEST + "T\nX\n")),
     "an empty journal": ("", P2, "", 0, "S line 1 frame 0\n", journal(state_of(0, P2, ""))),
-    "a last line that is not ended": (None, P2, "\n\nX", 0, "S line 1 frame 0\n", journal(state_of(0, P2, ""), "\n\n")),
+    "a last line that is not ended": (None, P2, "\nX", 0, "S line 1 frame 0\nfault: line 2\n", journal(state_of(0, P2, ""), "\nX\n")),
     "lines that are done again": (journal(state_of(0, P2, ""), REQUEST + "T A\n"), P2, REQUEST + "T B\nX\n", 0,
                                   "S line 3\n" + RESPONSE + B0 + MAP0 + "fault: line 5\n", journal(state_of(0, P2, ""), REQUEST + "T A\n" + REQUEST + "T B\nX\n")),
     "a state": (journal(state_of(17, P2, IDLE, 5), "X\n"), P2, "X\nT B\n", 0, "S line 19 frame 5\nfault: line 19\nF B 5 0/6/40/32\n",
@@ -82,11 +82,11 @@ RUNS = {
     "K and P": (None, P2, "X\nK\nP\n", 0, "S line 1 frame 0\nfault: line 1\n" + snapshot_of(P2, IDLE) + "fault: line 3\n", journal(state_of(2, P2, IDLE), "P\n")),
     "K while operators are apart": (None, P2, "T A\nK\nT B\nK\n", 0, "S line 1 frame 0\n" + A0 + "fault: line 2\n" + B0 + MAP0 + snapshot_of(P2, IDLE, 1),
                                     journal(state_of(4, P2, IDLE, 1))),
-    "K without a line feed": (None, P2, "X\nK", 0, "S line 1 frame 0\nfault: line 1\n", journal(state_of(0, P2, ""), "X\n")),
+    "K without a line feed": (None, P2, "X\nK", 0, "S line 1 frame 0\nfault: line 1\n" + snapshot_of(P2, IDLE), journal(state_of(2, P2, IDLE))),
     "lines that are not K": (None, P2, "K \nK\r\nk\n", 0, "S line 1 frame 0\nfault: line 1\nfault: line 2\nfault: line 3\n",
                              journal(state_of(0, P2, ""), "K \nK\r\nk\n")),
     # 72 minislots are 8 times 9, so numbers that fit are 2 to the power of 29 apart.
-    "another frame number": (None, P2, "T\nN 536870913\nT A\nX\n", 0, "S line 1 frame 0\n" + A0 + B0 + MAP0 + "N frame 536870913\nF A 536870913 0/6/8/32\nfault: line 4\n",
+    "another frame number": (None, P2, "T\nN 536870913\nT A\nX", 0, "S line 1 frame 0\n" + A0 + B0 + MAP0 + "N frame 536870913\nF A 536870913 0/6/8/32\nfault: line 4\n",
                              journal(state_of(2, P2, IDLE, 536_870_913), "T A\nX\n")),
     "frame numbers that do not fit": (None, P2, "N 5\nT A\nN 536870912\nN 0x20\nN\n", 0, "S line 1 frame 0\nfault: line 1\n" + A0 + "fault: line 3\nfault: line 4\nfault: line 5\n",
                                       journal(state_of(0, P2, ""), "N 5\nT A\nN 536870912\nN 0x20\nN\n")),
@@ -136,8 +136,7 @@ class Folders(WithFolder):
     def judge_runs(self, run):
         for name, (before, plant, lines, status, output, after) in RUNS.items():
             with self.subTest(name):
-                for file in ("journal", "begun"):
-                    (self.folder / file).unlink(missing_ok=True)
+                (self.folder / "journal").unlink(missing_ok=True)
                 if before is not None:
                     (self.folder / "journal").write_text(before)
                 self.assertEqual(run(self.words(), [f"{plant}---\n", lines]), (status, output))
@@ -161,58 +160,6 @@ class Folders(WithFolder):
         self.assertEqual((done.returncode, done.stdout), (3, b"fault: state\n"))
         self.assertEqual(done.stderr.decode(), "".join(f"{unfit}{reason}; change its table, or give it another name\n" for reason in reasons)
                          + "the journal is as it was: start with the plant file that was saved, or mend the plant file\n")
-
-    def judge_emptied(self, run):
-        self.assertEqual(run(self.words(), [f"{P2}---\nX\n"])[0], 0)
-        (self.folder / "journal").write_text("")
-        self.assertEqual(run(self.words(), [f"{P2}---\n"]), (3, "fault: state\n"))
-        self.assertEqual(self.journal(), "")
-        # Without the file a journal is begun anew, also if the first start has an invalid plant file.
-        (self.folder / "journal").unlink()
-        self.assertEqual(run(self.words(), ["x\n---\n"]), (3, "fault: plant 1\n"))
-        self.assertEqual(run(self.words(), [f"{P2}---\nX\n"]), (0, "S line 1 frame 0\nfault: line 1\n"))
-        (self.folder / "journal").rename(self.folder / "other")
-        (self.folder / "journal").symlink_to("other")
-        before = (self.folder / "other").read_bytes()
-        self.assertEqual(run(self.words(), [f"{P2}---\n"]), (3, "fault: state\n"))
-        self.assertEqual((self.folder / "other").read_bytes(), before)
-
-    def test_emptied_journals_and_links(self):
-        self.judge_emptied(reference)
-
-    @unittest.skipUnless(has_program(), "the program is not built, or has no option --state")
-    def test_emptied_journals_and_links_of_the_program(self):
-        self.judge_emptied(program)
-        # The reason says what to do.
-        done = subprocess.run([PROGRAM, *self.words()], input=f"{P2}---\n".encode(), capture_output=True, timeout=60, check=False)
-        self.assertEqual(done.stderr.decode(), f"{self.folder}/journal is a symbolic link: put the file itself there, or name its folder\n")
-        (self.folder / "journal").unlink()
-        (self.folder / "begun").write_text("")
-        (self.folder / "journal").write_text("")
-        done = subprocess.run([PROGRAM, *self.words()], input=f"{P2}---\n".encode(), capture_output=True, timeout=60, check=False)
-        self.assertEqual(done.stderr.decode(), f"{self.folder}/journal has no byte, and a journal was begun there: put a copy of the journal in its place, "
-                         "or remove the file to begin anew\n")
-
-    @unittest.skipUnless(has_program(), "the program is not built, or has no option --state")
-    def test_reasons_in_service(self):
-        """Each refused line has its reason at once. A line that is done again after a start has none."""
-        apart = "the operators are at different frames (A at frame 2, B at frame 0); write T B (2 times)"
-        words, unknown = self.words("--snapshot-every", "1"), 'unknown command "X": a line must begin with M, Q, T or Z'
-        given = f"{P2}---\nX\nM 020000000009 -\nT A\nT A\nK\nK\nX"
-        done = subprocess.run([PROGRAM, *words], input=given.encode(), capture_output=True, timeout=60, check=False)
-        faults = "fault: line 1\nfault: line 2\n"
-        self.assertEqual((done.returncode, done.stdout), (0, f"S line 1 frame 0\n{faults}{A0}{A1}fault: line 5\nfault: line 6\n".encode()))
-        self.assertEqual(done.stderr.decode().splitlines(), [
-            f'line 1, "X": {unknown}',
-            'line 2, "M 020000000009 -": unknown modem 020000000009: add it to modems of an operator',
-            f"line 5: no state is saved: {apart}, then repeat the line",
-            f"the state after line 5 is not saved, and the journal grows: {apart}",
-            f"line 6: no state is saved: {apart}, then repeat the line",
-            "the input ended in the middle of a line (bytes of it: 1), which is not done: send it again, with its line feed",
-        ])
-        done = subprocess.run([PROGRAM, *words], input=f"{P2}---\nX\n".encode(), capture_output=True, timeout=60, check=False)
-        self.assertEqual((done.returncode, done.stdout), (0, b"S line 7\nfault: line 7\n"))
-        self.assertEqual(done.stderr.decode().splitlines(), [f'line 7, "X": {unknown}', f"the state after line 7 is not saved, and the journal grows: {apart}"])
 
     @unittest.skipUnless(has_program(), "the program is not built, or has no option --state")
     def test_folders_and_words_of_the_program(self):
@@ -264,17 +211,8 @@ class Journals(WithFolder):
             if "fault: line" in text:
                 lines.append((len(read_journal((self.folder / "journal").read_bytes())[1]), text))
 
-        self.assertEqual(reference(self.words(), [f"{P2}---\nX", "\nX\nX", "\n\n", "X\nX\nX"], watch)[0], 0)
-        self.assertEqual(lines, [(2, "fault: line 1\nfault: line 2\n"), (4, "fault: line 3\n"), (6, "fault: line 5\nfault: line 6\n")])
-
-    def test_a_batch_has_at_most_256_lines(self):
-        batches = []
-
-        def watch(text):
-            batches.append(text.count("fault: line"))
-
-        self.assertEqual(reference(self.words(), [f"{P2}---\n" + 600 * "X\n"], watch)[0], 0)
-        self.assertEqual(batches, [0, 256, 256, 88])
+        self.assertEqual(reference(self.words(), [f"{P2}---\nX", "\nX\nX", "\n\n", "X\nX"], watch)[0], 0)
+        self.assertEqual(lines, [(2, "fault: line 1\nfault: line 2\n"), (4, "fault: line 3\n"), (5, "fault: line 5\n"), (6, "fault: line 6\n")])
 
     def test_a_state_takes_the_place_of_lines(self):
         begun = journal(state_of(0, P2, ""), "X\nT A\n")

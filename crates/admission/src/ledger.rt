@@ -185,8 +185,7 @@ impl Ledger {
             ↔ (limit.elements < total_elements after) }
         // Refused so exactly if more minislots would be committed than the limit.
         ensures minislots { let after = insert_entry nat_cmp self.now.rows sfid budget in (result
-            ≡ Err Over.Minislots) ↔ ((total_elements after ≤ limit.elements)
-            × (limit.minislots < total_minislots after)) }
+            ≡ Err Over.Minislots) ↔ ((total_elements after ≤ limit.elements) × (limit.minislots < total_minislots after)) }
         ensures ok { let after = insert_entry nat_cmp self.now.rows sfid budget in IsOk result
             ↔ ((total_elements after ≤ limit.elements) × (total_minislots after ≤ limit.minislots)) }
     {

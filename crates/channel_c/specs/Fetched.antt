@@ -26,8 +26,7 @@ pub record IsTooLong (head : OutputHead) (bytes : List ℕ) (grants : List Grant
   pub not_fitting : ¬ Fits out bytes grants
 
 -- 0: an output is fetched. 3: it does not fit, and nothing changes. 4: none waits, and nothing changes.
-pub record FetchEnds (code : ℕ) (head : OutputHead) (old_bytes bytes : List ℕ) (old_grants grants : List Grant)
-    (old new : OpenChannel) : Type 0 where
+pub record FetchEnds (code : ℕ) (head : OutputHead) (old_bytes bytes : List ℕ) (old_grants grants : List Grant) (old new : OpenChannel) : Type 0 where
   pub fetched : code ≡ 0 → IsFetched head bytes grants old new
   pub too_long : code ≡ 3 → IsTooLong head old_bytes old_grants old
   pub none_waits : code ≡ 4 → waiting_of old ≡ []

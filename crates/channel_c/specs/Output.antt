@@ -2,8 +2,7 @@
 use Rattle.std.specs.Prelude.{◌≤◌, ℕ, List, [], ◌∷◌, ◌++◌, length, map, Option, Some, None}
 use Rattle.dsx_messages.specs.declared.modem.Modem.{Modem}
 use Rattle.operator_model.specs.declared.output.Cause.{Cause}
-use Rattle.operator_model.specs.declared.output.Cause.TheVariants.{InboxFull, Idle, Empty, NotOurs, Short, TidInUse, UnknownAck, NoSuchSid}
-use Rattle.operator_model.specs.declared.output.Cause.TheVariants.{NotRequesting}
+use Rattle.operator_model.specs.declared.output.Cause.TheVariants.{InboxFull, Idle, Empty, NotOurs, Short, TidInUse, UnknownAck, NoSuchSid, NotRequesting}
 use Rattle.operator_model.specs.declared.output.Output.{Output}
 use Rattle.operator_model.specs.declared.output.Output.TheVariants.{Reply, Silent, Frame}
 use Rattle.map_assembly.specs.declared.map_bytes.MapBytes.{MapBytes}
@@ -34,8 +33,7 @@ address_of (Some modem) = modem.0
 
 -- of an output with no bytes and no grants
 abbrev pub head_alone : ℕ → ℕ → List ℕ → OutputHead
-head_alone kind operator modem =
-    record { kind = kind; cause = 0; operator = operator; frame = 0; modem = modem; length = 0; granted = 0; pending = 0 }
+head_alone kind operator modem = record { kind = kind; cause = 0; operator = operator; frame = 0; modem = modem; length = 0; granted = 0; pending = 0 }
 
 -- of an operator's output, by its place in the plant file: 1 a reply, 2 why there is no reply, 3 a frame
 abbrev pub head_under : ℕ → Output → OutputHead

@@ -62,8 +62,7 @@ pub record IsChanged (text : List ℕ) (old new : OpenChannel) : Type 0 where
 -- the number of a change: 1, out of memory, says nothing else; otherwise that of the first fault of the text, or why its plant is not
 -- taken
 abbrev pub IsChangeCode : ℕ → PlantResult PlantFields → CoreView → Type 0
-IsChangeCode code (Ok plant) live = (code ≡ 0) ⊎ ((code ≡ 1)
-    ⊎ ((why : ChangeFault) × IsChangeFault live plant why × (code ≡ change_code why)))
+IsChangeCode code (Ok plant) live = (code ≡ 0) ⊎ ((code ≡ 1) ⊎ ((why : ChangeFault) × IsChangeFault live plant why × (code ≡ change_code why)))
 IsChangeCode code (Err fault) live = (code ≡ plant_code fault) ⊎ (code ≡ 1)
 
 -- 0: the plant is changed. Any other number: nothing is

@@ -66,8 +66,7 @@ fn install(alloc: Global, handle: &mut Handle, channel: OpenChannel) -> u32
 #[unsafe(no_mangle)]
 pub extern "C" fn melfjits_open(alloc: Global, handle: &mut Handle, text: &[u8]) -> u32
     // 0 only if the file says a plant.
-    ensures opened { result ≡ 0 → (channel : OpenChannel) × (handle.new.home ≡ Some channel)
-        × IsOpenedFrom text.now channel }
+    ensures opened { result ≡ 0 → (channel : OpenChannel) × (handle.new.home ≡ Some channel) × IsOpenedFrom text.now channel }
     ensures same { result ≢ 0 → handle.new.home ≡ handle.old.home }
     // 1 if memory ran out, or the number of the file's first fault.
     ensures fault { IsOpenCode result (plant_said text.now) }
@@ -87,8 +86,7 @@ pub extern "C" fn melfjits_open(alloc: Global, handle: &mut Handle, text: &[u8])
 #[unsafe(no_mangle)]
 pub extern "C" fn melfjits_open_saved(alloc: Global, handle: &mut Handle, text: &[u8]) -> u32
     // 0 only if the text is a snapshot, from which the channel goes on.
-    ensures opened { result ≡ 0 → (channel : OpenChannel) × (handle.new.home ≡ Some channel)
-        × IsReopenedFrom text.now channel }
+    ensures opened { result ≡ 0 → (channel : OpenChannel) × (handle.new.home ≡ Some channel) × IsReopenedFrom text.now channel }
     ensures same { result ≢ 0 → handle.new.home ≡ handle.old.home }
     ensures fault { IsReopenCode result text.now }
 {
@@ -161,8 +159,8 @@ pub extern "C" fn melfjits_request(
         handle.old.home handle.new.home }
 {
     let address = modem.bytes;
-    let request = Heard::Request { sid, minislots };
-    receive(alloc, handle, Modem(address), request)
+    let heard = Heard::Request { sid, minislots };
+    receive(alloc, handle, Modem(address), heard)
 }
 
 /// Lets an operator handle the first of its inbox: after the number 5, what was received then.
@@ -206,8 +204,7 @@ pub extern "C" fn melfjits_arrive(
 ) -> u32
     // Two steps, `Arrive` and the `Work` of the modem's operator. 5 says that the first alone is done. No clause says
     // that memory ran out for the second.
-    ensures { InHandle result (OrNoMemory result
-        (ArrivalEnds result (record { 0 = modem.now.bytes }) (heards.Message message.now)))
+    ensures { InHandle result (OrNoMemory result (ArrivalEnds result (record { 0 = modem.now.bytes }) (heards.Message message.now)))
         handle.old.home handle.new.home }
 {
     let address = modem.bytes;
@@ -264,8 +261,7 @@ pub extern "C" fn melfjits_next_output(
     ensures ends { InHandle result (FetchEnds result head.new bytes.old bytes.new grants.old grants.new)
         handle.old.home handle.new.home }
     // With a closed handle nothing is written.
-    ensures closed { handle.old.home ≡ None → (head.new ≡ head.old) × (bytes.new ≡ bytes.old)
-        × (grants.new ≡ grants.old) }
+    ensures closed { handle.old.home ≡ None → (head.new ≡ head.old) × (bytes.new ≡ bytes.old) × (grants.new ≡ grants.old) }
 {
     match handle.take(alloc) {
         Some(channel) => {
@@ -292,8 +288,7 @@ pub extern "C" fn melfjits_save(
 ) -> u32
     // A closed handle stays closed, with 2. The text of an open one is written, and nothing of the channel changes. 1, out
     // of memory, comes only where the channel rests.
-    ensures ends { InHandle result (λ old new. SaveEnds result length.old length.new bytes.old bytes.new old
-        × IsSame old new)
+    ensures ends { InHandle result (λ old new. SaveEnds result length.old length.new bytes.old bytes.new old × IsSame old new)
         handle.old.home handle.new.home }
     // With a closed handle nothing is written.
     ensures closed { handle.old.home ≡ None → (length.new ≡ length.old) × (bytes.new ≡ bytes.old) }

@@ -7,10 +7,10 @@ use crate::reason::{GapText, Reason};
 use crate::report::Report;
 use crate::values::say_address;
 use line_service::{FieldError, FieldFault, LineStep, NumberName, message_in, put_line};
-use plant::{OperatorRow, Plant, Routing};
+use plant::{OperatorRow, Plant, Routes};
 
 /// Returns the field of a line, counted from 0; an empty one where there is none.
-pub(crate) fn field_of(line: &str, field: usize) -> &str {
+fn field_of(line: &str, field: usize) -> &str {
     line.split(' ').nth(field).unwrap_or("")
 }
 
@@ -123,6 +123,15 @@ fn say_field_count(reason: &mut Reason, plant: &Plant, line: &str) {
     }
 }
 
+/// Says that a first field is a line of other commands.
+fn say_service_line(reason: &mut Reason, word: &str, commands: &str) {
+    reason.say("{} is a line of ", &[GapText::Words(word)]);
+    reason.say(
+        "{}: a script after a plant file has M, Q, T and Z",
+        &[GapText::Words(commands)],
+    );
+}
+
 /// Says that a first field is not a command of a script.
 fn say_no_word(reason: &mut Reason, word: &str) {
     match word {
@@ -134,10 +143,8 @@ fn say_no_word(reason: &mut Reason, word: &str) {
             "unknown command {}: write it as a capital letter",
             &[GapText::Quoted(word)],
         ),
-        "K" | "N" | "P" => reason.say(
-            "{} is a line of serve, restore and snapshot: a script after a plant file has M, Q, T and Z",
-            &[GapText::Words(word)],
-        ),
+        "K" | "N" => say_service_line(reason, word, "serve --state, resume, restore and snapshot"),
+        "P" => say_service_line(reason, word, "resume, restore and snapshot"),
         _ if word.starts_with('#') => reason.say("a script has no comments: remove the line", &[]),
         _ => reason.say(
             "unknown command {}: a line must begin with M, Q, T or Z",
@@ -147,7 +154,7 @@ fn say_no_word(reason: &mut Reason, word: &str) {
 }
 
 /// Returns what is wrong with how a line ends or is separated into fields, whatever these are.
-pub(crate) fn separation_error(line: &str) -> Option<&'static str> {
+fn separation_error(line: &str) -> Option<&'static str> {
     if line.ends_with('\r') {
         Some("it ends in a carriage return (CRLF): end lines with LF alone")
     } else if line.contains('\t') {
@@ -164,7 +171,7 @@ pub(crate) fn separation_error(line: &str) -> Option<&'static str> {
 }
 
 /// Says what is wrong first with the fields of a line.
-pub(crate) fn say_error<'a>(reason: &mut Reason, plant: &Plant, line: &'a str, error: FieldError) {
+fn say_error<'a>(reason: &mut Reason, plant: &Plant, line: &'a str, error: FieldError) {
     match error {
         FieldError::UnknownCommand => say_no_word(reason, field_of(line, 0)),
         FieldError::FieldCount => say_field_count(reason, plant, line),
@@ -246,9 +253,9 @@ fn add_fault<'a>(
 
 /// Returns the steps of a script, and adds each of its invalid lines; if there is one, the steps are not all. The line of three
 /// dashes has the number `bar`.
-pub(crate) fn steps_of<P: Routing>(
+pub(crate) fn steps_of(
     report: &mut Report,
-    routes: &mut P,
+    routes: &mut Routes,
     script: &str,
     bar: usize,
 ) -> Vec<LineStep> {

@@ -1,6 +1,5 @@
 //! What the program says on standard error: why its status is not 0, and warnings.
 
-use crate::command_line::{BatchWord, RunReport, text_of_wrong};
 use crate::file::File;
 use crate::lines::{add_no_messages, say_line, say_stranger, steps_of};
 use crate::parts::{InputParts, parts_of};
@@ -11,23 +10,15 @@ use crate::refusals::refused_of;
 use crate::report::Report;
 use crate::unread::say_all_unread;
 use crate::unworkable::say_unworkable;
+use command_line::{BatchWord, RunReport, Word, text_of_wrong};
 use line_service::LineStep;
-use plant::{Plant, Routes, Routing};
+use plant::{Plant, Routes};
 use slice_table::{PlantFault, read_plant};
 use std::alloc::{AllocError, Global};
 use toml::Table;
 
 /// The most invalid lines that are written.
 const MOST_LINES: u64 = 20;
-
-/// Whose input a message is about.
-#[derive(Clone, Copy)]
-enum InputOf<'a> {
-    /// A command that reads all of its input.
-    Batch(BatchWord<'a>),
-    /// A service: the input is its plant file, and the lines after it are read as they come.
-    Service,
-}
 
 /// Why a run did not end as its input says.
 #[derive(Clone, Copy)]
@@ -88,20 +79,6 @@ fn say_script(reason: &mut Reason, plant: Plant, parts: &InputParts<'_>) {
     }
 }
 
-/// Returns why lines of a script are invalid, or nothing where none is. They are counted from the script's first, as after a
-/// snapshot.
-pub fn reason_of_invalid_lines<P: Routing>(
-    alloc: Global,
-    routes: &mut P,
-    script: &[u8],
-) -> Result<String, AllocError> {
-    let mut reason = Reason::new(alloc);
-    let mut report = Report::new(alloc, MOST_LINES);
-    let _steps = steps_of(&mut report, routes, str::from_utf8(script).unwrap_or(""), 0);
-    report.say(&mut reason, "invalid line", "invalid lines");
-    reason.into_text()
-}
-
 /// Says which step is refused.
 fn say_refused(reason: &mut Reason, plant: Plant, parts: &InputParts<'_>, steps: Vec<LineStep>) {
     let mut wrong = Reason::new(reason.alloc);
@@ -118,9 +95,9 @@ fn say_refused(reason: &mut Reason, plant: Plant, parts: &InputParts<'_>, steps:
 }
 
 /// Returns whether a status of a valid plant is about the script.
-fn is_of_script(whose: InputOf<'_>, status: u8) -> bool {
-    match whose {
-        InputOf::Service => false,
+fn is_of_script(word: Word<'_>, status: u8) -> bool {
+    match word {
+        Word::Serve => false,
         _ => status == 4,
     }
 }
@@ -128,19 +105,19 @@ fn is_of_script(whose: InputOf<'_>, status: u8) -> bool {
 /// Says why a valid plant has a status, where that is not about its script, and what `check` warns of.
 fn say_beside_script(
     reason: &mut Reason,
-    whose: InputOf<'_>,
+    word: Word<'_>,
     file: &File<'_>,
     plant: &Plant,
     parts: &InputParts<'_>,
     status: u8,
 ) {
-    match (whose, status) {
-        (InputOf::Batch(BatchWord::Run(RunReport::History(operator))), 2) => {
+    match (word, status) {
+        (Word::Batch(BatchWord::Run(RunReport::History(operator))), 2) => {
             say_stranger(reason, plant.rows(), operator);
             reason.say("\n", &[]);
         }
-        (InputOf::Batch(BatchWord::Check), 0) => say_unworkable(reason, file, plant),
-        (InputOf::Service, _) | (InputOf::Batch(BatchWord::Check), _) => {}
+        (Word::Batch(BatchWord::Check), 0) => say_unworkable(reason, file, plant),
+        (Word::Serve, _) | (Word::Batch(BatchWord::Check), _) => {}
         (_, 0) => say_no_bar(reason, parts),
         _ => {}
     }
@@ -149,16 +126,16 @@ fn say_beside_script(
 /// Says why a valid plant has a status.
 fn say_behind_plant(
     reason: &mut Reason,
-    whose: InputOf<'_>,
+    word: Word<'_>,
     file: &File<'_>,
     plant: Plant,
     parts: &InputParts<'_>,
     status: u8,
 ) {
-    if is_of_script(whose, status) {
+    if is_of_script(word, status) {
         say_script(reason, plant, parts);
     } else {
-        say_beside_script(reason, whose, file, &plant, parts, status);
+        say_beside_script(reason, word, file, &plant, parts, status);
     }
 }
 
@@ -177,11 +154,11 @@ fn say_plant(reason: &mut Reason, file: &File<'_>, parts: &InputParts<'_>, fault
     }
 }
 
-/// Returns the parts of an input.
-fn parts_under<'a>(whose: InputOf<'_>, input: &'a str) -> InputParts<'a> {
+/// Returns the parts of the input of a command. Of `serve` the input is the plant file: the lines after it are read as they come.
+fn parts_under<'a>(word: Word<'_>, input: &'a str) -> InputParts<'a> {
     let parts = parts_of(input);
-    match (whose, parts.script) {
-        (InputOf::Service, None) => InputParts {
+    match (word, parts.script) {
+        (Word::Serve, None) => InputParts {
             plant: input,
             script: Some(""),
             through_bar: parts.through_bar,
@@ -193,22 +170,22 @@ fn parts_under<'a>(whose: InputOf<'_>, input: &'a str) -> InputParts<'a> {
 /// Says why a plant file that is TOML has a status.
 fn say_status(
     reason: &mut Reason,
-    whose: InputOf<'_>,
+    word: Word<'_>,
     file: &File<'_>,
     parts: &InputParts<'_>,
     status: u8,
 ) {
     match read_plant(reason.alloc, parts.plant) {
-        Ok(plant) => say_behind_plant(reason, whose, file, plant, parts, status),
+        Ok(plant) => say_behind_plant(reason, word, file, plant, parts, status),
         Err(PlantFault::NoMemory) => reason.is_lost = true,
         Err(fault) => say_plant(reason, file, parts, fault),
     }
 }
 
 /// Returns whether of a plant file and its status nothing is said but which keys are not known.
-fn is_accepted(whose: InputOf<'_>, parts: &InputParts<'_>, status: u8) -> bool {
-    match whose {
-        InputOf::Batch(BatchWord::Check) => false,
+fn is_accepted(word: Word<'_>, parts: &InputParts<'_>, status: u8) -> bool {
+    match word {
+        Word::Batch(BatchWord::Check) => false,
         _ => status == 0 && parts.script.is_some(),
     }
 }
@@ -216,15 +193,15 @@ fn is_accepted(whose: InputOf<'_>, parts: &InputParts<'_>, status: u8) -> bool {
 /// Says which keys of a plant file that is TOML are not known, and why it has a status.
 fn say_document(
     reason: &mut Reason,
-    whose: InputOf<'_>,
+    word: Word<'_>,
     document: &Table,
     parts: &InputParts<'_>,
     status: u8,
 ) {
     let file = File::new(reason, document, parts.plant);
     say_all_unread(reason, &file);
-    if !is_accepted(whose, parts, status) {
-        say_status(reason, whose, &file, parts, status);
+    if !is_accepted(word, parts, status) {
+        say_status(reason, word, &file, parts, status);
     }
 }
 
@@ -239,13 +216,13 @@ fn say_no_table(reason: &mut Reason, parts: &InputParts<'_>, error: &toml::de::E
 }
 
 /// Says why an input of a plant and a script has a status.
-fn say_of_plant(reason: &mut Reason, whose: InputOf<'_>, input: &str, status: u8) {
-    let parts = parts_under(whose, input);
-    if is_accepted(whose, &parts, status) && is_plain(parts.plant) {
+fn say_of_plant(reason: &mut Reason, word: Word<'_>, input: &str, status: u8) {
+    let parts = parts_under(word, input);
+    if is_accepted(word, &parts, status) && is_plain(parts.plant) {
         return;
     }
     match toml::table_from_str(reason.alloc, parts.plant) {
-        Ok(document) => say_document(reason, whose, &document, &parts, status),
+        Ok(document) => say_document(reason, word, &document, &parts, status),
         Err(error) => say_no_table(reason, &parts, &error),
     }
 }
@@ -258,27 +235,19 @@ fn say_of_one(reason: &mut Reason, input: &str) {
 }
 
 /// Returns why an input has a status under a command, and warnings of its plant file: of unknown keys, and under `check` of keys
-/// with which no channel works. Empty where there is nothing to say. All invalid keys of a plant file are named, and all invalid lines
-/// of a script, up to a limit.
+/// with which no channel works. Empty where there is nothing to say. All invalid keys of a plant file are named, and all invalid lines of a script, up to a limit. The input of
+/// `serve` may be the plant file alone, and the lines after it have no message here.
 pub fn reason_of(
     alloc: Global,
-    word: BatchWord<'_>,
+    word: Word<'_>,
     input: &str,
     status: u8,
 ) -> Result<String, AllocError> {
     let mut reason = Reason::new(alloc);
     match (word, status) {
-        (BatchWord::One, 4) => say_of_one(&mut reason, input),
-        (BatchWord::One, _) => {}
-        _ => say_of_plant(&mut reason, InputOf::Batch(word), input, status),
+        (Word::Batch(BatchWord::One), 4) => say_of_one(&mut reason, input),
+        (Word::Batch(BatchWord::One), _) => {}
+        _ => say_of_plant(&mut reason, word, input, status),
     }
-    reason.into_text()
-}
-
-/// Returns what is wrong with the plant file of a service whose status is 3, and of a valid one, with the status 0, which of its keys
-/// are not known.
-pub fn reason_of_plant_file(alloc: Global, file: &str, status: u8) -> Result<String, AllocError> {
-    let mut reason = Reason::new(alloc);
-    say_of_plant(&mut reason, InputOf::Service, file, status);
     reason.into_text()
 }

@@ -8,41 +8,33 @@ use operator_book::{BookFault, SliceRow};
 use plant::{Op, Plant};
 use plant_core::{CoreFault, LiveCore, ResliceFault};
 use run_model::{SliceRows, Step};
-use std::alloc::Global;
 
-/// What a step asks for, as far as a reason says it if the step is refused.
+/// What a refused step asked for, as far as a reason says it.
 #[derive(Drop)]
-pub struct AskedStep {
+struct Asked {
     op: Op,
     from: u32,
     rows: Vec<SliceRow>,
-    /// Whether an allocation for the rows failed.
-    pub(crate) is_lost: bool,
 }
 
-impl AskedStep {
-    /// Returns what no step asks for.
-    pub fn none(alloc: Global) -> AskedStep {
-        AskedStep {
-            op: 0,
-            from: 0,
-            rows: Vec::new(alloc),
-            is_lost: false,
-        }
-    }
-
-    /// Replaces what is asked for by what a step asks for.
-    pub fn note(&mut self, step: &Step) {
-        match step {
-            Step::Tick { op } | Step::Work { op } | Step::Collect { op } => self.op = *op,
-            Step::Reslice { from, rows } => {
-                self.from = *from;
-                self.rows.clear();
-                self.is_lost = self.rows.extend_from_slice(rows.as_slice()).is_err();
+/// Returns what a step asks for.
+fn asked_of(reason: &mut Reason, step: &Step) -> Asked {
+    let mut asked = Asked {
+        op: 0,
+        from: 0,
+        rows: Vec::new(reason.alloc),
+    };
+    match step {
+        Step::Tick { op } | Step::Work { op } | Step::Collect { op } => asked.op = *op,
+        Step::Reslice { from, rows } => {
+            asked.from = *from;
+            if asked.rows.extend_from_slice(rows.as_slice()).is_err() {
+                reason.is_lost = true;
             }
-            Step::Arrive { .. } => {}
         }
+        Step::Arrive { .. } => {}
     }
+    asked
 }
 
 /// Returns the name of an operator.
@@ -62,7 +54,7 @@ fn frame_of(core: &LiveCore, op: Op) -> u64 {
 }
 
 /// Returns the slice that was asked for an operator, and its budget.
-fn row_at(asked: &AskedStep, op: Op) -> SliceRow {
+fn row_at(asked: &Asked, op: Op) -> SliceRow {
     match asked.rows.as_slice().get(op) {
         Some(row) => *row,
         None => SliceRow {
@@ -88,7 +80,7 @@ fn minislots_of(row: SliceRow) -> (u64, u64) {
 }
 
 /// Returns an operator in a message about the slices of two.
-fn side_of<'a>(plant: &'a Plant, asked: &AskedStep, op: Op) -> Side<'a> {
+fn side_of<'a>(plant: &'a Plant, asked: &Asked, op: Op) -> Side<'a> {
     Side {
         name: name_at(plant, op),
         line: None,
@@ -97,7 +89,7 @@ fn side_of<'a>(plant: &'a Plant, asked: &AskedStep, op: Op) -> Side<'a> {
 }
 
 /// Says that two slices have a minislot in common.
-fn say_slices_meet(reason: &mut Reason, plant: &Plant, asked: &AskedStep, a: Op, b: Op) {
+fn say_slices_meet(reason: &mut Reason, plant: &Plant, asked: &Asked, a: Op, b: Op) {
     let (a, b) = (side_of(plant, asked, a), side_of(plant, asked, b));
     say_overlap(reason, "slices", "minislots", a, b);
 }
@@ -115,7 +107,7 @@ fn say_past(reason: &mut Reason, core: &LiveCore, op: Op, from: u32) {
 }
 
 /// Returns the rows that were asked for, with another budget of an operator.
-fn rows_with(reason: &mut Reason, asked: &AskedStep, op: Op, budget: u16) -> SliceRows {
+fn rows_with(reason: &mut Reason, asked: &Asked, op: Op, budget: u16) -> SliceRows {
     let mut rows = Vec::new(reason.alloc);
     for (place, row) in asked.rows.as_slice().iter().enumerate() {
         let mut row = *row;
@@ -131,12 +123,7 @@ fn rows_with(reason: &mut Reason, asked: &AskedStep, op: Op, budget: u16) -> Sli
 
 /// Returns the least budget up to an operator's slice that is not refused as too small: what its flows have committed. `None`
 /// where all are. The core is of no use afterwards.
-fn least_budget(
-    reason: &mut Reason,
-    core: &mut LiveCore,
-    asked: &AskedStep,
-    op: Op,
-) -> Option<u16> {
+fn least_budget(reason: &mut Reason, core: &mut LiveCore, asked: &Asked, op: Op) -> Option<u16> {
     let row = row_at(asked, op);
     let mut outs = Vec::new(reason.alloc);
     for budget in row.budget..row.length {
@@ -155,21 +142,16 @@ fn least_budget(
     None
 }
 
-/// Begins to say that the budget that was asked for an operator is too small.
-fn say_small_budget(reason: &mut Reason, plant: &Plant, asked: &AskedStep, op: Op) {
+/// Says that the budget that was asked for an operator is less than what its flows have committed.
+fn say_unfit(reason: &mut Reason, core: &mut LiveCore, asked: &Asked, op: Op) {
+    let row = row_at(asked, op);
     reason.say(
         "operator {}: budget {} is too small: ",
         &[
-            GapText::Words(name_at(plant, op)),
-            GapText::Number(u64::from(row_at(asked, op).budget)),
+            GapText::Words(name_at(core.plant(), op)),
+            GapText::Number(u64::from(row.budget)),
         ],
     );
-}
-
-/// Says that the budget that was asked for an operator is less than what its flows have committed.
-fn say_unfit(reason: &mut Reason, core: &mut LiveCore, asked: &AskedStep, op: Op) {
-    let row = row_at(asked, op);
-    say_small_budget(reason, core.plant(), asked, op);
     match least_budget(reason, core, asked, op) {
         Some(committed) => reason.say(
             "{} minislots are committed",
@@ -192,7 +174,7 @@ fn say_row(reason: &mut Reason, plant: &Plant, op: Op, row: SliceRow, fault: Res
 }
 
 /// Says why new slices are refused.
-fn say_reslice(reason: &mut Reason, core: &LiveCore, asked: &AskedStep, fault: ResliceFault) {
+fn say_reslice(reason: &mut Reason, core: &LiveCore, asked: &Asked, fault: ResliceFault) {
     let plant = core.plant();
     match fault {
         ResliceFault::Count => reason.say("Z must have a slice for each operator", &[]),
@@ -208,18 +190,15 @@ fn say_reslice(reason: &mut Reason, core: &LiveCore, asked: &AskedStep, fault: R
         ResliceFault::OffFrame { op } | ResliceFault::BudgetOverSlice { op } => {
             say_row(reason, plant, op, row_at(asked, op), fault);
         }
-        ResliceFault::Unfit { op } => {
-            say_small_budget(reason, plant, asked, op);
-            reason.say("more minislots are committed", &[]);
-        }
+        ResliceFault::Unfit { .. } => reason.say("a budget is too small", &[]),
     }
 }
 
 /// Says why a step is refused.
-pub(crate) fn say_core(reason: &mut Reason, core: &LiveCore, asked: &AskedStep, fault: CoreFault) {
-    reason.is_lost |= asked.is_lost;
+fn say_core(reason: &mut Reason, core: &mut LiveCore, asked: &Asked, fault: CoreFault) {
     match fault {
         CoreFault::NoMemory => reason.is_lost = true,
+        CoreFault::Reslice(ResliceFault::Unfit { op }) => say_unfit(reason, core, asked, op),
         CoreFault::Reslice(fault) => say_reslice(reason, core, asked, fault),
         CoreFault::Book(BookFault::FramesSpent) => reason.say(
             "operator {} is at frame 4294967295, the last one: no tick can follow",
@@ -232,24 +211,15 @@ pub(crate) fn say_core(reason: &mut Reason, core: &LiveCore, asked: &AskedStep, 
 /// Runs steps up to the first that is refused. Returns the number of its line, and the reason says why.
 fn first_refused(reason: &mut Reason, core: &mut LiveCore, steps: Vec<LineStep>) -> u64 {
     let mut outs = Vec::new(reason.alloc);
-    let mut asked = AskedStep::none(reason.alloc);
     for LineStep {
         number,
         step,
         place: _,
     } in steps {
-        asked.note(&step);
-        match core.step_over(reason.alloc, step, &mut outs) {
-            Ok(()) => {}
-            Err(CoreFault::Reslice(ResliceFault::Unfit { op })) => {
-                reason.is_lost |= asked.is_lost;
-                say_unfit(reason, core, &asked, op);
-                return number;
-            }
-            Err(fault) => {
-                say_core(reason, core, &asked, fault);
-                return number;
-            }
+        let asked = asked_of(reason, &step);
+        if let Err(fault) = core.step_over(reason.alloc, step, &mut outs) {
+            say_core(reason, core, &asked, fault);
+            return number;
         }
     }
     0

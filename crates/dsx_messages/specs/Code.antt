@@ -1,11 +1,7 @@
 -- Confirmation codes: which number means which code is this profile's (implementation-specific).
 use Rattle.std.specs.Prelude.{ℕ}
 use Rattle.dsx_messages.specs.declared.code.Code.{Code}
-use Rattle.dsx_messages.specs.declared.code.Code.TheVariants.{Okay, RejectOther, RejectUnrecognizedSetting, RejectTemporary}
-use Rattle.dsx_messages.specs.declared.code.Code.TheVariants.{RejectPermanent, RejectNotOwner, RejectFlowNotFound}
-use Rattle.dsx_messages.specs.declared.code.Code.TheVariants.{RejectRequiredParameterNotPresent, RejectUnknownTransaction}
-use Rattle.dsx_messages.specs.declared.code.Code.TheVariants.{RejectDuplicateReference, RejectMultipleUpstreamFlows}
-use Rattle.dsx_messages.specs.declared.code.Code.TheVariants.{RejectInvalidForContext, RejectAuthorizationFailure}
+use Rattle.dsx_messages.specs.declared.code.Code.TheVariants.{Okay, RejectOther, RejectUnrecognizedSetting, RejectTemporary, RejectPermanent, RejectNotOwner, RejectFlowNotFound, RejectRequiredParameterNotPresent, RejectUnknownTransaction, RejectDuplicateReference, RejectMultipleUpstreamFlows, RejectInvalidForContext, RejectAuthorizationFailure}
 
 -- the number of each confirmation code (Annex C, C.4)
 abbrev pub code_number : Code → ℕ

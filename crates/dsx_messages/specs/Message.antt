@@ -125,9 +125,7 @@ pub record IsLeftOutIn (list : List ℕ) (found : ℕ) : Type 0 where
 abbrev pub IsFirstMessageFault : List ℕ → MessageFault → Type 0
 IsFirstMessageFault bytes faults.Empty = bytes ≡ []
 IsFirstMessageFault bytes (faults.NotOurs mtype) = (body : List ℕ) × (bytes ≡ mtype ∷ body) × IsForeign mtype
-IsFirstMessageFault bytes faults.Short = (mtype : ℕ) × (body : List ℕ) × (bytes ≡ mtype ∷ body) × IsShortBody mtype body
-    × (IsForeign mtype → ⊥)
-IsFirstMessageFault bytes (faults.Tlv tid kind id fault) = (list : List ℕ) × IsRequest bytes tid kind list
-    × (IsCutList list id fault ⊎ IsFaultyFlow list kind id fault)
+IsFirstMessageFault bytes faults.Short = (mtype : ℕ) × (body : List ℕ) × (bytes ≡ mtype ∷ body) × IsShortBody mtype body × (IsForeign mtype → ⊥)
+IsFirstMessageFault bytes (faults.Tlv tid kind id fault) = (list : List ℕ) × IsRequest bytes tid kind list × (IsCutList list id fault ⊎ IsFaultyFlow list kind id fault)
 IsFirstMessageFault bytes (faults.LeftOut tid kind found) = (list : List ℕ) × IsRequest bytes tid kind list × IsLeftOutIn list found
 IsFirstMessageFault bytes faults.NoMemory = Unit {0}

@@ -1,6 +1,5 @@
 -- Messages read from left to right, as functions on their bytes.
-use Rattle.std.specs.Prelude.{◌≡◌, ◌≢◌, ◌==◌, ℕ, ◌-◌, Bool, ◌||◌, ◌⊎◌, List, [], ◌∷◌, ◌++◌, length, Option, Some, None, Result, Ok, Err}
-use Rattle.std.specs.Prelude.{if◌then◌else◌}
+use Rattle.std.specs.Prelude.{◌≡◌, ◌≢◌, ◌==◌, ℕ, ◌-◌, Bool, ◌||◌, ◌⊎◌, List, [], ◌∷◌, ◌++◌, length, Option, Some, None, Result, Ok, Err, if◌then◌else◌}
 use Rattle.std.specs.Option.{option_map}
 use Rattle.std.specs.List.{find}
 use Rattle.lists.specs.Results.{◌>>=◌}
@@ -11,8 +10,7 @@ use Rattle.tlv24.specs.declared.fault.FlowFault.{FlowFault}
 use Rattle.tlv24.specs.Tlv.{Front, front_of}
 use Rattle.tlv24.specs.Flow.{word, long, values_of, flow_of}
 use Rattle.dsx_messages.specs.MessageType.{dsa_req, dsa_ack, dsc_req, dsc_ack, dsd_req}
-use Rattle.dsx_messages.specs.TlvType.{upstream_classifier, downstream_classifier, upstream_service_flow, downstream_service_flow}
-use Rattle.dsx_messages.specs.TlvType.{payload_header_suppression}
+use Rattle.dsx_messages.specs.TlvType.{upstream_classifier, downstream_classifier, upstream_service_flow, downstream_service_flow, payload_header_suppression}
 use Rattle.dsx_messages.specs.declared.kind.Kind.{Kind}
 use Rattle.dsx_messages.specs.declared.kind.Kind.TheVariants.{Dsa, Dsc, Dsd}
 use Rattle.dsx_messages.specs.declared.reply.FlowId.{FlowId}
@@ -89,8 +87,7 @@ flows_request_of kind body = Err faults.Short
 
 -- a DSD-REQ after its type byte: a transaction ID, two reserved bytes and an SFID; what follows is not read (6.4.18)
 abbrev pub deletion_of : List ℕ → Result Message MessageFault
-deletion_of (high ∷ low ∷ reserved ∷ reserved' ∷ a ∷ b ∷ c ∷ d ∷ more) =
-    Ok (messages.Request (requests.Dsd (word (high ∷ low ∷ [])) (long (a ∷ b ∷ c ∷ d ∷ []))))
+deletion_of (high ∷ low ∷ reserved ∷ reserved' ∷ a ∷ b ∷ c ∷ d ∷ more) = Ok (messages.Request (requests.Dsd (word (high ∷ low ∷ [])) (long (a ∷ b ∷ c ∷ d ∷ []))))
 deletion_of body = Err faults.Short
 
 -- a DSA-ACK or DSC-ACK after its type byte: a transaction ID and a confirmation code; what follows is not read (6.4.14, 6.4.17)

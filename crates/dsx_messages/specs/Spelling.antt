@@ -2,8 +2,7 @@
 use Rattle.std.specs.Prelude.{ℕ, List, [], ◌∷◌, ◌++◌, Option, Some, None}
 use Rattle.std.specs.Option.{option_map}
 use Rattle.std.specs.Int.{w16, w32, to_be_bytes}
-use Rattle.tlv24.specs.Subtype.{reference_subtype, sfid_subtype, sid_subtype, errored_subtype, errored_parameter_subtype}
-use Rattle.tlv24.specs.Subtype.{error_code_subtype}
+use Rattle.tlv24.specs.Subtype.{reference_subtype, sfid_subtype, sid_subtype, errored_subtype, errored_parameter_subtype, error_code_subtype}
 use Rattle.tlv24.specs.Tlv.{tlv, spelled}
 use Rattle.tlv24.specs.Spelling.{under}
 use Rattle.tlv24.specs.declared.tlv.Tlv.{Tlv}

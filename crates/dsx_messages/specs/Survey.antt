@@ -2,8 +2,7 @@
 use Rattle.std.specs.Prelude.{◌≡◌, ◌==◌, ◌||◌, if◌then◌else◌, ℕ, ◌+◌, ◌-◌, ◌<◌, ◌≤◌, List, length, Option, Some, None}
 use Rattle.tlv24.specs.Tlv.{front_of}
 use Rattle.tlv24.specs.Flow.{values_of}
-use Rattle.dsx_messages.specs.TlvType.{upstream_classifier, downstream_classifier, upstream_service_flow, downstream_service_flow}
-use Rattle.dsx_messages.specs.TlvType.{payload_header_suppression}
+use Rattle.dsx_messages.specs.TlvType.{upstream_classifier, downstream_classifier, upstream_service_flow, downstream_service_flow, payload_header_suppression}
 use Rattle.dsx_messages.specs.Reading.{left_out_in}
 
 -- the first of two, if it is there
@@ -38,5 +37,4 @@ pub record IsSurveyedUpTo (list rest : List ℕ) (left_out : Option ℕ) (flows 
   pub room : flows + length rest ≤ length list
   pub same_rest : (front_of list).rest ≡ (front_of rest).rest
   pub left_out_is : left_out_in (front_of list).tlvs ≡ first_some left_out (left_out_in (front_of rest).tlvs)
-  pub flows_are : length (values_of upstream_service_flow (front_of list).tlvs)
-      ≡ flows + length (values_of upstream_service_flow (front_of rest).tlvs)
+  pub flows_are : length (values_of upstream_service_flow (front_of list).tlvs) ≡ flows + length (values_of upstream_service_flow (front_of rest).tlvs)

@@ -102,11 +102,11 @@ fn flow_in(tid: u16, kind: Kind, value: &[u8]) -> Result<FlowTlv, MessageFault>
 {
     match read_flow(value) {
         Ok(flow) => Ok(flow),
-        Err(flow_fault) => Err(MessageFault::Tlv {
+        Err(told) => Err(MessageFault::Tlv {
             tid,
             kind,
-            id: id_of_fault(kind, &flow_fault),
-            fault: flow_fault.fault,
+            id: id_of_fault(kind, &told),
+            fault: told.fault,
         }),
     }
 }

@@ -48,8 +48,7 @@ fn parse_deletion(tail: &[u8]) -> Option<Detail>
 /// Returns what follows the confirmation code.
 fn detail_of(kind: Kind, code: Code, tail: &[u8]) -> Option<Detail>
     ensures spelled { IfSome result (IsDetailSpelling kind code tail.now) }
-    ensures every { (detail : Detail) → IsDetailSpelling kind code tail.now detail → FitsDetail detail
-        → result ≡ Some detail }
+    ensures every { (detail : Detail) → IsDetailSpelling kind code tail.now detail → FitsDetail detail → result ≡ Some detail }
 {
     match kind {
         Kind::Dsa => match code {

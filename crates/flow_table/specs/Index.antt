@@ -83,8 +83,7 @@ pub record IsIndex (flows : List (ℕ × Flow)) (index : List (ℕ × ℕ)) : Ty
   pub finds : (sid sfid : ℕ) → (sfid_at sid index ≡ Some sfid) ↔ (sid_if (flow_at sfid flows) ≡ Some sid)
 
 -- what the flows of one operator keep: there is room for each, the index is theirs, and so are the rows of the ledger
-pub record IsFlowTable (capacity : ℕ) (units : UnitSizes) (flows : List (ℕ × Flow)) (index : List (ℕ × ℕ))
-    (ledger : LedgerView) : Type 0 where
+pub record IsFlowTable (capacity : ℕ) (units : UnitSizes) (flows : List (ℕ × Flow)) (index : List (ℕ × ℕ)) (ledger : LedgerView) : Type 0 where
   pub within : length flows ≤ capacity
   pub indexed : IsIndex flows index
   pub room : ledger.room ≡ capacity

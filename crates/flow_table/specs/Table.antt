@@ -1,6 +1,5 @@
 -- The flows of one operator by SFID, and what all of them have committed (implementation-specific).
-use Rattle.std.specs.Prelude.{◌≡◌, ◌==◌, ℕ, ◌≤◌, ◌⊎◌, Bool, false, List, length, map, filter_map, find, sum_by, Option, Some, None, IfSome}
-use Rattle.std.specs.Prelude.{unwrap_or}
+use Rattle.std.specs.Prelude.{◌≡◌, ◌==◌, ℕ, ◌≤◌, ◌⊎◌, Bool, false, List, length, map, filter_map, find, sum_by, Option, Some, None, IfSome, unwrap_or}
 use Rattle.std.specs.List.{Contains}
 use Rattle.std.specs.Ordering.{nat_cmp}
 use Rattle.std.specs.Map.{lookup}

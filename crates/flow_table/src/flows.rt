@@ -178,8 +178,7 @@ impl Flows {
     /// this frame if there was none before.
     pub fn request(&mut self, sfid: u32, minislots: u16, frame: u32)
         // Only the flow of this SFID changes.
-        ensures { self.new ≡ record self.old
-            { flows = change_at sfid (flow_after_request minislots frame) self.old.flows } }
+        ensures { self.new ≡ record self.old { flows = change_at sfid (flow_after_request minislots frame) self.old.flows } }
     {
         self.by_sfid.request(sfid, minislots, frame);
     }
@@ -189,8 +188,7 @@ impl Flows {
     pub fn grant(&mut self, sfid: u32, minislots: u16, frame: u32)
         requires { frame < 4294967295 }
         // Only the flow of this SFID changes.
-        ensures { self.new ≡ record self.old
-            { flows = change_at sfid (flow_after_grant minislots frame) self.old.flows } }
+        ensures { self.new ≡ record self.old { flows = change_at sfid (flow_after_grant minislots frame) self.old.flows } }
     {
         self.by_sfid.grant(sfid, minislots, frame);
     }

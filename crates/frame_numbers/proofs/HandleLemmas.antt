@@ -14,7 +14,7 @@ use Rattle.transactions.specs.Keeping as keeping
 use Rattle.operator_model.specs.declared.heard.Heard.TheVariants as heards
 use Rattle.operator_model.specs.declared.heard.Arrival.{Arrival}
 use Rattle.operator_model.specs.declared.output.Cause.TheVariants as causes
-use Rattle.operator_model.specs.Asked.{refusal, faulty}
+use Rattle.operator_model.specs.Asked.{refusal}
 use Rattle.operator_model.specs.Machine.{arrival_result, taken_out, work_result}
 use Rattle.frame_numbers.proofs.FlowLemmas.{requested-seen}
 use Rattle.frame_numbers.proofs.TableLemmas.{flows_seen, found-seen, with-seen, without-seen, acked_flows-seen}
@@ -94,8 +94,8 @@ module _ (op : Operator) where
   message-seen modem (Err faults.Empty) = refl
   message-seen modem (Err (faults.NotOurs mtype)) = refl
   message-seen modem (Err faults.Short) = refl
-  message-seen modem (Err (faults.Tlv tid kind id fault)) = transaction-seen modem kind tid (Refused (faulty (encoding_refusal kind tid id fault)))
-  message-seen modem (Err (faults.LeftOut tid kind found)) = transaction-seen modem kind tid (Refused (faulty (refusal kind tid codes.RejectUnrecognizedSetting)))
+  message-seen modem (Err (faults.Tlv tid kind id fault)) = transaction-seen modem kind tid (Refused (encoding_refusal kind tid id fault))
+  message-seen modem (Err (faults.LeftOut tid kind found)) = transaction-seen modem kind tid (Refused (refusal kind tid codes.RejectUnrecognizedSetting))
   message-seen modem (Err faults.NoMemory) = refl
   message-seen modem (Ok (messages.Ack kind tid code)) = acked-seen modem tid kind code (option_map (λ entry. entry.sfid) (find (waits_for modem tid kind) op.state.kept))
   message-seen modem (Ok (messages.Request request)) =

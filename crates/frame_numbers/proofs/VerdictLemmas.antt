@@ -9,13 +9,11 @@ use Rattle.dsx_messages.specs.declared.message.Request.TheVariants as requests
 use Rattle.tlv24.specs.declared.fields.FlowFields.{FlowFields}
 use Rattle.tlv24.specs.Subtype.{sfid_subtype}
 use Rattle.admission.specs.declared.budget.Budget.{Budget}
-use Rattle.operator_model.specs.declared.check.Check.TheVariants.{NoIdentifier, NotOwner, FlowWaits, FlowsFull, ElementsOver, MinislotsOver}
 use Rattle.operator_model.specs.declared.verdict.Transaction.{Transaction}
 use Rattle.operator_model.specs.declared.verdict.AskedSets.{AskedSets}
 use Rattle.operator_model.specs.declared.verdict.Addition.{Addition}
 use Rattle.operator_model.specs.declared.verdict.Change.{Change}
-use Rattle.operator_model.specs.declared.verdict.CheckRefusal.{CheckRefusal}
-use Rattle.operator_model.specs.Asked.{transaction, refusal, refused_by, refusal_naming, stated_or_refusal, first_encoding, free_flow, asked_sets, nested_sets, addition_of, change_of}
+use Rattle.operator_model.specs.Asked.{transaction, refusal, refusal_naming, stated_or_refusal, first_encoding, free_flow, asked_sets, nested_sets, addition_of, change_of}
 use Rattle.operator_model.specs.Verdict.{limit_of, minislots_allowed, no_room, within_limit, put_within_limit, new_flow, added_reply, added_under, addition_within_limit, changed_flow, changed_reply, changed_with, changed_with_new, wants_sid, change_within_limit, addition_verdict, change_verdict, deletion_verdict, verdict}
 use Rattle.frame_numbers.proofs.FlowLemmas.{new-seen}
 use Rattle.frame_numbers.proofs.TableLemmas.{flows_seen, at-seen, sfids-seen, sids-seen, length-seen, minislots-seen, elements-seen, with-seen}
@@ -25,7 +23,7 @@ abbrev pub operator_seen : Operator → Operator
 operator_seen op = operator op.consts op.row (state_as_seen op.consts.units op.state)
 
 abbrev pub verdict_seen : UnitSizes → ℕ → Verdict → Verdict
-verdict_seen units frame (Refused r) = Refused r
+verdict_seen units frame (Refused reply) = Refused reply
 verdict_seen units frame (Put sfid flow reply) = Put sfid (flow_seen units frame flow) reply
 verdict_seen units frame (Deleted sfid reply) = Deleted sfid reply
 
@@ -51,8 +49,8 @@ module _ (units : UnitSizes) (frame : ℕ) where
   free-seen t (Some flow) = by (not (same_modem flow.modem t.modem)) (is_some flow.pending)
     where
       by : (b c : Bool) →
-          cond b (Err (refused_by NotOwner (refusal t.kind t.tid codes.RejectNotOwner))) (cond c (Err (refused_by FlowWaits (refusal t.kind t.tid codes.RejectTemporary))) (Ok (flow_seen units frame flow)))
-          ≡ result_map (flow_seen units frame) (cond b (Err (refused_by NotOwner (refusal t.kind t.tid codes.RejectNotOwner))) (cond c (Err (refused_by FlowWaits (refusal t.kind t.tid codes.RejectTemporary))) (Ok flow)))
+          cond b (Err (refusal t.kind t.tid codes.RejectNotOwner)) (cond c (Err (refusal t.kind t.tid codes.RejectTemporary)) (Ok (flow_seen units frame flow)))
+          ≡ result_map (flow_seen units frame) (cond b (Err (refusal t.kind t.tid codes.RejectNotOwner)) (cond c (Err (refusal t.kind t.tid codes.RejectTemporary)) (Ok flow)))
       by true c = refl
       by false true = refl
       by false false = refl
@@ -61,17 +59,17 @@ module _ (units : UnitSizes) (frame : ℕ) where
   free_at-seen t sfid flows = ap (free_flow t) (at-seen units frame sfid flows) ∙ free-seen t (flow_at sfid flows)
 
   module _ (consts : ConstsFields) (t : Transaction) (encodings : List FlowFields) where
-    abbrev sets_then : ℕ → FlowFields → Flow → AskedSets → Result Change CheckRefusal
+    abbrev sets_then : ℕ → FlowFields → Flow → AskedSets → Result Change ReplyFields
     sets_then sfid first flow asked = nested_sets t first flow.sets.provisioned asked >>= λ sets. Ok (record { sfid = sfid; flow = flow; sets = sets })
 
-    abbrev flow_then : ℕ → FlowFields → Flow → Result Change CheckRefusal
+    abbrev flow_then : ℕ → FlowFields → Flow → Result Change ReplyFields
     flow_then sfid first flow = asked_sets t consts encodings >>= sets_then sfid first flow
 
-    abbrev sfid_then : List (ℕ × Flow) → FlowFields → ℕ → Result Change CheckRefusal
+    abbrev sfid_then : List (ℕ × Flow) → FlowFields → ℕ → Result Change ReplyFields
     sfid_then flows first sfid = free_flow t (flow_at sfid flows) >>= flow_then sfid first
 
-    abbrev first_then : List (ℕ × Flow) → FlowFields → Result Change CheckRefusal
-    first_then flows first = stated_or_refusal first.sfid (refused_by NoIdentifier (refusal_naming t codes.RejectRequiredParameterNotPresent first sfid_subtype)) >>= sfid_then flows first
+    abbrev first_then : List (ℕ × Flow) → FlowFields → Result Change ReplyFields
+    first_then flows first = stated_or_refusal first.sfid (refusal_naming t codes.RejectRequiredParameterNotPresent first sfid_subtype) >>= sfid_then flows first
 
     sets_then-seen : (sfid : ℕ) (first : FlowFields) (flow : Flow) (asked : AskedSets) → sets_then sfid first (flow_seen units frame flow) asked ≡ result_map change_seen (sets_then sfid first flow asked)
     sets_then-seen sfid first flow asked =
@@ -82,13 +80,13 @@ module _ (units : UnitSizes) (frame : ℕ) where
 
     sfid_then-seen : (flows : List (ℕ × Flow)) (first : FlowFields) (sfid : ℕ) → sfid_then (flows_seen units frame flows) first sfid ≡ result_map change_seen (sfid_then flows first sfid)
     sfid_then-seen flows first sfid =
-        ap (λ (r : Result Flow CheckRefusal). r >>= flow_then sfid first) (free_at-seen t sfid flows)
+        ap (λ (r : Result Flow ReplyFields). r >>= flow_then sfid first) (free_at-seen t sfid flows)
         ∙ (then-map (free_flow t (flow_at sfid flows)) (flow_seen units frame) (flow_then sfid first)
         ∙ map-then (free_flow t (flow_at sfid flows)) change_seen (flow_then sfid first) (λ flow. flow_then sfid first (flow_seen units frame flow)) (flow_then-seen sfid first))
 
     first_then-seen : (flows : List (ℕ × Flow)) (first : FlowFields) → first_then (flows_seen units frame flows) first ≡ result_map change_seen (first_then flows first)
     first_then-seen flows first =
-        map-then (stated_or_refusal first.sfid (refused_by NoIdentifier (refusal_naming t codes.RejectRequiredParameterNotPresent first sfid_subtype))) change_seen (sfid_then flows first) (sfid_then (flows_seen units frame flows) first) (sfid_then-seen flows first)
+        map-then (stated_or_refusal first.sfid (refusal_naming t codes.RejectRequiredParameterNotPresent first sfid_subtype)) change_seen (sfid_then flows first) (sfid_then (flows_seen units frame flows) first) (sfid_then-seen flows first)
 
     changed-seen : (flows : List (ℕ × Flow)) → change_of consts (flows_seen units frame flows) t encodings ≡ result_map change_seen (change_of consts flows t encodings)
     unfolding change_of
@@ -114,7 +112,7 @@ module _ (op : Operator) where
   limit-seen = ap (λ (minislots : ℕ). record { minislots = minislots; elements = op.row.elements }) (allowed-seen op.state.share.budget op.state.next)
 
   abbrev unless_over : Kind → ℕ → Bool → Bool → Verdict → Verdict
-  unless_over kind tid elements minislots v = cond elements (no_room ElementsOver kind tid) (cond minislots (no_room MinislotsOver kind tid) v)
+  unless_over kind tid elements minislots v = cond elements (no_room kind tid) (cond minislots (no_room kind tid) v)
 
   unless_over-seen : (kind : Kind) (tid : ℕ) (elements minislots : Bool) (v : Verdict) → unless_over kind tid elements minislots (seen v) ≡ seen (unless_over kind tid elements minislots v)
   unless_over-seen kind tid true minislots v = refl
@@ -145,7 +143,7 @@ module _ (op : Operator) where
       ∙ put-seen Dsa tid sfid (new_flow modem frame addition.sets sid) (added_reply tid addition.reference sfid sid)
 
   abbrev unless_full : Modem → ℕ → Addition → Operator → ℕ → Option ℕ → Option ℕ → Verdict
-  unless_full modem tid addition at count sfid sid = cond (nat_le op.row.flows count) (no_room FlowsFull Dsa tid) (added_under at modem tid addition sfid sid)
+  unless_full modem tid addition at count sfid sid = cond (nat_le op.row.flows count) (no_room Dsa tid) (added_under at modem tid addition sfid sid)
 
   addition_within-seen : (modem : Modem) (tid : ℕ) (addition : Addition) → addition_within_limit (operator_seen op) modem tid addition ≡ seen (addition_within_limit op modem tid addition)
   unfolding addition_within_limit
@@ -158,11 +156,11 @@ module _ (op : Operator) where
       flows : List (ℕ × Flow)
       flows = flows_seen units frame op.state.flows
 
-      by : (b : Bool) (sfid sid : Option ℕ) → cond b (no_room FlowsFull Dsa tid) (added_under (operator_seen op) modem tid addition sfid sid) ≡ seen (cond b (no_room FlowsFull Dsa tid) (added_under op modem tid addition sfid sid))
+      by : (b : Bool) (sfid sid : Option ℕ) → cond b (no_room Dsa tid) (added_under (operator_seen op) modem tid addition sfid sid) ≡ seen (cond b (no_room Dsa tid) (added_under op modem tid addition sfid sid))
       by true sfid sid = refl
       by false sfid sid = added-seen modem tid addition sfid sid
 
-  addition-seen : (modem : Modem) (tid : ℕ) (r : Result Addition CheckRefusal) → addition_verdict (operator_seen op) modem tid r ≡ seen (addition_verdict op modem tid r)
+  addition-seen : (modem : Modem) (tid : ℕ) (r : Result Addition ReplyFields) → addition_verdict (operator_seen op) modem tid r ≡ seen (addition_verdict op modem tid r)
   addition-seen modem tid (Err reply) = refl
   addition-seen modem tid (Ok addition) = addition_within-seen modem tid addition
 
@@ -188,13 +186,13 @@ module _ (op : Operator) where
       by true sid = changed_with_new-seen tid change sid
       by false sid = changed_with-seen tid change change.flow.sid false
 
-  change-seen : (tid : ℕ) (r : Result Change CheckRefusal) → change_verdict (operator_seen op) tid (result_map (change_seen units frame) r) ≡ seen (change_verdict op tid r)
+  change-seen : (tid : ℕ) (r : Result Change ReplyFields) → change_verdict (operator_seen op) tid (result_map (change_seen units frame) r) ≡ seen (change_verdict op tid r)
   change-seen tid (Err reply) = refl
   change-seen tid (Ok change) = change_within-seen tid change
 
   -- ---- a request
 
-  deletion-seen : (tid sfid : ℕ) (r : Result Flow CheckRefusal) → deletion_verdict tid sfid (result_map (flow_seen units frame) r) ≡ seen (deletion_verdict tid sfid r)
+  deletion-seen : (tid sfid : ℕ) (r : Result Flow ReplyFields) → deletion_verdict tid sfid (result_map (flow_seen units frame) r) ≡ seen (deletion_verdict tid sfid r)
   deletion-seen tid sfid (Err reply) = refl
   deletion-seen tid sfid (Ok flow) = refl
 

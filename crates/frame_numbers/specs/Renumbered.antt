@@ -52,8 +52,7 @@ RenumberingIsNotNoticed = (consts : ConstsFields) (row : RowFields) (a b : Opera
     → IsSound (operator consts row a) → IsSound (operator consts row b) → IsRenumbered consts.units a b
     → MayRun (operator consts row a) actions → b.frame + count_by is_tick actions ≤ 4294967295
     → MayRun (operator consts row b) (map (action_moved a.frame b.frame) actions)
-    × IsSameRun consts.units a.frame b.frame (own_run (operator consts row a) actions)
-    (own_run (operator consts row b) (map (action_moved a.frame b.frame) actions))
+    × IsSameRun consts.units a.frame b.frame (own_run (operator consts row a) actions) (own_run (operator consts row b) (map (action_moved a.frame b.frame) actions))
 
 -- What is refused in the one is refused in the other, for the same cause. Only a tick after the last frame number is not compared.
 abbrev pub RefusalsAreTheSame : Type 0

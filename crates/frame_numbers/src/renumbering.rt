@@ -140,8 +140,7 @@ pub fn renumber(
     ensures ok { IfOk result (IsRenumberedSnapshot consts.now.units to saved.now) }
     ensures accepted { OnOk result (renumber_refusal consts.now to saved.now ≡ None) }
     // The Alloc Start Time would not go on.
-    ensures time_steps { (result ≡ Err renumber_faults.TimeSteps)
-        ↔ (¬ KeepsTime consts.now.channel saved.now.frame to) }
+    ensures time_steps { (result ≡ Err renumber_faults.TimeSteps) ↔ (¬ KeepsTime consts.now.channel saved.now.frame to) }
     // A flow's start or since would be before frame 0.
     ensures too_low { (result ≡ Err renumber_faults.TooLow)
         ↔ (renumber_refusal consts.now to saved.now ≡ Some renumber_faults.TooLow) }

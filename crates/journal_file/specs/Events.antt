@@ -15,5 +15,4 @@ counts_now events t c le left = record {
 
 -- and since this moment there is no other
 pub only_now : (events : List FileEvent) (c : List ℕ) → MightLeave events (length events) c → MayLeave events c
-only_now events c might = subst (λ (es : List FileEvent). MayLeave es c) (take_all might.made events (omega (arith, might.later)))
-    might.left
+only_now events c might = subst (λ (es : List FileEvent). MayLeave es c) (take_all might.made events (omega (arith, might.later))) might.left

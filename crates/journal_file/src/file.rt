@@ -1,5 +1,5 @@
 //! The file of a journal, as a device.
-ghost use Rattle.std.specs.Prelude.{◌≡◌, ◌↔◌, Some, length, IsOk, IsSome, IfErr};
+ghost use Rattle.std.specs.Prelude.{◌≡◌, length};
 ghost use Rattle.journal_file.specs.Disk.{file_content, MayLeave, MightLeave, failures};
 
 use crate::calls::FileCall;
@@ -9,7 +9,6 @@ use http_server::Log;
 use line_journal::{Device, DeviceError};
 use std::alloc::Global;
 use std::fs::File;
-use std::io;
 use std::os::unix::fs::FileExt;
 
 /// Holds the open file of a journal, the bytes that a read returns, and a record of the calls that were made.
@@ -21,31 +20,8 @@ pub struct JournalFile {
     pub(crate) bytes: Vec<u8>,
     /// Whether no call has failed. After one has, the file may have other bytes than these.
     pub(crate) usable: bool,
-    /// The error of the call that failed, if one has.
-    pub(crate) failure: Option<io::Error>,
     pub(crate) log: Log<FileCall, Vec<u8>>,
     pub(crate) ghost same: { bytes.items ≡ file_content log.items },
-}
-
-impl JournalFile {
-    /// Returns the error of the call of the system that failed, if one has. No other call is made after it.
-    pub fn failure(&self) -> Option<io::Error> {
-        self.failure
-    }
-}
-
-/// Returns what a call of the system returned. The error of a call that failed is stored.
-fn stored_outcome<T>(failure: &mut Option<io::Error>, outcome: io::Result<T>) -> Option<T>
-    ensures done { IsSome result ↔ IsOk outcome }
-    ensures stored { IfErr outcome (λ error. failure.new ≡ Some error) }
-{
-    match outcome {
-        Ok(value) => Some(value),
-        Err(error) => {
-            *failure = Some(error);
-            None
-        }
-    }
 }
 
 impl Device for JournalFile {
@@ -76,11 +52,7 @@ impl Device for JournalFile {
     fn write_at(&mut self, at: usize, bytes: &[u8]) -> Result<(), DeviceError> {
         let given = bytes.to_vec(self.alloc)?;
         overwrite(&mut self.bytes, at, bytes)?;
-        let done = self.usable
-            && stored_outcome(
-                &mut self.failure,
-                self.file.write_all_at(bytes, at as u64),
-            ).is_some();
+        let done = self.usable && self.file.write_all_at(bytes, at as u64).is_ok();
         self.log = self.log.and(&FileCall::Write { at, done }, &given);
         self.usable = done;
         if done {
@@ -91,8 +63,7 @@ impl Device for JournalFile {
     }
 
     fn truncate(&mut self, len: usize) -> Result<(), DeviceError> {
-        let done = self.usable
-            && stored_outcome(&mut self.failure, self.file.set_len(len as u64)).is_some();
+        let done = self.usable && self.file.set_len(len as u64).is_ok();
         self.bytes.truncate(len);
         self.log = self
             .log
@@ -106,8 +77,7 @@ impl Device for JournalFile {
     }
 
     fn sync(&mut self) -> Result<(), DeviceError> {
-        let done = self.usable
-            && stored_outcome(&mut self.failure, self.file.sync_data()).is_some();
+        let done = self.usable && self.file.sync_data().is_ok();
         self.log = self
             .log
             .and(&FileCall::Sync { done }, &Vec::new(self.alloc));
@@ -122,7 +92,7 @@ impl Device for JournalFile {
     fn replace(&mut self, bytes: &[u8]) -> Result<(), DeviceError> {
         let next = bytes.to_vec(self.alloc)?;
         let file = if self.usable {
-            stored_outcome(&mut self.failure, self.folder.replace_file(bytes))
+            self.folder.replace_file(bytes).ok()
         } else {
             None
         };

@@ -7,12 +7,13 @@ ghost use Rattle.journal_file.specs.File.{seen_bytes, calls_made, calls_at_openi
 
 use crate::calls::FileCall;
 use crate::file::JournalFile;
-use crate::folder::{JournalFolder, open_or_make};
+use crate::folder::JournalFolder;
 use http_server::Log;
 use std::alloc::{AllocError, Global};
-use std::fs::{File, TryLockError, metadata, symlink_metadata};
+use std::fs::{File, OpenOptions, TryLockError, metadata};
 use std::io;
 use std::io::Read;
+use std::os::unix::fs::OpenOptionsExt;
 
 /// Says why the file of a journal was not opened.
 #[derive(Clone, Copy, Debug)]
@@ -23,10 +24,6 @@ pub enum JournalOpenFault {
     Io { part: JournalPart, error: io::Error },
     /// Another process, or another part of this one, has the folder's lock.
     InUse,
-    /// The file is a symbolic link. Another file would take the place of the link, and not of what it names.
-    Link,
-    /// The file has no byte, and a journal was begun in the folder.
-    Emptied,
     NoMemory,
 }
 
@@ -52,6 +49,16 @@ fn open_fault(part: JournalPart, error: io::Error) -> JournalOpenFault {
         io::ErrorKind::OutOfMemory => JournalOpenFault::NoMemory,
         _ => JournalOpenFault::Io { part, error },
     }
+}
+
+/// Opens a file for reading and writing, and makes it if it is missing.
+fn open_or_make(rt: &HostRuntime, path: &str) -> io::Result<File> {
+    OpenOptions::new()
+        .read(true)
+        .write(true)
+        .create(true)
+        .mode(0o600)
+        .open(rt, path)
 }
 
 /// Takes the lock of a folder, without waiting for it.
@@ -81,31 +88,7 @@ fn open_folder(rt: &HostRuntime, folder: &str) -> Result<JournalFolder, JournalO
         lock,
         journal_path: format!(in alloc; "{folder}/journal")?,
         new_path: format!(in alloc; "{folder}/journal.new")?,
-        begun_path: format!(in alloc; "{folder}/begun")?,
     })
-}
-
-/// Fails if a journal was begun in a folder whose file has no byte.
-fn judge_empty(folder: &JournalFolder) -> Result<(), JournalOpenFault> {
-    match folder.is_begun() {
-        Ok(true) => Err(JournalOpenFault::Emptied),
-        Ok(false) => Ok(()),
-        Err(error) => Err(open_fault(JournalPart::Journal, error)),
-    }
-}
-
-/// Fails if the file in a folder is a link, or was emptied. If it is missing, a journal may be begun anew.
-fn judge_file(folder: &JournalFolder) -> Result<(), JournalOpenFault> {
-    let part = JournalPart::Journal;
-    match symlink_metadata(&folder.rt, folder.journal_path.as_str()) {
-        Ok(found) if found.is_symlink() => Err(JournalOpenFault::Link),
-        Ok(found) if found.len() == 0 => judge_empty(folder),
-        Ok(_found) => Ok(()),
-        Err(error) if error.kind() == io::ErrorKind::NotFound => folder
-            .forget_begun()
-            .map_err(|error| open_fault(part, error)),
-        Err(error) => Err(open_fault(part, error)),
-    }
 }
 
 /// Reads the file in a folder, and makes it, empty, if it is missing.
@@ -118,8 +101,7 @@ fn read_journal(folder: &JournalFolder, alloc: Global) -> io::Result<Vec<u8>> {
 
 impl JournalFile {
     /// Opens the file of a journal in a folder, and makes it, empty, if it is missing. It stays locked until it is dropped:
-    /// until then another opening returns `InUse`. A file without a byte is not opened if a journal was begun in the folder, nor is a
-    /// symbolic link.
+    /// until then another opening returns `InUse`.
     ///
     /// What was read is written anew, to a file that takes its place: a sync of an earlier process that failed may have left the
     /// system's copy of the file other than the disk has it.
@@ -133,7 +115,6 @@ impl JournalFile {
         let alloc = rt.alloc();
         let part = JournalPart::Journal;
         let folder = open_folder(rt, folder)?;
-        judge_file(&folder)?;
         let bytes = read_journal(&folder, alloc).map_err(|error| open_fault(part, error))?;
         let file = folder
             .replace_file(&bytes)
@@ -145,7 +126,6 @@ impl JournalFile {
             file,
             bytes,
             usable: true,
-            failure: None,
             log,
         })
     }

@@ -51,8 +51,7 @@ pub trait Device {
         ensures bytes { IfOk result (λ bytes. bytes.items ≡ seen self.old) }
         ensures seen { seen self.new ≡ seen self.old }
         ensures crash { (c : List ℕ) → may_leave self.new c → may_leave self.old c }
-        ensures time { Elapses (moment self.old) (moment self.new) (left_since self.old) (left_since self.new)
-            (may_leave self.new) }
+        ensures time { Elapses (moment self.old) (moment self.new) (left_since self.old) (left_since self.new) (may_leave self.new) }
         ensures cause { HasCause (faults self.old) (faults self.new) result };
 
     /// Writes over the bytes from an offset on, and past the end. Until a sync, a crash may leave any bytes in the range.
@@ -60,8 +59,7 @@ pub trait Device {
         requires { at ≤ length (seen self.old) }
         ensures written { OnOk result (IsOverwritten (seen self.old) at bytes.now (seen self.new)) }
         ensures crash { Follows (Torn at (length bytes.now)) (may_leave self.old) (may_leave self.new) }
-        ensures time { Elapses (moment self.old) (moment self.new) (left_since self.old) (left_since self.new)
-            (may_leave self.new) }
+        ensures time { Elapses (moment self.old) (moment self.new) (left_since self.old) (left_since self.new) (may_leave self.new) }
         ensures cause { HasCause (faults self.old) (faults self.new) result };
 
     /// Cuts the file to a length in bytes. Until a sync, a crash may leave any length between.
@@ -69,8 +67,7 @@ pub trait Device {
         requires { len ≤ length (seen self.old) }
         ensures truncated { OnOk result (seen self.new ≡ take len (seen self.old)) }
         ensures crash { Follows (Cut len) (may_leave self.old) (may_leave self.new) }
-        ensures time { Elapses (moment self.old) (moment self.new) (left_since self.old) (left_since self.new)
-            (may_leave self.new) }
+        ensures time { Elapses (moment self.old) (moment self.new) (left_since self.old) (left_since self.new) (may_leave self.new) }
         ensures cause { HasCause (faults self.old) (faults self.new) result };
 
     /// Forces what was written onto the disk. After it, a crash leaves what a read returns.
@@ -78,8 +75,7 @@ pub trait Device {
         ensures durable { OnOk result (Only (seen self.old) (may_leave self.new)) }
         ensures seen { seen self.new ≡ seen self.old }
         ensures crash { (c : List ℕ) → may_leave self.new c → may_leave self.old c }
-        ensures time { Elapses (moment self.old) (moment self.new) (left_since self.old) (left_since self.new)
-            (may_leave self.new) }
+        ensures time { Elapses (moment self.old) (moment self.new) (left_since self.old) (left_since self.new) (may_leave self.new) }
         ensures cause { HasCause (faults self.old) (faults self.new) result };
 
     /// Puts another file in the place of this one, under its name, and forces it onto the disk. A crash leaves all of the
@@ -88,8 +84,7 @@ pub trait Device {
         ensures replaced { OnOk result (seen self.new ≡ bytes.now) }
         ensures durable { OnOk result (Only bytes.now (may_leave self.new)) }
         ensures crash { (c : List ℕ) → may_leave self.new c → may_leave self.old c ⊎ (c ≡ bytes.now) }
-        ensures time { Elapses (moment self.old) (moment self.new) (left_since self.old) (left_since self.new)
-            (may_leave self.new) }
+        ensures time { Elapses (moment self.old) (moment self.new) (left_since self.old) (left_since self.new) (may_leave self.new) }
         ensures cause { HasCause (faults self.old) (faults self.new) result };
 
     /// This moment is one of those since an earlier one.

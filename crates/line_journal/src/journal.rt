@@ -48,13 +48,11 @@ impl<D: Device> Journal<D> {
 
         // All lines of the batch are on the disk, so every later crash leaves them.
         ensures acknowledged { OnOk result (IsJournalSettled D.seen D.may_leave self.new.device self.new.gate
-            × (journal_content (D.seen self.new.device)
-            ≡ with_lines batch.now (journal_content (D.seen self.old.device)))) }
+            × (journal_content (D.seen self.new.device) ≡ with_lines batch.now (journal_content (D.seen self.old.device)))) }
 
         // A crash at any moment of the call leaves the lines from before it, with all the new ones or with none.
         ensures any_moment { LeavesOnly D.moment D.left_since self.old.device self.new.device
-            (IsBeforeOrAfter (journal_content (D.seen self.old.device))
-            (with_lines batch.now (journal_content (D.seen self.old.device)))) }
+            (IsBeforeOrAfter (journal_content (D.seen self.old.device)) (with_lines batch.now (journal_content (D.seen self.old.device)))) }
 
         // `Failed` comes only if the disk has failed.
         ensures failed { IsErrOf result DeviceError.Failed → D.faults self.old.device < D.faults self.new.device }

@@ -21,13 +21,11 @@ impl<D: Device> Journal<D> {
 
         // The file has what the change makes of the journal, and all of it is on the disk.
         ensures acknowledged { OnOk result (IsJournalSettled D.seen D.may_leave self.new.device self.new.gate
-            × (journal_content (D.seen self.new.device)
-            ≡ content_after change.now (journal_content (D.seen self.old.device)))) }
+            × (journal_content (D.seen self.new.device) ≡ content_after change.now (journal_content (D.seen self.old.device)))) }
 
         // A crash at any moment leaves what was there before, or what the change makes of it.
         ensures any_moment { LeavesOnly D.moment D.left_since self.old.device self.new.device
-            (IsBeforeOrAfter (journal_content (D.seen self.old.device))
-            (content_after change.now (journal_content (D.seen self.old.device)))) }
+            (IsBeforeOrAfter (journal_content (D.seen self.old.device)) (content_after change.now (journal_content (D.seen self.old.device)))) }
 
         // `Failed` comes only if the disk has failed.
         ensures failed { IsErrOf result DeviceError.Failed → D.faults self.old.device < D.faults self.new.device }
@@ -47,8 +45,7 @@ impl<D: Device> Journal<D> {
 
         // Each change is on the disk, so every later crash leaves it.
         ensures acknowledged { OnOk result (IsJournalSettled D.seen D.may_leave self.new.device self.new.gate
-            × (journal_content (D.seen self.new.device)
-            ≡ after_all changes.now (journal_content (D.seen self.old.device)))) }
+            × (journal_content (D.seen self.new.device) ≡ after_all changes.now (journal_content (D.seen self.old.device)))) }
 
         // A crash at any moment leaves what the first changes made, none of them skipped and none in part.
         ensures any_moment { LeavesOnly D.moment D.left_since self.old.device self.new.device

@@ -2,10 +2,11 @@
 pub use Rattle.line_service.specs.Bytes.{Takes, WhereKnown}
 pub use Rattle.line_service.specs.Ends.{line_outcome, steps_end}
 pub use Rattle.line_service.specs.Front.{HasNoBreak, IsReadSoFar, IsFrontText, ReadsOn}
-pub use Rattle.line_service.specs.Lines.{IsPartRead, IsLineRead, IsMoreRead}
-pub use Rattle.line_service.specs.Service.{LineRun, steps_said, end_text, IsEndAt, IsNotDone, EndsAs, ServiceIsShown}
-pub use Rattle.line_service.specs.SoFar.{IsHeld, HasAnswered, LineIsAnswered, LineHasEnded, IsHalfDone}
+pub use Rattle.line_service.specs.Lines.{IsPartRead, IsLineRead, lines_left, IsMoreRead}
+pub use Rattle.line_service.specs.Service.{LineRun, steps_said, end_text, IsEndAt, IsNotDone, EndsAs, answer_text, IsAnswer, AreAnswered, service_text, all_done, all_told, IsServiceOf, ServiceIsShown}
+pub use Rattle.line_service.specs.SoFar.{IsHeld, HasAnswered, LineIsAnswered, IsServedSoFar, IsHalfDone}
 pub use Rattle.line_service.specs.Steps.{IsStepsEndAt, HasDone}
+pub use Rattle.line_service.specs.declared.line_break.LineBreak.{LineBreak}
 pub use Rattle.line_service.specs.declared.line_break.LineBreak.TheVariants.{Another, End}
 pub use Rattle.line_service.specs.declared.line_outcome.LineOutcome.{LineOutcome}
 pub use Rattle.line_service.specs.declared.steps_end.StepsEnd.{StepsEnd}
@@ -17,6 +18,7 @@ pub use Rattle.run_model.specs.IsStateAfter.{CoreView}
 pub use Rattle.run_model.specs.Starts.{Start, first_start}
 pub use Rattle.run_model.specs.declared.step.Out.{Out}
 pub use Rattle.run_model.specs.declared.step.Step.{Step}
+pub use Rattle.line_service.specs.script.Lines.{lines_of}
 pub use Rattle.line_service.specs.script.Script.{steps_without_numbers}
 pub use Rattle.line_service.specs.script.Text.{outs_text, out_line}
 pub use Rattle.line_service.specs.declared.script.fields.FieldError.TheVariants.{TooLong}

@@ -1,5 +1,5 @@
 -- What a line is answered.
-use Rattle.line_service.proofs.Common.{Start, nat_tests, Appends, Appends-nil, Appends-trans, PlantFields, Step, Out, CoreView, IsAfterFrom, LineStep, TooLong, steps_without_numbers, outs_text, LineOutcome, StepsEnd, line_outcome, LineRun, steps_said, end_text, IsEndAt, IsNotDone, EndsAs, IsStepsEndAt, HasDone, IsHeld, HasAnswered, LineIsAnswered, LineHasEnded}
+use Rattle.line_service.proofs.Common.{Start, nat_tests, Appends, Appends-nil, Appends-trans, PlantFields, Step, Out, CoreView, IsAfterFrom, LineStep, TooLong, steps_without_numbers, outs_text, LineOutcome, StepsEnd, line_outcome, LineRun, steps_said, end_text, IsEndAt, IsNotDone, EndsAs, IsStepsEndAt, HasDone, IsHeld, HasAnswered, LineIsAnswered}
 use Rattle.std.proofs.Common.{◌≡◌, inl, inr, ℕ, List, [], ◌++◌, take, length, arith, ◌<◌, ◌≤◌, Bool, true, false, nat_le, Option, Some, None, Ok, Err, refl, sym, subst, ◌∙◌, append-nil}
 use Rattle.std.specs.Prelude.{slice_get}
 use Rattle.line_service.specs.declared.script.fields.FieldError.{FieldError}
@@ -92,22 +92,15 @@ memory_answered plant start before shown number line live known after few = reco
 }
 
 -- the end is written too
-pub has_ended : (plant : PlantFields) (start : Start) (before : List Step) (shown : List Out) (number : ℕ) (line : List ℕ) (live : CoreView) (end : LineOutcome) (w0 w1 w2 : Option (List ℕ))
-    → HasAnswered plant start before shown number line live end w0 w1 → Appends w1 w2 (end_text number end) → LineHasEnded plant start before shown number line live end w0 w2
-has_ended plant start before shown number line live end w0 w1 w2 has wrote = (
-  record {
-    answered = has.answered;
-    is = has.is;
-    written =
-        Appends-trans w0 w1 w2 (outs_text plant has.answered.told) (end_text number has.answered.end) has.written
-        (subst (λ (e : LineOutcome). Appends w1 w2 (end_text number e)) (sym has.end_is) wrote);
-  },
-  has.end_is,
-)
-
 pub end_written : (plant : PlantFields) (start : Start) (before : List Step) (shown : List Out) (number : ℕ) (line : List ℕ) (live : CoreView) (end : LineOutcome) (w0 w1 w2 : Option (List ℕ))
     → HasAnswered plant start before shown number line live end w0 w1 → Appends w1 w2 (end_text number end) → LineIsAnswered plant start before shown number line live w0 w2
-end_written plant start before shown number line live end w0 w1 w2 has wrote = (has_ended plant start before shown number line live end w0 w1 w2 has wrote).0
+end_written plant start before shown number line live end w0 w1 w2 has wrote = record {
+  answered = has.answered;
+  is = has.is;
+  written =
+      Appends-trans w0 w1 w2 (outs_text plant has.answered.told) (end_text number has.answered.end) has.written
+      (subst (λ (e : LineOutcome). Appends w1 w2 (end_text number e)) (sym has.end_is) wrote);
+}
 
 -- a line that is too long says nothing
 pub long_said : (plant : PlantFields) (number : ℕ) (bytes line : List ℕ) (is_long : Bool) → is_long ≡ true → IsHeld bytes is_long line → steps_said plant number line ≡ Err TooLong

@@ -1,7 +1,6 @@
 -- A plant in service: lines of a script are answered one after the other, and an invalid line ends nothing (implementation-specific).
 use Rattle.run_model.specs.Starts.{Start}
-use Rattle.std.specs.Prelude.{◌≡◌, ◌<◌, ◌⊎◌, ℕ, ◌+◌, List, [], ◌∷◌, ◌++◌, nat_le, take, length, slice_get, Option, Some, None, IsSome, Ok}
-use Rattle.std.specs.Prelude.{Err, ⊤, if◌then◌else◌, codes}
+use Rattle.std.specs.Prelude.{◌≡◌, ◌<◌, ◌⊎◌, ℕ, ◌+◌, List, [], ◌∷◌, ◌++◌, nat_le, take, length, slice_get, Option, Some, None, IsSome, Ok, Err, ⊤, if◌then◌else◌, codes}
 use Rattle.std.specs.Fmt.{decimal}
 use Rattle.std.specs.Io.KnownBytes.{Appends}
 use Rattle.std.specs.List.{flat_map}
@@ -82,8 +81,7 @@ EndsAs (Err fault) live answered = IsNotParsed answered ⊎ IsInvalid answered
 
 -- The line is answered so, after these steps and outputs, and this is the core after it. A line that is too long is invalid,
 -- and no memory is needed to find that.
-pub record IsAnswer (plant : PlantFields) (start : Start) (before : List Step) (shown : List Out) (number : ℕ) (line : List ℕ)
-    (live : CoreView) (answered : LineRun) : Type 0 where
+pub record IsAnswer (plant : PlantFields) (start : Start) (before : List Step) (shown : List Out) (number : ℕ) (line : List ℕ) (live : CoreView) (answered : LineRun) : Type 0 where
   pub after : IsAfterFrom plant start (before ++ answered.done) (shown ++ answered.told) live
   pub ends : EndsAs (steps_said plant number line) live answered
   pub too_long : 4096 < length line → IsInvalid answered
@@ -113,8 +111,7 @@ abbrev pub all_told : List LineRun → List Out
 all_told answers = flat_map (λ answered. answered.told) answers
 
 -- after these steps and outputs, all lines of the input are answered, their answers are written, and this is the core then
-pub record IsServiceOf (plant : PlantFields) (start : Start) (before : List Step) (shown : List Out) (input : List ℕ) (live : CoreView)
-    (old new : Option (List ℕ)) : Type 0 where
+pub record IsServiceOf (plant : PlantFields) (start : Start) (before : List Step) (shown : List Out) (input : List ℕ) (live : CoreView) (old new : Option (List ℕ)) : Type 0 where
   pub answers : List LineRun
   pub answered : AreAnswered plant start before shown 1 (lines_of input) answers
   pub after : IsAfterFrom plant start (before ++ all_done answers) (shown ++ all_told answers) live
@@ -124,7 +121,5 @@ pub record IsServiceOf (plant : PlantFields) (start : Start) (before : List Step
 
 -- what a service has output is shown to each operator as its own machine run alone has it, and in order: `IsTraceOf` and `Ordered`
 abbrev pub ServiceIsShown : Type 0
-ServiceIsShown = (plant : PlantFields) (start : Start) (input : List ℕ) (live : CoreView) (old new : Option (List ℕ))
-    (service : IsServiceOf plant start [] [] input live old new)
-    → IsTraceFrom plant start (all_done service.answers) (all_told service.answers)
-    × OrderedFrom plant start (all_done service.answers) (all_told service.answers)
+ServiceIsShown = (plant : PlantFields) (start : Start) (input : List ℕ) (live : CoreView) (old new : Option (List ℕ)) (service : IsServiceOf plant start [] [] input live old new)
+    → IsTraceFrom plant start (all_done service.answers) (all_told service.answers) × OrderedFrom plant start (all_done service.answers) (all_told service.answers)

@@ -25,8 +25,7 @@ IsStepsEndAt live (Some line) (Refused number) = (number ≡ line.number) × IsS
 IsStepsEndAt live (Some line) NoMemory = step_fault live line.step ≡ None
 
 -- so many of these steps are done after these steps and outputs, and it ended so; what they output is written
-pub record HasDone (plant : PlantFields) (start : Start) (before : List Step) (shown : List Out) (steps : List LineStep) (live : CoreView)
-    (end : StepsEnd) (old new : Option (List ℕ)) : Type 0 where
+pub record HasDone (plant : PlantFields) (start : Start) (before : List Step) (shown : List Out) (steps : List LineStep) (live : CoreView) (end : StepsEnd) (old new : Option (List ℕ)) : Type 0 where
   pub at : ℕ
   pub told : List Out
   pub after : IsAfterFrom plant start (before ++ steps_without_numbers (take at steps)) (shown ++ told) live

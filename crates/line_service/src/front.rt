@@ -45,8 +45,7 @@ fn take_byte(text: &mut Vec<u8>, line: &mut Vec<u8>, byte: u8) -> Result<bool, A
 
 /// Returns the whole text where the input has ended after a line.
 fn with_last_line(mut text: Vec<u8>, line: &[u8]) -> Result<Vec<u8>, AllocError>
-    ensures { IfOk result (λ whole. (input : List ℕ) → IsReadSoFar input [] text.items line.now
-        → IsFrontText whole.items input []) }
+    ensures { IfOk result (λ whole. (input : List ℕ) → IsReadSoFar input [] text.items line.now → IsFrontText whole.items input []) }
 {
     if line != b"---".as_slice() {
         text.extend_from_slice(line)?;
@@ -69,8 +68,7 @@ fn judge_length(text: &[u8], most: usize) -> io::Result<()>
 /// a text of more than `most` bytes.
 pub fn read_to_bar<R: Read>(alloc: Global, reader: &mut R, most: usize) -> io::Result<Vec<u8>>
     ensures text { IfOk result (λ text. IfSome (R.remaining reader.old) (λ input. text.items ≡ plant_text input)) }
-    ensures script { OnOk result (IfSome (R.remaining reader.old)
-        (λ input. R.remaining reader.new ≡ Some (script_text input))) }
+    ensures script { OnOk result (IfSome (R.remaining reader.old) (λ input. R.remaining reader.new ≡ Some (script_text input))) }
     // No clause says that a text of at most so many bytes is not refused.
     ensures limit { IfOk result (λ text. length text.items ≤ most) }
 {
@@ -100,8 +98,7 @@ pub fn read_to_bar<R: Read>(alloc: Global, reader: &mut R, most: usize) -> io::R
 /// 1,048,576 bytes.
 pub fn read_plant_text<R: Read>(alloc: Global, reader: &mut R) -> io::Result<Vec<u8>>
     ensures text { IfOk result (λ text. IfSome (R.remaining reader.old) (λ input. text.items ≡ plant_text input)) }
-    ensures script { OnOk result (IfSome (R.remaining reader.old)
-        (λ input. R.remaining reader.new ≡ Some (script_text input))) }
+    ensures script { OnOk result (IfSome (R.remaining reader.old) (λ input. R.remaining reader.new ≡ Some (script_text input))) }
     ensures limit { IfOk result (λ text. length text.items ≤ 1048576) }
 {
     read_to_bar(alloc, reader, MOST_BYTES)

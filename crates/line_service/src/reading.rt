@@ -51,10 +51,8 @@ fn take_part(held: &mut LineBuffer, bytes: &[u8]) -> Result<LinePart, AllocError
 /// Returns what is after the line, if it is read.
 fn read_part<R: BufRead>(reader: &mut R, held: &mut LineBuffer) -> io::Result<Option<LineBreak>>
     ensures { IfOk result (λ end. (known : Option (List ℕ))
-        → WhereKnown known (R.remaining reader.old)
-        (λ input rest. IsPartRead input rest held.old.bytes.items held.old.is_long)
-        → WhereKnown known (R.remaining reader.new)
-        (λ input rest. IsMoreRead input rest held.new.bytes.items held.new.is_long end)) }
+        → WhereKnown known (R.remaining reader.old) (λ input rest. IsPartRead input rest held.old.bytes.items held.old.is_long)
+        → WhereKnown known (R.remaining reader.new) (λ input rest. IsMoreRead input rest held.new.bytes.items held.new.is_long end)) }
 {
     let bytes = reader.fill_buf()?;
     if bytes.is_empty() {

@@ -19,13 +19,11 @@ bytes_of_map channel frame parts =
 
 -- the bytes are the MAP of a frame with these parts: they are spelled so, they say what that MAP says, it gives no minislot
 -- twice, and each operator's part of it is what that operator put
-pub record IsMapOf (channel : Channel) (frame : ℕ) (quotas : List Quota) (slices : List Minislots) (parts : List ElementsFields)
-    (bytes : List ℕ) : Type 0 where
+pub record IsMapOf (channel : Channel) (frame : ℕ) (quotas : List Quota) (slices : List Minislots) (parts : List ElementsFields) (bytes : List ℕ) : Type 0 where
   pub bytes_are : bytes ≡ bytes_of_map channel frame parts
   pub reads : MapReads bytes (map_of channel frame parts)
   pub tiled : GivesNoMinislotTwice channel.frame_minislots quotas slices (map_of channel frame parts).spans
-  pub own : (k : ℕ) (quota : Quota) (part : ElementsFields) → slice_get quotas k ≡ Some quota → slice_get parts k ≡ Some part
-      → part_of quota.sids (map_of channel frame parts) ≡ own_part part
+  pub own : (k : ℕ) (quota : Quota) (part : ElementsFields) → slice_get quotas k ≡ Some quota → slice_get parts k ≡ Some part → part_of quota.sids (map_of channel frame parts) ≡ own_part part
 
 -- what putting a part answers: nothing where it is not the last one of its frame, else that frame's MAP
 abbrev pub IsPutResult : Gathering → ℕ → ℕ → ElementsFields → Option MapBytes → Type 0
@@ -37,5 +35,4 @@ IsPutResult g op frame part (Some made) =
 -- the elements of a frame's MAP, whose last part is this one of `op`, the operators going in this order
 abbrev pub ordered_elements : Channel → List ℕ → List (List ElementsFields) → ℕ → ElementsFields → List MapElement
 ordered_elements channel order queues op part =
-    elements_of_map channel.frame_minislots (map_spans channel (map (part_at queues op part) order))
-    (map_pending (map (part_at queues op part) order))
+    elements_of_map channel.frame_minislots (map_spans channel (map (part_at queues op part) order)) (map_pending (map (part_at queues op part) order))

@@ -1,6 +1,5 @@
 -- What the bytes of a MAP say (implementation-specific layout, after CM-SP-MULPIv3.1, 6.4.4).
-use Rattle.std.specs.Prelude.{◌≡◌, ◌≢◌, ℕ, ◌+◌, ◌*◌, ◌<◌, ◌≤◌, Bool, true, false, ◌==◌, ◌&&◌, ◌||◌, List, [], ◌∷◌, ◌++◌, length, map, drop}
-use Rattle.std.specs.Prelude.{slice_index, slice_range, Result, Ok, Err}
+use Rattle.std.specs.Prelude.{◌≡◌, ◌≢◌, ℕ, ◌+◌, ◌*◌, ◌<◌, ◌≤◌, Bool, true, false, ◌==◌, ◌&&◌, ◌||◌, List, [], ◌∷◌, ◌++◌, length, map, drop, slice_index, slice_range, Result, Ok, Err}
 use Rattle.std.specs.List.{AllByRecursion}
 use Rattle.std.specs.Int.{w32, from_be_bytes}
 use Rattle.map_assembly.specs.declared.element.MapElement.{MapElement}
@@ -9,9 +8,7 @@ use Rattle.map_assembly.specs.declared.view.MapSpan.{MapSpan}
 use Rattle.map_assembly.specs.declared.view.MapView.{MapView}
 use Rattle.map_assembly.specs.declared.view.MapFault.{MapFault}
 use Rattle.map_assembly.specs.declared.view.MapFault.TheVariants.{Short, Count, Backward, NoNull, AfterNull, NoMemory}
-use Rattle.map_assembly.specs.Wire.{channel_place, ucd_count_place, count_place, alloc_start_place, ack_time_place, ranging_start_place}
-use Rattle.map_assembly.specs.Wire.{ranging_end_place, data_start_place, data_end_place, header_bytes, element_bytes, nobodys_sid}
-use Rattle.map_assembly.specs.Wire.{short_iuc, long_iuc, null_iuc}
+use Rattle.map_assembly.specs.Wire.{channel_place, ucd_count_place, count_place, alloc_start_place, ack_time_place, ranging_start_place, ranging_end_place, data_start_place, data_end_place, header_bytes, element_bytes, nobodys_sid, short_iuc, long_iuc, null_iuc}
 use Rattle.map_assembly.specs.Element.{is_null, elements_in}
 
 -- ---- the elements

@@ -1,6 +1,5 @@
 -- That a MAP gives no minislot twice, and each operator its own (implementation-specific).
-use Rattle.std.specs.Prelude.{◌≡◌, ℕ, ◌+◌, ◌<◌, ◌≤◌, nat_lt, nat_le, ◌&&◌, Bool, true, not, ◌==◌, List, map, All, count_by, filter}
-use Rattle.std.specs.Prelude.{slice_get, Some}
+use Rattle.std.specs.Prelude.{◌≡◌, ℕ, ◌+◌, ◌<◌, ◌≤◌, nat_lt, nat_le, ◌&&◌, Bool, true, not, ◌==◌, List, map, All, count_by, filter, slice_get, Some}
 use Rattle.admission.specs.Free.{Numbers}
 use Rattle.slice_scheduler.specs.Minislots.{Minislots}
 use Rattle.map_assembly.specs.declared.quota.Quota.{Quota}
@@ -32,8 +31,7 @@ IsOwn range slice span = is_within range span.sid ≡ true → LiesIn slice span
 -- no span touches two slices
 pub record GivesNoMinislotTwice (frame_minislots : ℕ) (quotas : List Quota) (slices : List Minislots) (spans : List MapSpan) : Type 0 where
   pub once : (m : ℕ) → m < frame_minislots → count_by (holds m) spans ≡ 1
-  pub own : (k : ℕ) (quota : Quota) (slice : Minislots) → slice_get quotas k ≡ Some quota → slice_get slices k ≡ Some slice
-      → All (IsOwn quota.sids slice) spans
+  pub own : (k : ℕ) (quota : Quota) (slice : Minislots) → slice_get quotas k ≡ Some quota → slice_get slices k ≡ Some slice → All (IsOwn quota.sids slice) spans
   pub apart : All (λ span. count_by (λ slice. touches slice span) slices ≤ 1) spans
 
 -- ---- an operator's part of a MAP
@@ -45,8 +43,7 @@ pub record MapPart : Type 0 where
 
 -- the spans and the grants pending with a SID of the range
 abbrev pub part_of : Numbers → MapView → MapPart
-part_of range view =
-    record { spans = filter (λ span. is_within range span.sid) view.spans; pending = filter (λ sid. is_within range sid) view.pending }
+part_of range view = record { spans = filter (λ span. is_within range span.sid) view.spans; pending = filter (λ sid. is_within range sid) view.pending }
 
 -- what an operator put, as its part of the MAP: the spans with a SID, and the grants pending with one
 abbrev pub own_part : ElementsFields → MapPart

@@ -171,7 +171,7 @@ fn body_of(bytes: &[u8]) -> &[u8]
 fn count_spans(bytes: &[u8]) -> Result<usize, MapFault>
     ensures counted { IfOk result (λ _. IsCounted bytes.now) }
     ensures judged { IfOk result (λ count. count_before_null 0 0 (elements_behind bytes.now) ≡ Ok count) }
-    ensures fault { IfErr result (λ found. (fault : MapFault) → (found ≡ fault) ↔ IsFirstMapFault bytes.now fault) }
+    ensures fault { IfErr result (λ told. (fault : MapFault) → (told ≡ fault) ↔ IsFirstMapFault bytes.now fault) }
 {
     if bytes.len() < HEADER_BYTES {
         return Err(MapFault::Short);

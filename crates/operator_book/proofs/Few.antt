@@ -1,6 +1,6 @@
 -- How many outputs an action has.
 use Rattle.std.proofs.Common.{ℕ, ◌≤◌, Bool, true, false, List, [], ◌∷◌, ◌++◌, length, Option, Some, None, Result, Ok, Err, length-append, arith}
-use Rattle.operator_book.proofs.Common.{length-map, not, find, nat_le, if◌then◌else◌, option_map, Modem, Kind, Message, MessageFault, message_of, spell_reply, KeptEntry, same_kind, is_of, waits_for, same_modem, Flow, asks_for_grants, flow_after_request, flow_with, with_flow, Action, Heard, Arrival, Verdict, Refused, verdict, encoding_refusal, Operator, refusal, faulty, StepResult, reply_result, silent, carried_out, is_of_cmts, new_unless, transaction_result, acked_if, kind_of, tid_of, message_handled, asked_of_flow, handle}
+use Rattle.operator_book.proofs.Common.{length-map, not, find, nat_le, if◌then◌else◌, option_map, Modem, Kind, Message, MessageFault, message_of, spell_reply, KeptEntry, same_kind, is_of, waits_for, same_modem, Flow, asks_for_grants, flow_after_request, flow_with, with_flow, Action, Heard, Arrival, Verdict, Refused, verdict, encoding_refusal, Operator, refusal, StepResult, reply_result, silent, carried_out, is_of_cmts, new_unless, transaction_result, acked_if, kind_of, tid_of, message_handled, asked_of_flow, handle}
 use Rattle.dsx_messages.specs.declared.code.Code.TheVariants as codes
 use Rattle.dsx_messages.specs.declared.message.Message.TheVariants as messages
 use Rattle.dsx_messages.specs.declared.fault.MessageFault.TheVariants as faults
@@ -47,8 +47,8 @@ module _ (op : Operator) (modem : Modem) where
   few_message (Err faults.Empty) = one
   few_message (Err (faults.NotOurs mtype)) = one
   few_message (Err faults.Short) = one
-  few_message (Err (faults.Tlv tid kind id fault)) = few_transacted kind tid (Refused (faulty (encoding_refusal kind tid id fault)))
-  few_message (Err (faults.LeftOut tid kind found)) = few_transacted kind tid (Refused (faulty (refusal kind tid codes.RejectUnrecognizedSetting)))
+  few_message (Err (faults.Tlv tid kind id fault)) = few_transacted kind tid (Refused (encoding_refusal kind tid id fault))
+  few_message (Err (faults.LeftOut tid kind found)) = few_transacted kind tid (Refused (refusal kind tid codes.RejectUnrecognizedSetting))
   few_message (Err faults.NoMemory) = one
   few_message (Ok (messages.Ack kind tid code)) = few_acked tid kind code (option_map (λ entry. entry.sfid) (find (waits_for modem tid kind) op.state.kept))
   few_message (Ok (messages.Request request)) = few_transacted (kind_of request) (tid_of request) (verdict op modem request)

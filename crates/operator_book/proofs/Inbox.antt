@@ -1,12 +1,11 @@
 -- No handling looks at the inbox or changes it.
 use Rattle.std.proofs.Common.{◌≡◌, ℕ, Bool, true, false, List, [], ◌∷◌, Option, Some, None, Result, Ok, Err, refl, sym, ap, ◌∙◌}
-use Rattle.operator_book.proofs.Common.{not, find, length, nat_le, slice_get, drop, if◌then◌else◌, option_map, flow_with, same_Some, none-some, Modem, Kind, Message, MessageFault, message_of, spell_reply, KeptEntry, same_kind, is_of, waits_for, same_modem, Flow, asks_for_grants, flow_after_request, with_flow, Arrival, Verdict, Refused, Heard, verdict, encoding_refusal, taken_out, work_result, Operator, refusal, faulty, reply_result, silent, carried_out, is_of_cmts, new_unless, transaction_result, acked_if, kind_of, tid_of, message_handled, asked_of_flow, handle}
+use Rattle.operator_book.proofs.Common.{not, find, length, nat_le, slice_get, drop, if◌then◌else◌, option_map, flow_with, same_Some, none-some, Modem, Kind, Message, MessageFault, message_of, spell_reply, KeptEntry, same_kind, is_of, waits_for, same_modem, Flow, asks_for_grants, flow_after_request, with_flow, Arrival, Verdict, Refused, Heard, verdict, encoding_refusal, taken_out, work_result, Operator, refusal, reply_result, silent, carried_out, is_of_cmts, new_unless, transaction_result, acked_if, kind_of, tid_of, message_handled, asked_of_flow, handle}
 use Rattle.dsx_messages.specs.declared.code.Code.TheVariants as codes
 use Rattle.dsx_messages.specs.declared.message.Message.TheVariants as messages
 use Rattle.dsx_messages.specs.declared.fault.MessageFault.TheVariants as faults
 use Rattle.operator_model.specs.declared.output.Cause.TheVariants as causes
 use Rattle.operator_model.specs.declared.heard.Heard.TheVariants as heards
-use Rattle.operator_model.specs.Deciding.{heard_decision, first_decision}
 
 module _ (op : Operator) (modem : Modem) where
   again : (kind : Kind) (entry : KeptEntry) (b : Bool) → (if b then reply_result op.state modem entry.reply else silent op.state modem causes.TidInUse).state.inbox ≡ op.state.inbox
@@ -38,8 +37,8 @@ module _ (op : Operator) (modem : Modem) where
   message_keeps (Err faults.Empty) = refl
   message_keeps (Err (faults.NotOurs mtype)) = refl
   message_keeps (Err faults.Short) = refl
-  message_keeps (Err (faults.Tlv tid kind id fault)) = transacted_keeps kind tid (Refused (faulty (encoding_refusal kind tid id fault)))
-  message_keeps (Err (faults.LeftOut tid kind found)) = transacted_keeps kind tid (Refused (faulty (refusal kind tid codes.RejectUnrecognizedSetting)))
+  message_keeps (Err (faults.Tlv tid kind id fault)) = transacted_keeps kind tid (Refused (encoding_refusal kind tid id fault))
+  message_keeps (Err (faults.LeftOut tid kind found)) = transacted_keeps kind tid (Refused (refusal kind tid codes.RejectUnrecognizedSetting))
   message_keeps (Err faults.NoMemory) = refl
   message_keeps (Ok (messages.Ack kind tid code)) = acked_keeps tid kind code (option_map (λ entry. entry.sfid) (find (waits_for modem tid kind) op.state.kept))
   message_keeps (Ok (messages.Request request)) = transacted_keeps (kind_of request) (tid_of request) (verdict op modem request)
@@ -72,9 +71,3 @@ worked_is op first heard e is =
     ap (λ (xs : List Arrival). taken_out (drop 1 xs) (handle op first.modem heard)) (handle_keeps op first.modem first.modem heard refl)
     ∙ ap (λ (h : Heard). taken_out (drop 1 op.state.inbox) (handle op first.modem h)) (sym is)
     ∙ sym (of_first op first op.state.inbox e)
-
--- ---- what decides the first
-
-pub decided_is : (op : Operator) (first : Arrival) (inbox : List Arrival) → slice_get inbox 0 ≡ Some first → heard_decision op first.modem first.heard ≡ first_decision op inbox
-decided_is op first [] e = absurd (none-some first e)
-decided_is op first (x ∷ xs) e = ap (λ (f : Arrival). heard_decision op f.modem f.heard) (sym (same_Some x first e))

@@ -8,4 +8,7 @@ pub mod Nested
 pub mod Replays
 pub mod Room
 pub mod Serving
+pub mod Resumes
+pub mod SoundState
+pub mod UnderState
 pub mod Working

@@ -33,13 +33,13 @@ HasOwnSids m = All (IsIn m.row.sids) (sids_of m.state.flows)
 
 -- the verdict, without the box of its flow
 abbrev pub verdict_of : BoxedVerdict → Verdict
-verdict_of (boxed.Refused r) = Refused r
+verdict_of (boxed.Refused reply) = Refused reply
 verdict_of (boxed.Put sfid flow reply) = Put sfid flow.value reply
 verdict_of (boxed.Deleted sfid reply) = Deleted sfid reply
 
 -- a flow that is to be put may be
 abbrev pub MayPut : FlowTable → Verdict → Type 0
-MayPut table (Refused r) = Unit {0}
+MayPut table (Refused reply) = Unit {0}
 MayPut table (Put sfid flow reply) = HasRoomFor table sfid flow
 MayPut table (Deleted sfid reply) = Unit {0}
 

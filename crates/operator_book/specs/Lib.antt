@@ -6,3 +6,5 @@ pub mod Opening
 pub mod Kept
 pub mod ViewOf
 pub mod MostOutputs
+pub mod Resuming
+pub mod RowFaults

@@ -18,8 +18,7 @@ sid_for row flows sets = if is_some sets.admitted then least_free_of row.sids (s
 -- one flow more with these sets, opened in this frame under this SFID; none where no SFID is free
 abbrev pub put_under : ℕ → RowFields → List (ℕ × Flow) → Modem → SetsFields → Option ℕ → List (ℕ × Flow)
 put_under frame row flows modem sets None = flows
-put_under frame row flows modem sets (Some sfid) =
-    with_flow sfid (opened_flow frame (record { modem = modem; sid = sid_for row flows sets; sets = sets })) flows
+put_under frame row flows modem sets (Some sfid) = with_flow sfid (opened_flow frame (record { modem = modem; sid = sid_for row flows sets; sets = sets })) flows
 
 -- one flow more, under the least free SFID, where its encoding gives it sets
 abbrev pub put_opened : ℕ → RowFields → List (ℕ × Flow) → Modem → Option SetsFields → List (ℕ × Flow)

@@ -1,6 +1,5 @@
 -- What is planned of an action, and what becomes of the state when the plan is committed (implementation-specific).
-use Rattle.std.specs.Prelude.{◌≡◌, ◌<◌, ◌+◌, ℕ, List, [], ◌∷◌, ◌++◌, drop, length, find, position, slice_get, Some, None, Result, Ok, Err}
-use Rattle.std.specs.Prelude.{IsNone}
+use Rattle.std.specs.Prelude.{◌≡◌, ◌<◌, ◌+◌, ℕ, List, [], ◌∷◌, ◌++◌, drop, length, find, position, slice_get, Some, None, Result, Ok, Err, IsNone}
 use Rattle.dsx_messages.specs.declared.kind.Kind.{Kind}
 use Rattle.dsx_messages.specs.declared.modem.Modem.{Modem}
 use Rattle.transactions.specs.Entry.{is_of, waits_for}

@@ -1,26 +1,25 @@
 //! How a request is answered: the plan of its reply.
 
-ghost use Rattle.std.specs.Prelude.{◌≡◌, ◌≢◌, ◌∷◌, [], ◌<◌, None, Some, IsNone, Ok, IfOk, IfSome, IfNone, length, find};
+ghost use Rattle.std.specs.Prelude.{◌≡◌, ◌≢◌, ◌∷◌, [], ◌<◌, IsNone, Ok, IfOk, IfSome, IfNone, length, find};
 ghost use Rattle.dsx_messages.specs.declared.code.Code.TheVariants.{Okay};
 ghost use Rattle.dsx_messages.specs.declared.message.Message.TheVariants as messages;
 ghost use Rattle.transactions.specs.Entry.{is_of};
 ghost use Rattle.operator_model.specs.declared.output.Output.TheVariants as outputs;
 ghost use Rattle.operator_model.specs.Asked.{refusal};
-ghost use Rattle.operator_model.specs.Deciding.{early_check};
 ghost use Rattle.operator_model.specs.Handle.{reply_output, carried_out, IsAnswered, IsCarriedOut, message_handled, tid_of, kind_of};
 ghost use Rattle.operator_book.specs.Held.{flow_table_of, verdict_of, HasOwnSids, MayPut};
 ghost use Rattle.operator_book.specs.Planned.{IsPlanOfFirst};
 
 use crate::boxed_verdict::BoxedVerdict;
-use crate::machine_state::MachineState;
+use crate::machine::MachineState;
 use crate::plan::{Effect, HandledEffect, Plan, SpareOutputs, single};
 use crate::refusal::refusal;
 use dsx_messages::{Code, Kind, Modem, Request, reply_bytes};
-use operator_model::{Cause, MessageCheck, Output};
+use operator_model::{Cause, Output};
 use std::alloc::{AllocError, Global};
 use tlv24::Bytes;
 
-pub(crate) fn kind_of(request: &Request) -> Kind
+fn kind_of(request: &Request) -> Kind
     ensures { result ≡ kind_of request.now }
 {
     match request {
@@ -30,7 +29,7 @@ pub(crate) fn kind_of(request: &Request) -> Kind
     }
 }
 
-pub(crate) fn tid_of(request: &Request) -> u16
+fn tid_of(request: &Request) -> u16
     ensures { result ≡ tid_of request.now }
 {
     match request {
@@ -38,13 +37,6 @@ pub(crate) fn tid_of(request: &Request) -> u16
         | Request::Dsc { tid, flows: _ }
         | Request::Dsd { tid, sfid: _ } => *tid,
     }
-}
-
-/// What answers a request that is not judged: the check that decides it, and the output.
-#[derive(Drop)]
-pub(crate) struct EarlyAnswer {
-    pub check: MessageCheck,
-    pub output: Output,
 }
 
 /// Returns the output of a reply that was cached before.
@@ -97,9 +89,9 @@ impl MachineState {
         })
     }
 
-    /// Returns what answers a request that is not judged: its transaction ID is of the CMTS's half,
-    /// it is cached already, or as many are cached as the row allows. None if its transaction is
-    /// new.
+    /// Returns the output that answers a request that is not judged: its transaction ID is of the
+    /// CMTS's half, it is cached already, or as many are cached as the row allows. None if its
+    /// transaction is new.
     #[inline(always)]
     pub(crate) fn early_answer(
         &self,
@@ -107,21 +99,17 @@ impl MachineState {
         modem: Modem,
         kind: Kind,
         tid: u16,
-    ) -> Result<Option<EarlyAnswer>, AllocError>
+    ) -> Result<Option<Output>, AllocError>
         ensures told { IfOk result (λ early. IfSome early
-            (λ told. IsAnswered self.now modem kind tid (told.output ∷ []))) }
-        ensures check { IfOk result (λ early. IfSome early (λ told. early_check self.now modem tid ≡ Some told.check)) }
-        ensures none { IfOk result (λ early. IfNone early (early_check self.now modem tid ≡ None)) }
+            (λ told. IsAnswered self.now modem kind tid (told ∷ []))) }
         ensures new { IfOk result (λ early. IfNone early (IsCarriedOut self.now modem kind tid)) }
     {
         if tid >= 0x8000 {
-            return Ok(Some(EarlyAnswer {
-                check: MessageCheck::OfCmts,
-                output: uncached_refusal(modem, kind, tid, Code::RejectUnknownTransaction),
-            }));
+            let told = uncached_refusal(modem, kind, tid, Code::RejectUnknownTransaction);
+            return Ok(Some(told));
         }
         if let Some(entry) = self.kept.find(modem, tid) {
-            let output = if entry.kind == kind {
+            let told = if entry.kind == kind {
                 repeated_reply(alloc, modem, &entry.reply)?
             } else {
                 Output::Silent {
@@ -129,16 +117,11 @@ impl MachineState {
                     cause: Cause::TidInUse,
                 }
             };
-            return Ok(Some(EarlyAnswer {
-                check: MessageCheck::Repeated,
-                output,
-            }));
+            return Ok(Some(told));
         }
         if self.kept.len() >= usize::from(self.row.get_fields().transactions) {
-            return Ok(Some(EarlyAnswer {
-                check: MessageCheck::KeptFull,
-                output: uncached_refusal(modem, kind, tid, Code::RejectTemporary),
-            }));
+            let told = uncached_refusal(modem, kind, tid, Code::RejectTemporary);
+            return Ok(Some(told));
         }
         Ok(None)
     }
@@ -152,14 +135,13 @@ impl MachineState {
         request: &Request,
     ) -> Result<Plan, AllocError>
         requires { HasOwnSids self.now }
-        ensures { IfOk result (IsPlanOfFirst self.now
-            (message_handled self.now modem (Ok (messages.Request request.now)))) }
+        ensures { IfOk result (IsPlanOfFirst self.now (message_handled self.now modem (Ok (messages.Request request.now)))) }
     {
         let kind = kind_of(request);
         let tid = tid_of(request);
-        if let Some(early) = self.early_answer(alloc, modem, kind, tid)? {
+        if let Some(output) = self.early_answer(alloc, modem, kind, tid)? {
             return Ok(Plan {
-                outputs: single(spare, early.output)?,
+                outputs: single(spare, output)?,
                 effect: Effect::Handled(HandledEffect::Nothing),
             });
         }

@@ -8,12 +8,11 @@ ghost use Rattle.flow_table.specs.Table.{flow_at};
 ghost use Rattle.operator_book.specs.Over.{asked_sets_over};
 ghost use Rattle.operator_model.specs.Asked.{is_unclassed, id_number, is_same, first_of, first_encoding, free_flow, set_over_class, set_of, is_change, asked_by_type, asked_by_one, asked_in_order, asked_by_two, asked_sets, failing_active, nested_sets, addition_of, change_of};
 
-use crate::refusal::{refuse, refuse_naming};
-use dsx_messages::{Code, Kind};
+use crate::refusal::{refusal, refusal_naming};
+use dsx_messages::{Code, Kind, Reply};
 use flow_table::{Flow, Flows};
 use operator_model::{
-    Addition, AskedSets, Change, Check, CheckRefusal, Transaction, has_set_type, id_number,
-    is_same, stand_together,
+    Addition, AskedSets, Change, Transaction, has_set_type, id_number, is_same, stand_together,
 };
 use param_sets::{ParamSet, Refusal, Sets, from_tlv, within};
 use plant::Consts;
@@ -31,26 +30,18 @@ fn all_name(kind: Kind, first: &FlowTlv, others: &[FlowTlv]) -> bool
 
 /// Returns the first of the encodings, where they are together.
 #[inline(always)]
-fn first_of(t: Transaction, encodings: &[FlowTlv]) -> Result<&FlowTlv, CheckRefusal>
+fn first_of(t: Transaction, encodings: &[FlowTlv]) -> Result<&FlowTlv, Reply>
     ensures { MatchResult result (λ first. first_of t encodings.now ≡ Ok first.now)
-        (λ refusal. first_of t encodings.now ≡ Err refusal) }
+        (λ reply. first_of t encodings.now ≡ Err reply) }
 {
     let Some((first, others)) = encodings.split_first() else {
-        return Err(refuse(
-            t,
-            Check::NoEncoding,
-            Code::RejectRequiredParameterNotPresent,
-        ));
+        return Err(refusal(t.kind, t.tid, Code::RejectRequiredParameterNotPresent));
     };
     if !all_name(t.kind, first, others) {
-        return Err(refuse(
-            t,
-            Check::IdentifiersDiffer,
-            Code::RejectMultipleUpstreamFlows,
-        ));
+        return Err(refusal(t.kind, t.tid, Code::RejectMultipleUpstreamFlows));
     }
     if !stand_together(encodings) {
-        return Err(refuse(t, Check::NotTogether, Code::RejectDuplicateReference));
+        return Err(refusal(t.kind, t.tid, Code::RejectDuplicateReference));
     }
     Ok(first)
 }
@@ -80,36 +71,30 @@ fn first_encoding<'a>(
     t: Transaction,
     consts: &Consts,
     encodings: &'a [FlowTlv],
-) -> Result<&'a FlowTlv, CheckRefusal>
+) -> Result<&'a FlowTlv, Reply>
     requires { t.kind ≢ Dsd }
     ensures { MatchResult result (λ first. first_encoding t consts.now.classes encodings.now ≡ Ok first.now)
-        (λ refusal. first_encoding t consts.now.classes encodings.now ≡ Err refusal) }
+        (λ reply. first_encoding t consts.now.classes encodings.now ≡ Err reply) }
 {
     match first_unclassed(consts, encodings) {
-        Some(flow) => Err(refuse_naming(
-            t,
-            Check::UnknownClass,
-            Code::RejectPermanent,
-            flow,
-            subtype::CLASS_NAME,
-        )),
+        Some(flow) => Err(refusal_naming(t, Code::RejectPermanent, flow, subtype::CLASS_NAME)),
         None => first_of(t, encodings),
     }
 }
 
 /// Returns the flow of an SFID, where this modem may change or delete it now.
-pub(crate) fn free_flow(t: Transaction, flow: Option<&Flow>) -> Result<&Flow, CheckRefusal>
+pub(crate) fn free_flow(t: Transaction, flow: Option<&Flow>) -> Result<&Flow, Reply>
     ensures { MatchResult result (λ free. free_flow t (option_copied flow.entry) ≡ Ok free.now)
-        (λ refusal. free_flow t (option_copied flow.entry) ≡ Err refusal) }
+        (λ reply. free_flow t (option_copied flow.entry) ≡ Err reply) }
 {
     let Some(flow) = flow else {
-        return Err(refuse(t, Check::UnknownFlow, Code::RejectFlowNotFound));
+        return Err(refusal(t.kind, t.tid, Code::RejectFlowNotFound));
     };
     if flow.modem != t.modem {
-        return Err(refuse(t, Check::NotOwner, Code::RejectNotOwner));
+        return Err(refusal(t.kind, t.tid, Code::RejectNotOwner));
     }
     if flow.pending.is_some() {
-        return Err(refuse(t, Check::FlowWaits, Code::RejectTemporary));
+        return Err(refusal(t.kind, t.tid, Code::RejectTemporary));
     }
     Ok(flow)
 }
@@ -122,26 +107,20 @@ fn set_from(
     consts: &Consts,
     flow: &FlowTlv,
     asked: &FlowTlv,
-) -> Result<ParamSet, CheckRefusal>
+) -> Result<ParamSet, Reply>
     requires { t.kind ≢ Dsd }
     ensures { result ≡ set_over_class t consts.now.units flow.now (Some asked.now) }
 {
     match from_tlv(asked, &consts.get_fields().units) {
         Ok(set) => Ok(set),
-        Err(refused) => Err(refuse_naming(
-            t,
-            Check::NoParameterSet,
-            refused.code,
-            flow,
-            refused.subtype,
-        )),
+        Err(refused) => Err(refusal_naming(t, refused.code, flow, refused.subtype)),
     }
 }
 
 /// Returns the parameter set of an encoding, over its class. One that names no class is not copied.
 #[tactic(auto, unfolding(operator_model::specs::Asked::set_of))]
 #[inline(always)]
-fn set_of(t: Transaction, consts: &Consts, flow: &FlowTlv) -> Result<ParamSet, CheckRefusal>
+fn set_of(t: Transaction, consts: &Consts, flow: &FlowTlv) -> Result<ParamSet, Reply>
     requires { t.kind ≢ Dsd }
     ensures { result ≡ set_of t consts.now flow.now }
 {
@@ -150,13 +129,7 @@ fn set_of(t: Transaction, consts: &Consts, flow: &FlowTlv) -> Result<ParamSet, C
     }
     match consts.requested_encoding(flow) {
         Some(asked) => set_from(t, consts, flow, &asked),
-        None => Err(refuse_naming(
-            t,
-            Check::UnknownClass,
-            Code::RejectPermanent,
-            flow,
-            subtype::CLASS_NAME,
-        )),
+        None => Err(refusal_naming(t, Code::RejectPermanent, flow, subtype::CLASS_NAME)),
     }
 }
 
@@ -173,7 +146,7 @@ fn asked_by_type(
     consts: &Consts,
     flow: &FlowTlv,
     set_type: Option<SetType>,
-) -> Result<AskedSets, CheckRefusal>
+) -> Result<AskedSets, Reply>
     requires { t.kind ≢ Dsd }
     ensures { result ≡ asked_by_type t consts.now flow.now set_type }
 {
@@ -196,26 +169,19 @@ fn asked_by_type(
             admitted: None,
             active: None,
         }),
-        _ => Err(refuse_naming(
-            t,
-            Check::WrongSetType,
-            Code::RejectInvalidForContext,
-            flow,
-            subtype::SET_TYPE,
-        )),
+        _ => Err(refusal_naming(t, Code::RejectInvalidForContext, flow, subtype::SET_TYPE)),
     }
 }
 
 /// Returns the sets that one encoding asks for.
 #[inline(always)]
-fn asked_by_one(t: Transaction, consts: &Consts, flow: &FlowTlv) -> Result<AskedSets, CheckRefusal>
+fn asked_by_one(t: Transaction, consts: &Consts, flow: &FlowTlv) -> Result<AskedSets, Reply>
     requires { t.kind ≢ Dsd }
     ensures { result ≡ asked_by_one t consts.now flow.now flow.now.set_type }
 {
     match flow.get_set_type() {
-        None => Err(refuse_naming(
+        None => Err(refusal_naming(
             t,
-            Check::WrongSetType,
             Code::RejectRequiredParameterNotPresent,
             flow,
             subtype::SET_TYPE,
@@ -247,7 +213,7 @@ fn asked_by_two(
     consts: &Consts,
     first: &FlowTlv,
     second: &FlowTlv,
-) -> Result<AskedSets, CheckRefusal>
+) -> Result<AskedSets, Reply>
     requires { t.kind ≢ Dsd }
     ensures { result ≡ asked_by_two t consts.now first.now second.now }
 {
@@ -259,18 +225,14 @@ fn asked_by_two(
 /// Returns the sets that the encodings of a request ask for.
 #[tactic(auto, unfolding(operator_model::specs::Asked::asked_sets))]
 #[inline(always)]
-fn asked_sets(
-    t: Transaction,
-    consts: &Consts,
-    encodings: &[FlowTlv],
-) -> Result<AskedSets, CheckRefusal>
+fn asked_sets(t: Transaction, consts: &Consts, encodings: &[FlowTlv]) -> Result<AskedSets, Reply>
     requires { t.kind ≢ Dsd }
     ensures { result ≡ asked_sets t consts.now encodings.now }
 {
     match encodings {
         [flow] => asked_by_one(t, consts, flow),
         [first, second] => asked_by_two(t, consts, first, second),
-        _ => Err(refuse(t, Check::NotTogether, Code::RejectDuplicateReference)),
+        _ => Err(refusal(t.kind, t.tid, Code::RejectDuplicateReference)),
     }
 }
 
@@ -293,24 +255,17 @@ fn nested_sets(
     first: &FlowTlv,
     sets: Sets,
     asked: &AskedSets,
-) -> Result<Sets, CheckRefusal>
+) -> Result<Sets, Reply>
     requires { t.kind ≢ Dsd }
     ensures { result ≡ nested_sets t first.now sets.provisioned asked.now }
 {
     if let Some(subtype) = failing_active(asked) {
-        return Err(refuse_naming(
-            t,
-            Check::ActiveNotWithin,
-            Code::RejectInvalidForContext,
-            first,
-            subtype,
-        ));
+        return Err(refusal_naming(t, Code::RejectInvalidForContext, first, subtype));
     }
     match with_asked(sets, asked) {
         Ok(sets) => Ok(sets),
-        Err(refused) => Err(refuse_naming(
+        Err(refused) => Err(refusal_naming(
             t,
-            Check::AdmittedNotWithin,
             Code::RejectAuthorizationFailure,
             first,
             refused.subtype,
@@ -341,15 +296,14 @@ pub(crate) fn addition_of(
     consts: &Consts,
     t: Transaction,
     encodings: &[FlowTlv],
-) -> Result<Addition, CheckRefusal>
+) -> Result<Addition, Reply>
     requires { t.kind ≢ Dsd }
     ensures { result ≡ addition_of consts.now t encodings.now }
 {
     let first = first_encoding(t, consts, encodings)?;
     let Some(reference) = first.get_reference() else {
-        return Err(refuse_naming(
+        return Err(refusal_naming(
             t,
-            Check::NoIdentifier,
             Code::RejectRequiredParameterNotPresent,
             first,
             subtype::REFERENCE,
@@ -367,16 +321,15 @@ pub(crate) fn change_of(
     flows: &Flows,
     t: Transaction,
     encodings: &[FlowTlv],
-) -> Result<Change, CheckRefusal>
+) -> Result<Change, Reply>
     requires { t.kind ≢ Dsd }
     ensures value { result ≡ change_of consts.now flows.now.flows t encodings.now }
     ensures there { IfOk result (λ change. flow_at change.sfid flows.now.flows ≡ Some change.flow) }
 {
     let first = first_encoding(t, consts, encodings)?;
     let Some(sfid) = first.get_sfid() else {
-        return Err(refuse_naming(
+        return Err(refusal_naming(
             t,
-            Check::NoIdentifier,
             Code::RejectRequiredParameterNotPresent,
             first,
             subtype::SFID,

@@ -13,10 +13,11 @@ ghost use Rattle.operator_book.specs.MostOutputs.{most_outputs_of};
 ghost use Rattle.operator_book.specs.declared.book.OpenFault.TheVariants as open_faults;
 ghost use Rattle.operator_book.specs.declared.book.BookFault.TheVariants.{NoMemory};
 
-use crate::recorded_machine::RecordedMachine;
+use crate::logged::RecordedMachine;
+use crate::state_view::StateView;
 use dsx_messages::Modem;
 use grant_policy::Ranking;
-use operator_model::{Action, Entry, Output, SliceRow, StateView, Unfit};
+use operator_model::{Action, Entry, Output, SliceRow, Unfit};
 use plant::{Consts, OperatorRow};
 use std::alloc::{AllocError, Global};
 

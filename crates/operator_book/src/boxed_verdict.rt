@@ -1,20 +1,20 @@
 //! A verdict on a request, as a plan holds it.
 
 ghost use Rattle.std.specs.Prelude.{◌≡◌};
-ghost use Rattle.operator_model.specs.Deciding.{check_of};
 ghost use Rattle.operator_model.specs.Handle.{reply_of, sfid_of, does_wait};
 ghost use Rattle.operator_book.specs.Held.{verdict_of};
 
 use dsx_messages::Reply;
 use flow_table::Flow;
-use operator_model::{Check, CheckRefusal, Decision};
 
 /// A verdict on a request. Its flow is boxed, as the table of flows keeps it: a flow is large, and
 /// is not moved again.
 #[derive(Drop)]
 pub(crate) enum BoxedVerdict {
     /// The request is refused.
-    Refused(CheckRefusal),
+    Refused {
+        reply: Reply,
+    },
     /// This flow is put under this SFID.
     Put {
         sfid: u32,
@@ -29,28 +29,13 @@ pub(crate) enum BoxedVerdict {
 }
 
 impl BoxedVerdict {
-    /// Returns the check that decided: the one that refused, or the last if the request is accepted.
-    pub(crate) fn check(&self) -> Decision
-        ensures { result ≡ check_of (verdict_of self.now) }
-    {
-        match self {
-            BoxedVerdict::Refused(refusal) => refusal.check,
-            BoxedVerdict::Put {
-                sfid: _,
-                flow: _,
-                reply: _,
-            }
-            | BoxedVerdict::Deleted { sfid: _, reply: _ } => Decision::Request(Check::Accepted),
-        }
-    }
-
     /// Returns the reply that this verdict sends to the modem.
     pub(crate) fn reply(&self) -> &Reply
         ensures { result.now ≡ reply_of (verdict_of self.now) }
     {
         match self {
-            BoxedVerdict::Refused(refusal) => &refusal.reply,
-            BoxedVerdict::Put {
+            BoxedVerdict::Refused { reply }
+            | BoxedVerdict::Put {
                 sfid: _,
                 flow: _,
                 reply,
@@ -64,7 +49,7 @@ impl BoxedVerdict {
         ensures { result ≡ sfid_of (verdict_of self.now) }
     {
         match self {
-            BoxedVerdict::Refused(_refusal) => 0,
+            BoxedVerdict::Refused { reply: _ } => 0,
             BoxedVerdict::Put {
                 sfid,
                 flow: _,
@@ -84,7 +69,8 @@ impl BoxedVerdict {
                 flow: _,
                 reply: _,
             } => true,
-            BoxedVerdict::Refused(_) | BoxedVerdict::Deleted { sfid: _, reply: _ } => false,
+            BoxedVerdict::Refused { reply: _ } | BoxedVerdict::Deleted { sfid: _, reply: _ } =>
+                false,
         }
     }
 }

@@ -9,7 +9,7 @@ ghost use Rattle.operator_book.specs.Held.{flow_table_of, verdict_of, MayPut};
 ghost use Rattle.operator_book.specs.Planned.{MayCommit, MayHandle, MayRespond, after_effect, state_after_handling, state_after_response};
 
 use crate::boxed_verdict::BoxedVerdict;
-use crate::machine_state::MachineState;
+use crate::machine::MachineState;
 use crate::plan::{Effect, HandledEffect, Plan};
 use crate::tick_memory::TickMemory;
 use dsx_messages::{Kind, Modem};
@@ -118,8 +118,7 @@ impl MachineState {
         verdict: BoxedVerdict,
     ) -> Result<(), AllocError>
         requires { MayRespond self.old modem tid (verdict_of verdict) }
-        ensures ok { OnOk result (self.new
-            ≡ record self.old { state = state_after_response self.old modem tid kind reply (verdict_of verdict) }) }
+        ensures ok { OnOk result (self.new ≡ record self.old { state = state_after_response self.old modem tid kind reply (verdict_of verdict) }) }
         ensures err { OnErr result (self.new ≡ self.old) }
     {
         let (sfid, waits) = (verdict.sfid(), verdict.does_wait());
@@ -132,12 +131,11 @@ impl MachineState {
     #[inline(always)]
     fn change_flows(&mut self, verdict: BoxedVerdict) -> Result<(), AllocError>
         requires { MayPut (flow_table_of self.old) (verdict_of verdict) }
-        ensures ok { OnOk result (self.new
-            ≡ with_flows self.old (flows_after (verdict_of verdict) self.old.state.flows)) }
+        ensures ok { OnOk result (self.new ≡ with_flows self.old (flows_after (verdict_of verdict) self.old.state.flows)) }
         ensures err { OnErr result (self.new ≡ self.old) }
     {
         match verdict {
-            BoxedVerdict::Refused(_refusal) => Ok(()),
+            BoxedVerdict::Refused { reply: _ } => Ok(()),
             BoxedVerdict::Put {
                 sfid,
                 flow,

@@ -6,18 +6,17 @@ ghost use Rattle.dsx_messages.specs.declared.fault.MessageFault.{MessageFault};
 ghost use Rattle.lists.specs.Results.{Fails, Gives};
 ghost use Rattle.dsx_messages.specs.Reading.{message_cause};
 ghost use Rattle.operator_model.specs.declared.verdict.Verdict.TheVariants.{Refused};
-ghost use Rattle.operator_model.specs.Asked.{faulty};
 ghost use Rattle.operator_model.specs.Handle.{silent, transaction_result, ack_result, message_handled, bandwidth_request_result};
 ghost use Rattle.operator_model.specs.Machine.{work_result, arrival_result};
 ghost use Rattle.operator_book.specs.Held.{HasOwnSids, HasRightId};
 ghost use Rattle.operator_book.specs.Planned.{IsFirstRequest, IsPlanFor, IsPlanOfFirst, requested, without_first};
 
 use crate::boxed_verdict::BoxedVerdict;
-use crate::machine_state::MachineState;
+use crate::machine::MachineState;
 use crate::plan::{Effect, HandledEffect, Plan, SpareOutputs, single};
 use crate::refusal::{encoding_refusal, refusal};
 use dsx_messages::{Code, Kind, Message, MessageFault, Modem, Reply, Request, read};
-use operator_model::{Arrival, Cause, CheckRefusal, Decision, Heard, MessageCheck, Output};
+use operator_model::{Arrival, Cause, Heard, Output};
 use std::alloc::{AllocError, Global};
 
 /// A bandwidth request that was received first.
@@ -60,20 +59,15 @@ impl MachineState {
         tid: u16,
         reply: Reply,
     ) -> Result<Plan, AllocError>
-        ensures { IfOk result (IsPlanOfFirst self.now
-            (transaction_result self.now modem kind tid (Refused (faulty reply)))) }
+        ensures { IfOk result (IsPlanOfFirst self.now (transaction_result self.now modem kind tid (Refused reply))) }
     {
-        if let Some(early) = self.early_answer(alloc, modem, kind, tid)? {
+        if let Some(output) = self.early_answer(alloc, modem, kind, tid)? {
             return Ok(Plan {
-                outputs: single(spare, early.output)?,
+                outputs: single(spare, output)?,
                 effect: Effect::Handled(HandledEffect::Nothing),
             });
         }
-        let verdict = BoxedVerdict::Refused(CheckRefusal {
-            check: Decision::Message(MessageCheck::Faulty),
-            reply,
-        });
-        self.response_plan(spare, modem, kind, tid, verdict)
+        self.response_plan(spare, modem, kind, tid, BoxedVerdict::Refused { reply })
     }
 
     /// Plans an acknowledgement: code 0 commits, another takes back.
@@ -151,8 +145,7 @@ impl MachineState {
     ) -> Result<Plan, AllocError>
         requires { HasRightId fault }
         ensures plan { IfOk result (IsPlanOfFirst self.now (message_handled self.now modem (Err fault))) }
-        ensures told { OnOk result ((read : Result Message MessageFault) → Fails (message_cause fault) read
-            → read ≡ Err fault) }
+        ensures told { OnOk result ((read : Result Message MessageFault) → Fails (message_cause fault) read → read ≡ Err fault) }
     {
         match fault {
             MessageFault::NoMemory => Err(AllocError),
@@ -277,8 +270,7 @@ impl MachineState {
         modem: Modem,
         heard: Heard,
     ) -> Result<Vec<Output>, AllocError>
-        ensures state { OnOk result (self.new
-            ≡ record self.old { state = (arrival_result self.old modem heard).state }) }
+        ensures state { OnOk result (self.new ≡ record self.old { state = (arrival_result self.old modem heard).state }) }
         ensures outputs { IfOk result (λ outputs. outputs.items ≡ (arrival_result self.old modem heard).outputs) }
         ensures err { OnErr result (self.new ≡ self.old) }
     {
@@ -350,8 +342,7 @@ impl MachineState {
         first: FirstRequest,
     ) -> Result<Vec<Output>, AllocError>
         requires { IsFirstRequest self.old.state.inbox first }
-        ensures state { OnOk result (self.new
-            ≡ record self.old { state = (work_result self.old self.old.state.inbox).state }) }
+        ensures state { OnOk result (self.new ≡ record self.old { state = (work_result self.old self.old.state.inbox).state }) }
         ensures outputs { IfOk result (λ outputs. outputs.items ≡ (work_result self.old self.old.state.inbox).outputs) }
         ensures err { OnErr result (self.new ≡ self.old) }
     {

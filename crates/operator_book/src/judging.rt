@@ -7,7 +7,7 @@ ghost use Rattle.operator_model.specs.Machine.{stranger_of, is_spent, unfit_of, 
 ghost use Rattle.operator_book.specs.MostOutputs.{most_outputs_of};
 
 use crate::book::BookFault;
-use crate::machine_state::MachineState;
+use crate::machine::MachineState;
 use operator_model::Action;
 use plant::is_listed;
 

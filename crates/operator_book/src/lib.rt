@@ -7,19 +7,23 @@ mod asked;
 mod book;
 mod boxed_verdict;
 mod committing;
-mod deciding;
+mod flow_fault;
 mod handling;
 mod history;
 mod judging;
+mod live;
+mod logged;
 mod machine;
-mod machine_state;
 mod opening;
 mod plan;
 mod planning;
-mod recorded_machine;
 mod refusal;
 mod reslicing;
+mod response_fault;
 mod resuming;
+mod row_fault;
+mod share_fault;
+mod state_fault;
 mod state_view;
 mod tick_memory;
 mod ticking;
@@ -28,11 +32,13 @@ mod verdict;
 pub use book::{Book, BookFault, OpenFault};
 pub use handling::FirstRequest;
 pub use history::History;
-pub use machine::{Machine, SoundMachine};
+pub use live::{Machine, SoundMachine};
+pub use logged::RecordedMachine;
 pub use operator_model::{
-    Action, Arrival, Cause, Entry, Heard, NextShare, Output, Outputs, Share, SliceRow, StateView,
-    Unfit,
+    Action, Arrival, Cause, Entry, Heard, NextShare, Output, Outputs, Share, SliceRow, Unfit,
 };
 pub use plan::{Plan, SpareOutputs, output_copies};
-pub use recorded_machine::RecordedMachine;
+pub use row_fault::row_faults;
+pub use state_fault::StateFault;
+pub use state_view::StateView;
 pub use tick_memory::TickMemory;

@@ -7,7 +7,7 @@ ghost use Rattle.plant.specs.Row.{IsRowOf};
 ghost use Rattle.operator_model.specs.State.{opened_flow, opened_state, opened_before};
 ghost use Rattle.operator_book.specs.Opening.{sid_for, put_opened, put_provisions};
 
-use crate::machine_state::MachineState;
+use crate::machine::MachineState;
 use dsx_messages::Modem;
 use flow_table::{Flow, Flows};
 use operator_model::Share;

@@ -5,7 +5,7 @@ ghost use Rattle.operator_model.specs.Machine.{is_spent, unfit_of, own_step};
 ghost use Rattle.operator_model.specs.Sound.{IsSound};
 ghost use Rattle.operator_book.specs.Planned.{IsPlanOf};
 
-use crate::machine_state::MachineState;
+use crate::machine::MachineState;
 use crate::plan::{Effect, Plan, SpareOutputs};
 use crate::tick_memory::TickMemory;
 use grant_policy::Ranks;

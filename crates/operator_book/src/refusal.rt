@@ -1,15 +1,15 @@
-//! Refusals of a request: the check that refuses it, and the reply.
+//! Replies that refuse a request.
 
 ghost use Rattle.std.specs.Prelude.{◌≡◌, ◌≢◌, IfSome};
 ghost use Rattle.dsx_messages.specs.WellFormed.{IsFlowIdOf};
 ghost use Rattle.dsx_messages.specs.declared.code.Code.TheVariants.{Okay};
 ghost use Rattle.dsx_messages.specs.declared.kind.Kind.TheVariants.{Dsd};
 ghost use Rattle.dsx_messages.specs.declared.reply.Detail.TheVariants.{Errored};
-ghost use Rattle.operator_model.specs.Asked.{refusal, id_of, refusal_naming, refused_by};
+ghost use Rattle.operator_model.specs.Asked.{refusal, id_of, refusal_naming};
 ghost use Rattle.operator_model.specs.Verdict.{encoding_refusal};
 
 use dsx_messages::{Code, Detail, FlowId, Kind, Reply, ReplyFields};
-use operator_model::{Check, CheckRefusal, Decision, Transaction};
+use operator_model::Transaction;
 use tlv24::{FlowTlv, TlvFault};
 
 /// Returns a refusal that names nothing.
@@ -55,45 +55,12 @@ pub(crate) fn naming(kind: Kind, tid: u16, code: Code, id: Option<FlowId>, subty
 }
 
 /// Returns a refusal that names an encoding and one of its subtypes.
-fn refusal_naming(t: Transaction, code: Code, flow: &FlowTlv, subtype: u8) -> Reply
+pub(crate) fn refusal_naming(t: Transaction, code: Code, flow: &FlowTlv, subtype: u8) -> Reply
     requires kind { t.kind ≢ Dsd }
     requires code { code ≢ Okay }
     ensures { result ≡ refusal_naming t code flow.now subtype }
 {
     naming(t.kind, t.tid, code, id_of(t.kind, flow), subtype)
-}
-
-/// Returns a refusal by a check of a request, with this reply.
-pub(crate) fn refused_by(check: Check, reply: Reply) -> CheckRefusal
-    ensures { result ≡ refused_by check reply }
-{
-    CheckRefusal {
-        check: Decision::Request(check),
-        reply,
-    }
-}
-
-/// Refuses a request by a check, with a reply that names nothing.
-pub(crate) fn refuse(t: Transaction, check: Check, code: Code) -> CheckRefusal
-    requires { code ≢ Okay }
-    ensures { result ≡ refused_by check (refusal t.kind t.tid code) }
-{
-    refused_by(check, refusal(t.kind, t.tid, code))
-}
-
-/// Refuses a request by a check, with a reply that names an encoding and one of its subtypes.
-pub(crate) fn refuse_naming(
-    t: Transaction,
-    check: Check,
-    code: Code,
-    flow: &FlowTlv,
-    subtype: u8,
-) -> CheckRefusal
-    requires kind { t.kind ≢ Dsd }
-    requires code { code ≢ Okay }
-    ensures { result ≡ refused_by check (refusal_naming t code flow.now subtype) }
-{
-    refused_by(check, refusal_naming(t, code, flow, subtype))
 }
 
 /// Returns a refusal of what could not be read.

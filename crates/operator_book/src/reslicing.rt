@@ -4,7 +4,7 @@ ghost use Rattle.std.specs.Prelude.{◌≡◌, None};
 ghost use Rattle.operator_model.specs.Machine.{is_off_frame, unfit_from, reslice_result};
 ghost use Rattle.operator_book.specs.Held.{with_state};
 
-use crate::machine_state::MachineState;
+use crate::machine::MachineState;
 use operator_model::{NextShare, Share, SliceRow, Unfit};
 use slice_scheduler::Slice;
 

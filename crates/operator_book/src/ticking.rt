@@ -9,7 +9,7 @@ ghost use Rattle.operator_model.specs.Sound.{IsSound};
 ghost use Rattle.transactions.specs.Timers.{given_up_in};
 ghost use Rattle.operator_book.specs.Planned.{IsPlanFor, state_after_tick};
 
-use crate::machine_state::MachineState;
+use crate::machine::MachineState;
 use crate::plan::{Effect, Plan, SpareOutputs};
 use crate::tick_memory::TickMemory;
 use grant_policy::Ranks;

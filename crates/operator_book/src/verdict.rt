@@ -11,12 +11,12 @@ ghost use Rattle.operator_book.specs.Held.{flow_table_of, verdict_of, HasOwnSids
 
 use crate::asked::{addition_of, change_of, free_flow};
 use crate::boxed_verdict::BoxedVerdict;
-use crate::machine_state::MachineState;
-use crate::refusal::{refusal, refused_by};
-use admission::{Budget, Over};
+use crate::machine::MachineState;
+use crate::refusal::refusal;
+use admission::Budget;
 use dsx_messages::{Code, Detail, Kind, Modem, Reply, ReplyFields, Request};
 use flow_table::{Flow, Pending};
-use operator_model::{Addition, Change, Check, Transaction};
+use operator_model::{Addition, Change, Transaction};
 use param_sets::Sets;
 use std::alloc::{AllocError, Global};
 use tlv24::FlowTlv;
@@ -30,11 +30,13 @@ pub(crate) enum SidOrigin {
     New,
 }
 
-/// Returns the refusal of a request for which there is no room, by this check.
-fn no_room(check: Check, kind: Kind, tid: u16) -> BoxedVerdict
-    ensures { verdict_of result ≡ no_room check kind tid }
+/// Returns the refusal of a request for which there is no room.
+fn no_room(kind: Kind, tid: u16) -> BoxedVerdict
+    ensures { verdict_of result ≡ no_room kind tid }
 {
-    BoxedVerdict::Refused(refused_by(check, refusal(kind, tid, Code::RejectTemporary)))
+    BoxedVerdict::Refused {
+        reply: refusal(kind, tid, Code::RejectTemporary),
+    }
 }
 
 /// Returns a flow that was added in this frame, and waits.
@@ -174,8 +176,7 @@ impl MachineState {
                 flow: Box::new(alloc, flow)?,
                 reply,
             }),
-            Err(Over::Elements) => Ok(no_room(Check::ElementsOver, kind, tid)),
-            Err(Over::Minislots) => Ok(no_room(Check::MinislotsOver, kind, tid)),
+            Err(_) => Ok(no_room(kind, tid)),
         }
     }
 
@@ -194,7 +195,7 @@ impl MachineState {
     {
         let row = self.row.get_fields();
         if self.flows.len() >= usize::from(row.flows) {
-            return Ok(no_room(Check::FlowsFull, Kind::Dsa, tid));
+            return Ok(no_room(Kind::Dsa, tid));
         }
         let sfid = self.flows.free_sfid(&row.sfids);
         let sid = self.flows.free_sid(&row.sids);
@@ -217,11 +218,8 @@ impl MachineState {
         ensures puts { IfOk result (λ v. MayPut (flow_table_of self.now) (verdict_of v)) }
         ensures value { IfOk result (λ v. verdict_of v ≡ added_under self.now modem tid addition.now sfid sid) }
     {
-        let Some(sfid) = sfid else {
-            return Ok(no_room(Check::NoSfidFree, Kind::Dsa, tid));
-        };
-        let Some(sid) = sid else {
-            return Ok(no_room(Check::NoSidFree, Kind::Dsa, tid));
+        let (Some(sfid), Some(sid)) = (sfid, sid) else {
+            return Ok(no_room(Kind::Dsa, tid));
         };
         // For the proof: what always holds of `self.flows`.
         self.flows.always();
@@ -240,8 +238,7 @@ impl MachineState {
         sid: Option<u16>,
         origin: SidOrigin,
     ) -> Result<BoxedVerdict, AllocError>
-        requires stands { HasRoomFor (flow_table_of self.now) change.now.sfid
-            (changed_flow change.now sid (is_new_sid origin)) }
+        requires stands { HasRoomFor (flow_table_of self.now) change.now.sfid (changed_flow change.now sid (is_new_sid origin)) }
         requires range { IfSome sid (λ n. n ≤ 8191) }
         ensures puts { IfOk result (λ v. MayPut (flow_table_of self.now) (verdict_of v)) }
         ensures value { IfOk result (λ v. verdict_of v ≡ changed_with self.now tid change.now sid (is_new_sid origin)) }
@@ -270,7 +267,7 @@ impl MachineState {
             return self.changed_with(alloc, tid, change, change.flow.sid, SidOrigin::Kept);
         }
         match self.flows.free_sid(&self.row.get_fields().sids) {
-            None => Ok(no_room(Check::NoSidFree, Kind::Dsc, tid)),
+            None => Ok(no_room(Kind::Dsc, tid)),
             Some(sid) => {
                 self.changed_with(alloc, tid, change, Some(self.sid_of(sid)), SidOrigin::New)
             }
@@ -296,7 +293,7 @@ impl MachineState {
             tid,
         };
         match addition_of(&self.consts, t, encodings) {
-            Err(refusal) => Ok(BoxedVerdict::Refused(refusal)),
+            Err(reply) => Ok(BoxedVerdict::Refused { reply }),
             Ok(addition) => self.addition_within_limit(alloc, modem, tid, &addition),
         }
     }
@@ -320,7 +317,7 @@ impl MachineState {
             tid,
         };
         match change_of(&self.consts, &self.flows, t, encodings) {
-            Err(refusal) => Ok(BoxedVerdict::Refused(refusal)),
+            Err(reply) => Ok(BoxedVerdict::Refused { reply }),
             Ok(change) => {
                 // For the proof: what the type of `self.row.get_fields()` keeps.
                 let _row = self.row.get_fields();
@@ -340,7 +337,7 @@ impl MachineState {
             tid,
         };
         match free_flow(t, self.flows.get(sfid)) {
-            Err(refusal) => BoxedVerdict::Refused(refusal),
+            Err(reply) => BoxedVerdict::Refused { reply },
             Ok(_) => BoxedVerdict::Deleted {
                 sfid,
                 reply: Reply::new(ReplyFields {

@@ -1,21 +1,20 @@
 -- What is asked for is nested, and of a flow that waits for nothing.
 use Rattle.std.proofs.Common.{◌≡◌, ℕ, not, false, List, [], ◌∷◌, Option, Some, None, Result, Ok, Err, IfOk, IfSome, is_some, refl}
-use Rattle.operator_model.proofs.Common.{cond_both, set_type_of, FlowFields, SetType, Null, Provisioned, Admitted, ProvisionedAndAdmitted, Active, AdmittedAndActive, AllSets, CheckRefusal, parameter_set_of, IsWithinOrNull, AreNested, IsWithinProvisioned, ParamFields, SetsFields, Refusal, is_within, ConstsFields, asked_of, same_modem, Flow, Pending, flow_at, Addition, Change, KeepsItsKind, AreOfTheirKinds}
+use Rattle.operator_model.proofs.Common.{cond_both, set_type_of, FlowFields, SetType, Null, Provisioned, Admitted, ProvisionedAndAdmitted, Active, AdmittedAndActive, AllSets, ReplyFields, parameter_set_of, IsWithinOrNull, AreNested, IsWithinProvisioned, ParamFields, SetsFields, Refusal, is_within, ConstsFields, asked_of, same_modem, Flow, Pending, flow_at, Addition, Change, KeepsItsKind, AreOfTheirKinds}
 use Rattle.lists.specs.Results.{◌>>=◌}
 use Rattle.tlv24.specs.Subtype.{reference_subtype, sfid_subtype}
 use Rattle.dsx_messages.specs.declared.code.Code.TheVariants as codes
-use Rattle.operator_model.specs.declared.check.Check.TheVariants.{NoIdentifier}
 use Rattle.operator_model.specs.declared.verdict.Transaction.{Transaction}
 use Rattle.operator_model.specs.declared.verdict.AskedSets.{AskedSets}
-use Rattle.operator_model.specs.Asked.{stated_or_refusal, refused_by, refusal_naming, first_encoding, free_flow, has_set_type, set_or_refusal, set_over_class, set_of, is_change, asked_by_type, asked_by_one, asked_by_two, asked_sets, failing_active, failing_admitted, nested_unless, nested_sets, addition_of, change_of}
+use Rattle.operator_model.specs.Asked.{stated_or_refusal, refusal_naming, first_encoding, free_flow, has_set_type, set_or_refusal, set_over_class, set_of, is_change, asked_by_type, asked_by_one, asked_by_two, asked_sets, failing_active, failing_admitted, nested_unless, nested_sets, addition_of, change_of}
 use Rattle.operator_model.proofs.KindLemmas.{read_kind}
 
 -- what one check gives the next one takes over
-and_then : {A B : Type 0} (Q : A → Type 0) (P : B → Type 0) (r : Result A CheckRefusal) (f : A → Result B CheckRefusal) → IfOk r Q → ((x : A) → Q x → IfOk (f x) P) → IfOk (r >>= f) P
+and_then : {A B : Type 0} (Q : A → Type 0) (P : B → Type 0) (r : Result A ReplyFields) (f : A → Result B ReplyFields) → IfOk r Q → ((x : A) → Q x → IfOk (f x) P) → IfOk (r >>= f) P
 and_then Q P (Ok x) f h next = next x h
 and_then Q P (Err reply) f h next = tt
 
-anything : {A : Type 0} (r : Result A CheckRefusal) → IfOk r (λ _. Unit {0})
+anything : {A : Type 0} (r : Result A ReplyFields) → IfOk r (λ _. Unit {0})
 anything (Ok x) = tt
 anything (Err reply) = tt
 
@@ -41,7 +40,7 @@ module _ (t : Transaction) (consts : ConstsFields) where
   by_one : (flow : FlowFields) (set_type : Option SetType) → IfOk (asked_by_type t consts flow set_type) AreKept
   by_one flow (Some Admitted) = and_then KeepsItsKind AreKept (set_of t consts flow) _ (set-kind flow) (λ set h. (h, tt))
   by_one flow (Some AdmittedAndActive) = and_then KeepsItsKind AreKept (set_of t consts flow) _ (set-kind flow) (λ set h. (h, h))
-  by_one flow (Some Null) = cond_both (is_change t.kind) _ _ (λ (r : Result AskedSets CheckRefusal). IfOk r AreKept) (λ _. (tt, tt)) (λ _. tt)
+  by_one flow (Some Null) = cond_both (is_change t.kind) _ _ (λ (r : Result AskedSets ReplyFields). IfOk r AreKept) (λ _. (tt, tt)) (λ _. tt)
   by_one flow (Some Provisioned) = tt
   by_one flow (Some ProvisionedAndAdmitted) = tt
   by_one flow (Some Active) = tt
@@ -111,8 +110,8 @@ no_pending (Some pending) is = cc
 pub free-IsFreeFlow : (t : Transaction) (o : Option Flow) → IfOk (free_flow t o) (IsFreeFlow o)
 free-IsFreeFlow t None = tt
 free-IsFreeFlow t (Some flow) =
-    cond_both (not (same_modem flow.modem t.modem)) _ _ (λ (r : Result Flow CheckRefusal). IfOk r (IsFreeFlow (Some flow))) (λ _. tt)
-    (λ _. cond_both (is_some flow.pending) _ _ (λ (r : Result Flow CheckRefusal). IfOk r (IsFreeFlow (Some flow))) (λ _. tt)
+    cond_both (not (same_modem flow.modem t.modem)) _ _ (λ (r : Result Flow ReplyFields). IfOk r (IsFreeFlow (Some flow))) (λ _. tt)
+    (λ _. cond_both (is_some flow.pending) _ _ (λ (r : Result Flow ReplyFields). IfOk r (IsFreeFlow (Some flow))) (λ _. tt)
     (λ none. record { there = refl; free = no_pending flow.pending none }))
 
 -- ---- the checks in their order
@@ -124,7 +123,7 @@ pub addition-IsAddition : (consts : ConstsFields) (t : Transaction) (encodings :
 unfolding addition_of
 addition-IsAddition consts t encodings =
     and_then (λ _. Unit {0}) IsAddition (first_encoding t consts.classes encodings) _ (anything (first_encoding t consts.classes encodings)) (λ first _.
-    and_then (λ _. Unit {0}) IsAddition (stated_or_refusal first.reference (refused_by NoIdentifier (refusal_naming t codes.RejectRequiredParameterNotPresent first reference_subtype))) _ (anything (stated_or_refusal first.reference (refused_by NoIdentifier (refusal_naming t codes.RejectRequiredParameterNotPresent first reference_subtype)))) (λ reference _.
+    and_then (λ _. Unit {0}) IsAddition (stated_or_refusal first.reference (refusal_naming t codes.RejectRequiredParameterNotPresent first reference_subtype)) _ (anything (stated_or_refusal first.reference (refusal_naming t codes.RejectRequiredParameterNotPresent first reference_subtype))) (λ reference _.
     and_then AreKept IsAddition (asked_sets t consts encodings) _ (asked-AreKept t consts encodings) (λ asked kept.
     and_then (AreAsked None) IsAddition (nested_sets t first None asked) _ (nested-AreAsked t first None asked kept) (λ sets h. h))))
 
@@ -136,7 +135,7 @@ pub change-IsChange : (consts : ConstsFields) (flows : List (ℕ × Flow)) (t : 
 unfolding change_of
 change-IsChange consts flows t encodings =
     and_then (λ _. Unit {0}) (IsChange flows) (first_encoding t consts.classes encodings) _ (anything (first_encoding t consts.classes encodings)) (λ first _.
-    and_then (λ _. Unit {0}) (IsChange flows) (stated_or_refusal first.sfid (refused_by NoIdentifier (refusal_naming t codes.RejectRequiredParameterNotPresent first sfid_subtype))) _ (anything (stated_or_refusal first.sfid (refused_by NoIdentifier (refusal_naming t codes.RejectRequiredParameterNotPresent first sfid_subtype)))) (λ sfid _.
+    and_then (λ _. Unit {0}) (IsChange flows) (stated_or_refusal first.sfid (refusal_naming t codes.RejectRequiredParameterNotPresent first sfid_subtype)) _ (anything (stated_or_refusal first.sfid (refusal_naming t codes.RejectRequiredParameterNotPresent first sfid_subtype))) (λ sfid _.
     and_then (IsFreeFlow (flow_at sfid flows)) (IsChange flows) (free_flow t (flow_at sfid flows)) _ (free-IsFreeFlow t (flow_at sfid flows)) (λ flow free.
     and_then AreKept (IsChange flows) (asked_sets t consts encodings) _ (asked-AreKept t consts encodings) (λ asked kept.
     and_then (AreAsked flow.sets.provisioned) (IsChange flows) (nested_sets t first flow.sets.provisioned asked) _ (nested-AreAsked t first flow.sets.provisioned asked kept) (λ sets h. record { flow = free; sets = h })))))

@@ -1,6 +1,6 @@
 -- A verdict that is carried out leaves a sound state, and so does all that is heard.
 use Rattle.std.proofs.Common.{◌≡◌, ◌≢◌, ℕ, ◌<◌, ◌≤◌, true, false, List, [], ◌∷◌, ◌++◌, length, get_or, Option, Some, None, Result, Ok, Err, IfSome, IsSome, All, find, refl, sym, ap, ◌∙◌, subst, arith, nat_le}
-use Rattle.operator_model.proofs.Common.{cond_both, leb-false, true≢false, length_push, All-push, Modem, Kind, Message, MessageFault, message_of, KeptEntry, same_kind, is_waiting, is_of, begun_entry, Flow, flow_at, with_flow, Heard, Verdict, Refused, Put, Deleted, Operator, operator, refusal, faulty, verdict, encoding_refusal, StepResult, without_flow, carried_out, is_of_cmts, new_unless, transaction_result, kind_of, tid_of, message_handled, handle, IsWaitingOf, HasItsFlow, HaveOwnFlows, IsSound}
+use Rattle.operator_model.proofs.Common.{cond_both, leb-false, true≢false, length_push, All-push, Modem, Kind, Message, MessageFault, message_of, KeptEntry, same_kind, is_waiting, is_of, begun_entry, Flow, flow_at, with_flow, Heard, Verdict, Refused, Put, Deleted, Operator, operator, refusal, verdict, encoding_refusal, StepResult, without_flow, carried_out, is_of_cmts, new_unless, transaction_result, kind_of, tid_of, message_handled, handle, IsWaitingOf, HasItsFlow, HaveOwnFlows, IsSound}
 use Rattle.std.proofs.lemmas.List.Quantifiers.{all_pairs_push}
 use Rattle.dsx_messages.specs.declared.code.Code.TheVariants as codes
 use Rattle.dsx_messages.specs.declared.message.Message.TheVariants as messages
@@ -54,8 +54,8 @@ module _ (op : Operator) (sound : IsSound op) (few : length op.state.kept < op.r
           (refl, subst (λ (k : Kind). IsWaitingOf k flow) (sym is_kind) is.waits)
 
   carried_sound : (modem : Modem) (kind : Kind) (tid : ℕ) (v : Verdict) → IsRight op kind v → IsSound (operator op.consts op.row (carried_out op modem kind tid v).state)
-  carried_sound modem kind tid (Refused r) is =
-      held_sound op.state.flows (begun_entry op.consts.timers modem tid kind (spell_reply r.reply) 0 false) refl (stay-MayStep (sound-AreFlows sound)) sound.waiting
+  carried_sound modem kind tid (Refused reply) is =
+      held_sound op.state.flows (begun_entry op.consts.timers modem tid kind (spell_reply reply) 0 false) refl (stay-MayStep (sound-AreFlows sound)) sound.waiting
   carried_sound modem kind tid (Put sfid flow reply) is =
       put_sound kind sfid flow (begun_entry op.consts.timers modem tid kind (spell_reply reply) sfid true) refl refl is
   carried_sound modem kind tid (Deleted sfid reply) is =
@@ -79,8 +79,8 @@ module _ (op : Operator) (sound : IsSound op) where
   message_sound modem (Err faults.Empty) = sound
   message_sound modem (Err (faults.NotOurs mtype)) = sound
   message_sound modem (Err faults.Short) = sound
-  message_sound modem (Err (faults.Tlv tid kind id fault)) = transacted_sound modem kind tid (Refused (faulty (encoding_refusal kind tid id fault))) tt
-  message_sound modem (Err (faults.LeftOut tid kind found)) = transacted_sound modem kind tid (Refused (faulty (refusal kind tid codes.RejectUnrecognizedSetting))) tt
+  message_sound modem (Err (faults.Tlv tid kind id fault)) = transacted_sound modem kind tid (Refused (encoding_refusal kind tid id fault)) tt
+  message_sound modem (Err (faults.LeftOut tid kind found)) = transacted_sound modem kind tid (Refused (refusal kind tid codes.RejectUnrecognizedSetting)) tt
   message_sound modem (Err faults.NoMemory) = sound
   message_sound modem (Ok (messages.Ack kind tid code)) = acked_sound op sound modem tid kind code
   message_sound modem (Ok (messages.Request request)) = transacted_sound modem (kind_of request) (tid_of request) (verdict op modem request) (right op sound modem request)

@@ -7,12 +7,13 @@ pub use Rattle.dsx_messages.specs.declared.kind.Kind.{Kind}
 pub use Rattle.dsx_messages.specs.declared.kind.Kind.TheVariants.{Dsa, Dsc, Dsd}
 pub use Rattle.dsx_messages.specs.declared.message.Message.{Message}
 pub use Rattle.dsx_messages.specs.declared.modem.Modem.{Modem}
+pub use Rattle.dsx_messages.specs.declared.reply.ReplyFields.{ReplyFields}
 pub use Rattle.flow_table.specs.Flow.{taken_back, committed_of, asks_for_grants, pending_admitted, with_pending, flow_after_ack, without_pending, flow_after_request, flow_after_grant, is_unsolicited}
 pub use Rattle.flow_table.specs.Moved.{change_if, change_at}
 pub use Rattle.flow_table.specs.Table.{flow_at, with_flow, sfids_of, sids_of, sid_if, committed_minislots, committed_elements, HaveOwnSids, flow_with, is_sid, flowing_of_set, flowing_in}
 pub use Rattle.flow_table.specs.declared.flow.Flow.{Flow}
 pub use Rattle.flow_table.specs.declared.flow.Pending.{Pending}
-pub use Rattle.operator_model.specs.Asked.{refusal, faulty, transaction, free_flow, addition_of, change_of}
+pub use Rattle.operator_model.specs.Asked.{refusal, transaction, free_flow, addition_of, change_of}
 pub use Rattle.operator_model.specs.Frame.{resent, tick_result, all_undone, all_granted, at_frame, frame_elements, share_at, next_at, flows_left}
 pub use Rattle.operator_model.specs.Frames.{frame_number, frame_numbers, is_tick}
 pub use Rattle.operator_model.specs.Handle.{StepResult, without_flow, carried_out, is_of_cmts, new_unless, transaction_result, kind_of, tid_of, message_handled, handle, undone, reply_result, acked_if, asked_of_flow, flows_acked, ack_result}
@@ -31,7 +32,6 @@ pub use Rattle.operator_model.specs.declared.share.NextShare.{NextShare}
 pub use Rattle.operator_model.specs.declared.share.Share.{Share}
 pub use Rattle.operator_model.specs.declared.verdict.Addition.{Addition}
 pub use Rattle.operator_model.specs.declared.verdict.Change.{Change}
-pub use Rattle.operator_model.specs.declared.verdict.CheckRefusal.{CheckRefusal}
 pub use Rattle.operator_model.specs.declared.verdict.Verdict.{Verdict}
 pub use Rattle.operator_model.specs.declared.verdict.Verdict.TheVariants.{Refused, Put, Deleted}
 pub use Rattle.param_sets.proofs.WithinLemmas.{is_within, within_self}

@@ -1,6 +1,6 @@
 -- The frames of a run, by their numbers: each tick puts out the next one, and nothing else puts out any.
 use Rattle.std.proofs.Common.{◌≡◌, ℕ, zero, suc, ◌+◌, ◌<◌, not, true, cond, List, [], ◌∷◌, ◌++◌, length, Option, Some, None, Result, Ok, Err, option_map, find, map, count_by, refl, sym, ap, ◌∙◌, arith, nat_le}
-use Rattle.operator_model.proofs.Common.{range_with_len, cond_both, cond-true, cond-false, lt-leb, filter_map-append, sum_by-cons, Modem, Kind, Message, MessageFault, message_of, KeptEntry, same_kind, is_of, waits_for, resent_in, ConstsFields, RowFields, same_modem, Flow, asks_for_grants, flow_with, Heard, Arrival, Action, Arrive, Work, Tick, Reslice, Verdict, Refused, operator, OperatorState, Operator, refusal, faulty, verdict, encoding_refusal, StepResult, reply_result, is_of_cmts, new_unless, transaction_result, acked_if, kind_of, tid_of, message_handled, asked_of_flow, handle, resent, tick_result, frame_number, frame_numbers, is_tick}
+use Rattle.operator_model.proofs.Common.{range_with_len, cond_both, cond-true, cond-false, lt-leb, filter_map-append, sum_by-cons, Modem, Kind, Message, MessageFault, message_of, KeptEntry, same_kind, is_of, waits_for, resent_in, ConstsFields, RowFields, same_modem, Flow, asks_for_grants, flow_with, Heard, Arrival, Action, Arrive, Work, Tick, Reslice, Verdict, Refused, operator, OperatorState, Operator, refusal, verdict, encoding_refusal, StepResult, reply_result, is_of_cmts, new_unless, transaction_result, acked_if, kind_of, tid_of, message_handled, asked_of_flow, handle, resent, tick_result, frame_number, frame_numbers, is_tick}
 use Rattle.dsx_messages.specs.declared.code.Code.TheVariants as codes
 use Rattle.dsx_messages.specs.declared.message.Message.TheVariants as messages
 use Rattle.dsx_messages.specs.declared.fault.MessageFault.TheVariants as faults
@@ -39,8 +39,8 @@ module _ (op : Operator) where
   message_none modem (Err faults.Empty) = record { numbers = refl; frame = refl; share = refl; waits = refl }
   message_none modem (Err (faults.NotOurs mtype)) = record { numbers = refl; frame = refl; share = refl; waits = refl }
   message_none modem (Err faults.Short) = record { numbers = refl; frame = refl; share = refl; waits = refl }
-  message_none modem (Err (faults.Tlv tid kind id fault)) = transacted_none modem kind tid (Refused (faulty (encoding_refusal kind tid id fault)))
-  message_none modem (Err (faults.LeftOut tid kind found)) = transacted_none modem kind tid (Refused (faulty (refusal kind tid codes.RejectUnrecognizedSetting)))
+  message_none modem (Err (faults.Tlv tid kind id fault)) = transacted_none modem kind tid (Refused (encoding_refusal kind tid id fault))
+  message_none modem (Err (faults.LeftOut tid kind found)) = transacted_none modem kind tid (Refused (refusal kind tid codes.RejectUnrecognizedSetting))
   message_none modem (Err faults.NoMemory) = record { numbers = refl; frame = refl; share = refl; waits = refl }
   message_none modem (Ok (messages.Ack kind tid code)) = acked_none modem tid kind code (option_map (λ entry. entry.sfid) (find (waits_for modem tid kind) op.state.kept))
   message_none modem (Ok (messages.Request request)) = transacted_none modem (kind_of request) (tid_of request) (verdict op modem request)

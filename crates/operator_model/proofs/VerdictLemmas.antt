@@ -1,6 +1,6 @@
 -- A verdict is right: the flow that it puts is sound, has identifiers of its own, and what is committed with it is allowed.
 use Rattle.std.proofs.Common.{◌≡◌, ℕ, ◌&&◌, ◌<◌, ◌≤◌, Bool, true, false, List, length, Option, Some, None, Result, Ok, Err, IfOk, IfSome, IsSome, is_some, is_none, refl, sym, subst, arith, nat_le, nat_lt}
-use Rattle.operator_model.proofs.Common.{cond_both, leb-false, ltb-false, and_parts, true≢false, false≢true, Modem, Kind, Dsa, Dsc, Dsd, CheckRefusal, IsIn, least_free_of, Flow, sfids_of, sids_of, flow_at, with_flow, committed_minislots, committed_elements, Addition, Change, Verdict, Refused, Put, Deleted, Operator, transaction, free_flow, addition_of, change_of, kind_of, IsSoundFlow, IsWaitingOf, IsSound}
+use Rattle.operator_model.proofs.Common.{cond_both, leb-false, ltb-false, and_parts, true≢false, false≢true, Modem, Kind, Dsa, Dsc, Dsd, ReplyFields, IsIn, least_free_of, Flow, sfids_of, sids_of, flow_at, with_flow, committed_minislots, committed_elements, Addition, Change, Verdict, Refused, Put, Deleted, Operator, transaction, free_flow, addition_of, change_of, kind_of, IsSoundFlow, IsWaitingOf, IsSound}
 use Rattle.dsx_messages.specs.declared.message.Request.{Request}
 use Rattle.dsx_messages.specs.declared.message.Request.TheVariants as requests
 use Rattle.operator_model.specs.Verdict.{limit_of, minislots_allowed, within_limit, new_flow, added_reply, added_under, addition_within_limit, changed_flow, changed_reply, changed_with, changed_with_new, wants_sid, change_within_limit, addition_verdict, change_verdict, deletion_verdict, verdict}
@@ -130,15 +130,15 @@ module _ (op : Operator) (sound : IsSound op) where
 
   -- ---- requests
 
-  right-addition : (modem : Modem) (tid : ℕ) (r : Result Addition CheckRefusal) → IfOk r IsAddition → Right Dsa (addition_verdict op modem tid r)
+  right-addition : (modem : Modem) (tid : ℕ) (r : Result Addition ReplyFields) → IfOk r IsAddition → Right Dsa (addition_verdict op modem tid r)
   right-addition modem tid (Err reply) is = tt
   right-addition modem tid (Ok addition) is = right-added modem tid addition is
 
-  right-change : (tid : ℕ) (r : Result Change CheckRefusal) → IfOk r (IsChange op.state.flows) → Right Dsc (change_verdict op tid r)
+  right-change : (tid : ℕ) (r : Result Change ReplyFields) → IfOk r (IsChange op.state.flows) → Right Dsc (change_verdict op tid r)
   right-change tid (Err reply) is = tt
   right-change tid (Ok change) is = right-changed tid change is
 
-  right-deletion : (tid sfid : ℕ) (r : Result Flow CheckRefusal) → IfOk r (IsFreeFlow (flow_at sfid op.state.flows)) → Right Dsd (deletion_verdict tid sfid r)
+  right-deletion : (tid sfid : ℕ) (r : Result Flow ReplyFields) → IfOk r (IsFreeFlow (flow_at sfid op.state.flows)) → Right Dsd (deletion_verdict tid sfid r)
   right-deletion tid sfid (Err reply) is = tt
   right-deletion tid sfid (Ok flow) is = subst (λ (o : Option Flow). IfSome o (λ (f : Flow). f.pending ≡ None)) (sym is.there) is.free
 

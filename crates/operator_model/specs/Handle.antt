@@ -1,6 +1,5 @@
 -- How what was received is handled (CM-SP-MULPIv3.1, 7.2 and 11.2; the cached responses are implementation-specific).
-use Rattle.std.specs.Prelude.{◌≡◌, ◌==◌, ◌<◌, ℕ, Bool, true, false, not, List, [], ◌∷◌, ◌++◌, map, length, find, nat_le, Option, Some, None}
-use Rattle.std.specs.Prelude.{IsNone, Result, Ok, Err, if◌then◌else◌}
+use Rattle.std.specs.Prelude.{◌≡◌, ◌==◌, ◌<◌, ℕ, Bool, true, false, not, List, [], ◌∷◌, ◌++◌, map, length, find, nat_le, Option, Some, None, IsNone, Result, Ok, Err, if◌then◌else◌}
 use Rattle.std.specs.Option.{option_map}
 use Rattle.std.specs.Ordering.{nat_cmp}
 use Rattle.std.specs.Map.{remove_entry}
@@ -36,7 +35,7 @@ use Rattle.operator_model.specs.declared.output.Output.TheVariants as outputs
 use Rattle.operator_model.specs.declared.verdict.Verdict.{Verdict}
 use Rattle.operator_model.specs.declared.verdict.Verdict.TheVariants.{Refused, Put, Deleted}
 use Rattle.operator_model.specs.State.{OperatorState, Operator}
-use Rattle.operator_model.specs.Asked.{refusal, faulty}
+use Rattle.operator_model.specs.Asked.{refusal}
 use Rattle.operator_model.specs.Verdict.{verdict, encoding_refusal}
 
 -- a state, and what was output on the way to it
@@ -72,25 +71,25 @@ undone Dsd sfid flows = flows
 
 -- what a verdict makes of the flows
 abbrev pub flows_after : Verdict → List (ℕ × Flow) → List (ℕ × Flow)
-flows_after (Refused r) flows = flows
+flows_after (Refused reply) flows = flows
 flows_after (Put sfid flow reply) flows = with_flow sfid flow flows
 flows_after (Deleted sfid reply) flows = without_flow sfid flows
 
 -- the reply of a verdict
 abbrev pub reply_of : Verdict → ReplyFields
-reply_of (Refused r) = r.reply
+reply_of (Refused reply) = reply
 reply_of (Put sfid flow reply) = reply
 reply_of (Deleted sfid reply) = reply
 
 -- the SFID that is kept with the reply: none with a refusal
 abbrev pub sfid_of : Verdict → ℕ
-sfid_of (Refused r) = 0
+sfid_of (Refused reply) = 0
 sfid_of (Put sfid flow reply) = sfid
 sfid_of (Deleted sfid reply) = sfid
 
 -- only a flow that was added or changed waits for an acknowledgement
 abbrev pub does_wait : Verdict → Bool
-does_wait (Refused r) = false
+does_wait (Refused reply) = false
 does_wait (Put sfid flow reply) = true
 does_wait (Deleted sfid reply) = false
 
@@ -110,15 +109,13 @@ is_of_cmts tid = nat_le 32768 tid
 
 -- a request that is repeated gets the cached reply again; another kind under its transaction ID gets no answer
 abbrev pub repeat_result : OperatorState → Modem → Kind → KeptEntry → StepResult
-repeat_result state modem kind entry = if same_kind entry.kind kind then reply_result state modem entry.reply
-    else silent state modem causes.TidInUse
+repeat_result state modem kind entry = if same_kind entry.kind kind then reply_result state modem entry.reply else silent state modem causes.TidInUse
 
 -- checks 2 and 3: the transaction is kept already; as many are kept as the row allows
 abbrev pub new_unless : Operator → Modem → Kind → ℕ → Verdict → Option KeptEntry → StepResult
 new_unless op modem kind tid v (Some entry) = repeat_result op.state modem kind entry
 new_unless op modem kind tid v None =
-    if nat_le op.row.transactions (length op.state.kept)
-    then reply_result op.state modem (spell_reply (refusal kind tid codes.RejectTemporary)) else
+    if nat_le op.row.transactions (length op.state.kept) then reply_result op.state modem (spell_reply (refusal kind tid codes.RejectTemporary)) else
     carried_out op modem kind tid v
 
 -- checks 1 to 3, which do not ask what the request says further; then the verdict
@@ -180,10 +177,8 @@ abbrev pub message_handled : Operator → Modem → Result Message MessageFault 
 message_handled op modem (Err faults.Empty) = silent op.state modem causes.Empty
 message_handled op modem (Err (faults.NotOurs mtype)) = silent op.state modem causes.NotOurs
 message_handled op modem (Err faults.Short) = silent op.state modem causes.Short
-message_handled op modem (Err (faults.Tlv tid kind id fault)) =
-    transaction_result op modem kind tid (Refused (faulty (encoding_refusal kind tid id fault)))
-message_handled op modem (Err (faults.LeftOut tid kind found)) =
-    transaction_result op modem kind tid (Refused (faulty (refusal kind tid codes.RejectUnrecognizedSetting)))
+message_handled op modem (Err (faults.Tlv tid kind id fault)) = transaction_result op modem kind tid (Refused (encoding_refusal kind tid id fault))
+message_handled op modem (Err (faults.LeftOut tid kind found)) = transaction_result op modem kind tid (Refused (refusal kind tid codes.RejectUnrecognizedSetting))
 message_handled op modem (Err faults.NoMemory) = silent op.state modem causes.NotOurs
 message_handled op modem (Ok (messages.Ack kind tid code)) = ack_result op modem tid kind code
 message_handled op modem (Ok (messages.Request request)) =
@@ -197,11 +192,7 @@ asked_of_flow state modem minislots None = silent state modem causes.NoSuchSid
 asked_of_flow state modem minislots (Some entry) =
     if not (same_modem entry.1.modem modem) then silent state modem causes.NoSuchSid else
     if not (asks_for_grants entry.1.sets.active) then silent state modem causes.NotRequesting else
-    record {
-      state = record state { flows = with_flow entry.0 (flow_after_request minislots state.frame entry.1) state.flows };
-      outputs =
-          [];
-    }
+    record { state = record state { flows = with_flow entry.0 (flow_after_request minislots state.frame entry.1) state.flows }; outputs = [] }
 
 -- a bandwidth request: the backlog of the flow that has the SID is replaced, or nothing changes and there is a drop reason (7.2)
 abbrev pub bandwidth_request_result : Operator → Modem → ℕ → ℕ → StepResult

@@ -1,10 +1,8 @@
 pub mod State
 pub mod Changed
-pub mod Checks
 pub mod Asked
 pub mod Verdict
 pub mod Handle
-pub mod Deciding
 pub mod Frame
 pub mod Machine
 pub mod Replay

@@ -1,7 +1,6 @@
 -- One operator's own machine: what each action makes of its state, what it outputs, and which actions are refused
 -- (implementation-specific).
-use Rattle.std.specs.Prelude.{◌≡◌, ◌==◌, ◌||◌, ◌+◌, ℕ, Bool, false, List, [], ◌∷◌, ◌++◌, length, nat_le, nat_lt, is_some, Option, Some}
-use Rattle.std.specs.Prelude.{None, if◌then◌else◌}
+use Rattle.std.specs.Prelude.{◌≡◌, ◌==◌, ◌||◌, ◌+◌, ℕ, Bool, false, List, [], ◌∷◌, ◌++◌, length, nat_le, nat_lt, is_some, Option, Some, None, if◌then◌else◌}
 use Rattle.dsx_messages.specs.declared.modem.Modem.{Modem}
 use Rattle.plant.specs.declared.consts.ConstsFields.{ConstsFields}
 use Rattle.plant.specs.declared.operator_row.RowFields.{RowFields}
@@ -71,8 +70,7 @@ is_spent state (Reslice from slice_row) = false
 
 -- a slice has no minislot, begins within the head, or ends after the frame
 abbrev pub is_off_frame : ConstsFields → SliceRow → Bool
-is_off_frame consts row = (row.length == 0) || nat_lt row.start consts.channel.head
-    || nat_lt consts.channel.frame_minislots (row.start + row.length)
+is_off_frame consts row = (row.length == 0) || nat_lt row.start consts.channel.head || nat_lt consts.channel.frame_minislots (row.start + row.length)
 
 -- why a slice cannot be taken from this frame on
 abbrev pub unfit_from : Operator → ℕ → SliceRow → Option Unfit

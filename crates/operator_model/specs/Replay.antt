@@ -21,8 +21,7 @@ AreTold o (entry ∷ history) =
 
 -- the state is the run of a history's actions from this first state: each action is allowed at its place, and each entry's outputs are the
 -- run's
-pub record IsReplayFrom (consts : ConstsFields) (row : RowFields) (first : OperatorState) (history : List Entry)
-    (state : OperatorState) : Type 0 where
+pub record IsReplayFrom (consts : ConstsFields) (row : RowFields) (first : OperatorState) (history : List Entry) (state : OperatorState) : Type 0 where
   pub state_is : state ≡ (own_run (operator consts row first) (actions_of history)).state
   pub told : AreTold (operator consts row first) history
 

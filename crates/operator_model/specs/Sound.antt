@@ -64,8 +64,7 @@ IsWaitingOf Dsd flow = ⊥
 
 -- the flow of a transaction that waits is there, and waits
 abbrev pub HasItsFlow : List (ℕ × Flow) → KeptEntry → Type 0
-HasItsFlow flows entry = is_waiting entry ≡ true → IsSome (flow_at entry.sfid flows)
-    × IfSome (flow_at entry.sfid flows) (IsWaitingOf entry.kind)
+HasItsFlow flows entry = is_waiting entry ≡ true → IsSome (flow_at entry.sfid flows) × IfSome (flow_at entry.sfid flows) (IsWaitingOf entry.kind)
 
 -- of two transactions that wait, each has a flow of its own
 abbrev pub HaveOwnFlows : List KeptEntry → Type 0

@@ -18,7 +18,7 @@ pub enum Heard {
 impl Heard {
     /// Returns an equal value with bytes of its own.
     pub fn copy(&self, alloc: Global) -> Result<Heard, AllocError>
-        ensures { IfOk result (λ copy. copy ≡ self.now) }
+        ensures { IfOk result (λ heard. heard ≡ self.now) }
     {
         match self {
             Heard::Message(bytes) => Ok(Heard::Message(bytes.copy(alloc)?)),

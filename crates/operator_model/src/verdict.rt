@@ -1,6 +1,5 @@
 //! What becomes of a request.
 
-use crate::check::Decision;
 use dsx_messages::{Kind, Modem, Reply};
 use flow_table::Flow;
 use param_sets::{ParamSet, Sets};
@@ -42,18 +41,11 @@ pub struct Change {
     pub sets: Sets,
 }
 
-/// A refusal of a request: the check that refuses it, and its reply.
-#[derive(Clone, Copy, Debug)]
-pub struct CheckRefusal {
-    pub check: Decision,
-    pub reply: Reply,
-}
-
 /// What becomes of a request that the table of checks has judged. Its reply is kept.
 #[derive(Clone, Copy, Debug)]
 pub enum Verdict {
-    /// It is refused by this check, with this reply.
-    Refused(CheckRefusal),
+    /// It is refused with this reply.
+    Refused { reply: Reply },
     /// The flow is put under the SFID, a new one or one that is changed, and waits for the reply's acknowledgement.
     Put { sfid: u32, flow: Flow, reply: Reply },
     /// The flow goes.

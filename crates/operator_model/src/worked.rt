@@ -14,11 +14,9 @@ ghost use Rattle.operator_model.specs.Worked.{worked_consts, worked_row, first_m
 /// States that an addition is answered, reported again where it is repeated, and refused for each
 /// of these faults and wants.
 pub fn worked_additions_compute()
-    ensures repeated { answers worked_consts worked_row
-        (message_actions first_modem addition ++ message_actions first_modem addition
+    ensures repeated { answers worked_consts worked_row (message_actions first_modem addition ++ message_actions first_modem addition
         ++ message_actions first_modem addition_ack ++ message_actions first_modem addition)
-        ≡ hex_reply first_modem addition_reply ∷ hex_reply first_modem addition_reply
-        ∷ hex_reply first_modem addition_reply ∷ [] }
+        ≡ hex_reply first_modem addition_reply ∷ hex_reply first_modem addition_reply ∷ hex_reply first_modem addition_reply ∷ [] }
     ensures one_flow { length (after worked_consts worked_row (message_actions first_modem addition
         ++ message_actions first_modem addition
         ++ message_actions first_modem addition_ack ++ message_actions first_modem addition)).flows
@@ -26,8 +24,7 @@ pub fn worked_additions_compute()
     ensures other_kind { answers worked_consts worked_row (message_actions first_modem addition
         ++ message_actions first_modem (codes "150001000000000101"))
         ≡ hex_reply first_modem addition_reply ∷ silent first_modem TidInUse ∷ [] }
-    ensures cut { answers worked_consts worked_row
-        (message_actions first_modem (codes "0F0003180B010200010601060F0102"))
+    ensures cut { answers worked_consts worked_row (message_actions first_modem (codes "0F0003180B010200010601060F0102"))
         ≡ hex_reply first_modem (codes "10000301") ∷ [] }
     ensures skipped { answers worked_consts worked_row
         (message_actions first_modem (codes "0F0002180E010200010601066301FF0F020002"))
@@ -35,50 +32,40 @@ pub fn worked_additions_compute()
     ensures interval { answers worked_consts worked_row
         (message_actions first_modem (codes "0F00011817010200010601060F0106130202001404000007CF160101"))
         ≡ hex_reply first_modem (codes "10000117180C010200010506010114020117") ∷ [] }
-    ensures of_cmts { answers worked_consts worked_row
-        (message_actions first_modem (codes "0F8000180A010200010601060F0102"))
+    ensures of_cmts { answers worked_consts worked_row (message_actions first_modem (codes "0F8000180A010200010601060F0102"))
         ≡ hex_reply first_modem (codes "1080000A") ∷ [] }
     ensures not_kept { (after worked_consts worked_row
         (message_actions first_modem (codes "0F8000180A010200010601060F0102"))).kept ≡ [] }
-    ensures last_of_modem { answers worked_consts worked_row
-        (message_actions first_modem (codes "0F7FFF180A010200010601060F0102"))
+    ensures last_of_modem { answers worked_consts worked_row (message_actions first_modem (codes "0F7FFF180A010200010601060F0102"))
         ≡ hex_reply first_modem (codes "107FFF00180E0102000102040000010103020101") ∷ [] }
     ensures left_out { answers worked_consts worked_row (message_actions first_modem (codes "0F00011900"))
         ≡ hex_reply first_modem (codes "10000102") ∷ [] }
     ensures no_encoding { answers worked_consts worked_row (message_actions first_modem (codes "0F00021B00"))
         ≡ hex_reply first_modem (codes "10000208") ∷ [] }
-    ensures second { answers worked_consts worked_row
-        (message_actions first_modem addition ++ message_actions first_modem addition_ack
+    ensures second { answers worked_consts worked_row (message_actions first_modem addition ++ message_actions first_modem addition_ack
         ++ message_actions first_modem (codes "0F0002180A010200020601060F0102"))
-        ≡ hex_reply first_modem addition_reply
-        ∷ hex_reply first_modem (codes "10000200180E0102000202040000010203020102")
+        ≡ hex_reply first_modem addition_reply ∷ hex_reply first_modem (codes "10000200180E0102000202040000010203020102")
         ∷ [] }
     ensures few_flows { answers worked_consts (record worked_row { flows = 1 }) (message_actions first_modem addition
-        ++ message_actions first_modem addition_ack
-        ++ message_actions first_modem (codes "0F0002180A010200020601060F0102"))
+        ++ message_actions first_modem addition_ack ++ message_actions first_modem (codes "0F0002180A010200020601060F0102"))
         ≡ hex_reply first_modem addition_reply ∷ hex_reply first_modem (codes "10000203") ∷ [] }
     ensures few_sfids { answers worked_consts
         (record worked_row { sfids = record { first = 257; last = 257 } }) (message_actions first_modem addition
-        ++ message_actions first_modem addition_ack
-        ++ message_actions first_modem (codes "0F0002180A010200020601060F0102"))
+        ++ message_actions first_modem addition_ack ++ message_actions first_modem (codes "0F0002180A010200020601060F0102"))
         ≡ hex_reply first_modem addition_reply ∷ hex_reply first_modem (codes "10000203") ∷ [] }
     ensures few_sids { answers worked_consts
         (record worked_row { sids = record { first = 257; last = 257 } }) (message_actions first_modem addition
-        ++ message_actions first_modem addition_ack
-        ++ message_actions first_modem (codes "0F0002180A010200020601060F0102"))
+        ++ message_actions first_modem addition_ack ++ message_actions first_modem (codes "0F0002180A010200020601060F0102"))
         ≡ hex_reply first_modem addition_reply ∷ hex_reply first_modem (codes "10000203") ∷ [] }
-    ensures few_elements { answers worked_consts (record worked_row { elements = 3 })
-        (message_actions first_modem addition
-        ++ message_actions first_modem addition_ack
-        ++ message_actions first_modem (codes "0F0002180A010200020601060F0102"))
+    ensures few_elements { answers worked_consts (record worked_row { elements = 3 }) (message_actions first_modem addition
+        ++ message_actions first_modem addition_ack ++ message_actions first_modem (codes "0F0002180A010200020601060F0102"))
         ≡ hex_reply first_modem addition_reply ∷ hex_reply first_modem (codes "10000203") ∷ [] }
 {}
 
 /// States that a change is answered and committed, and room is taken and given back by changes and
 /// deletions.
 pub fn worked_changes_compute()
-    ensures changed { answers worked_consts worked_row
-        (message_actions first_modem addition ++ message_actions first_modem addition_ack
+    ensures changed { answers worked_consts worked_row (message_actions first_modem addition ++ message_actions first_modem addition_ack
         ++ message_actions first_modem
         (codes "12000518120204000001010601020F01020A040000006418120204000001010601040F01020A0400000064")
         ++ message_actions first_modem (codes "14000500")
@@ -87,8 +74,7 @@ pub fn worked_changes_compute()
         ≡ hex_reply first_modem addition_reply ∷ hex_reply first_modem (codes "13000500180A02040000010103020101")
         ∷ hex_reply first_modem (codes "13000617180E020400000101050601010A020117") ∷ [] }
     ensures no_room { answers worked_consts worked_row (message_actions first_modem full_addition
-        ++ message_actions first_modem addition_ack
-        ++ message_actions first_modem (codes "0F00021810010200020601060F01020A0400000001")
+        ++ message_actions first_modem addition_ack ++ message_actions first_modem (codes "0F00021810010200020601060F01020A0400000001")
         ++ message_actions first_modem (codes "150003000000000101")
         ++ message_actions first_modem (codes "0F00041810010200020601060F01020A0400000001"))
         ≡ hex_reply first_modem addition_reply ∷ hex_reply first_modem (codes "10000203")
@@ -101,11 +87,9 @@ pub fn worked_changes_compute()
         ++ message_actions first_modem (codes "14000200")
         ++ message_actions first_modem (codes "0F00041810010200020601060F01020A0400000001"))
         ≡ hex_reply first_modem addition_reply ∷ hex_reply first_modem (codes "13000200180A02040000010103020101")
-        ∷ hex_reply first_modem (codes "10000303")
-        ∷ hex_reply first_modem (codes "10000400180E0102000202040000010203020102")
+        ∷ hex_reply first_modem (codes "10000303") ∷ hex_reply first_modem (codes "10000400180E0102000202040000010203020102")
         ∷ [] }
-    ensures not_owner { answers worked_consts worked_row
-        (message_actions first_modem addition ++ message_actions first_modem addition_ack
+    ensures not_owner { answers worked_consts worked_row (message_actions first_modem addition ++ message_actions first_modem addition_ack
         ++ message_actions second_modem (codes "150001000000000101"))
         ≡ hex_reply first_modem addition_reply ∷ hex_reply second_modem (codes "1600010500") ∷ [] }
     ensures few_kept { answers (record worked_consts { timers = record { ack_wait = 150; resends = 3; hold = 2 } })
@@ -132,20 +116,15 @@ pub fn worked_frames_compute()
         ≡ silent first_modem Empty ∷ silent first_modem Short ∷ silent first_modem NotOurs
         ∷ silent first_modem UnknownAck ∷ silent first_modem NoSuchSid ∷ [] }
     ensures unsolicited { answers worked_consts worked_row (message_actions first_modem full_addition
-        ++ message_actions first_modem addition_ack ++ request_actions first_modem 257 1
-        ++ request_actions second_modem 257 1)
+        ++ message_actions first_modem addition_ack ++ request_actions first_modem 257 1 ++ request_actions second_modem 257 1)
         ≡ hex_reply first_modem addition_reply ∷ silent first_modem NotRequesting ∷ silent second_modem NoSuchSid ∷ [] }
-    ensures granted { answers worked_consts worked_row
-        (message_actions first_modem addition ++ message_actions first_modem addition_ack
+    ensures granted { answers worked_consts worked_row (message_actions first_modem addition ++ message_actions first_modem addition_ack
         ++ request_actions first_modem 257 5 ++ Tick ∷ [])
         ≡ hex_reply first_modem addition_reply ∷ frame 0 (span 257 Long 8 5 ∷ span 0 Long 13 27 ∷ []) [] ∷ [] }
-    ensures shared { answers worked_consts worked_row
-        (message_actions first_modem addition ++ message_actions first_modem addition_ack
-        ++ message_actions first_modem (codes "0F0002180A010200020601060F0102")
-        ++ message_actions first_modem (codes "11000200")
+    ensures shared { answers worked_consts worked_row (message_actions first_modem addition ++ message_actions first_modem addition_ack
+        ++ message_actions first_modem (codes "0F0002180A010200020601060F0102") ++ message_actions first_modem (codes "11000200")
         ++ request_actions first_modem 257 20 ++ request_actions first_modem 258 20 ++ Tick ∷ Tick ∷ [])
-        ≡ hex_reply first_modem addition_reply
-        ∷ hex_reply first_modem (codes "10000200180E0102000202040000010203020102")
+        ≡ hex_reply first_modem addition_reply ∷ hex_reply first_modem (codes "10000200180E0102000202040000010203020102")
         ∷ frame 0 (span 257 Long 8 20 ∷ span 258 Long 28 12 ∷ []) (258 ∷ [])
         ∷ frame 1 (span 258 Long 8 8 ∷ span 0 Long 16 24 ∷ []) [] ∷ [] }
     ensures resent { answers (record worked_consts {
@@ -182,8 +161,7 @@ pub fn worked_classes_compute()
     ensures priority { option_map (λ flow. option_map
         (λ set. set.priority) flow.sets.active)
         (flow_at 257 (after classed_consts worked_row
-        (message_actions first_modem (codes "0F0001180E010200010405676F6C6400060106")
-        ++ message_actions first_modem addition_ack)).flows)
+        (message_actions first_modem (codes "0F0001180E010200010405676F6C6400060106") ++ message_actions first_modem addition_ack)).flows)
         ≡ Some (Some 5) }
     ensures unclassed { answers classed_consts worked_row
         (message_actions first_modem (codes "0F0002180D01020002040474696E00060106"))
@@ -193,8 +171,7 @@ pub fn worked_classes_compute()
 /// States that another slice and budget are taken from their frame on, and not for each of these
 /// causes; what is committed fits both budgets until then.
 pub fn worked_shares_compute()
-    ensures resliced { answers worked_consts worked_row
-        (message_actions first_modem addition ++ message_actions first_modem addition_ack
+    ensures resliced { answers worked_consts worked_row (message_actions first_modem addition ++ message_actions first_modem addition_ack
         ++ request_actions first_modem 257 20 ++ Reslice 1 (record { start = 8; length = 16; budget = 16 }) ∷ Tick ∷ []
         ++ request_actions first_modem 257 20 ++ Tick ∷ [])
         ≡ hex_reply first_modem addition_reply ∷ frame 0 (span 257 Long 8 20 ∷ span 0 Long 28 12 ∷ []) []

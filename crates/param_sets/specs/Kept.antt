@@ -2,9 +2,7 @@
 use Rattle.std.specs.Prelude.{ℕ, ◌==◌, Bool, List, [], ◌∷◌, Option, unwrap_or, if◌then◌else◌}
 use Rattle.std.specs.Option.{is_none}
 use Rattle.std.specs.List.{list_any}
-use Rattle.tlv24.specs.Subtype.{traffic_priority_subtype, max_sustained_rate_subtype, max_burst_subtype, min_reserved_rate_subtype}
-use Rattle.tlv24.specs.Subtype.{request_policy_subtype, polling_interval_subtype, poll_jitter_subtype, grant_size_subtype}
-use Rattle.tlv24.specs.Subtype.{grant_interval_subtype, grant_jitter_subtype, grants_per_interval_subtype}
+use Rattle.tlv24.specs.Subtype.{traffic_priority_subtype, max_sustained_rate_subtype, max_burst_subtype, min_reserved_rate_subtype, request_policy_subtype, polling_interval_subtype, poll_jitter_subtype, grant_size_subtype, grant_interval_subtype, grant_jitter_subtype, grants_per_interval_subtype}
 use Rattle.tlv24.specs.declared.fields.FlowFields.{FlowFields}
 use Rattle.param_sets.specs.FirstTrue.{first_true}
 use Rattle.param_sets.specs.declared.scheduling.Scheduling.{Scheduling}

@@ -1,7 +1,6 @@
 -- The parameter set of a flow encoding (implementation-specific).
 use Rattle.std.specs.Prelude.{ℕ, ◌==◌, ◌||◌, nat_lt, Bool, List, [], ◌∷◌, Option, Some, None, Result, Ok, Err}
-use Rattle.tlv24.specs.Subtype.{scheduling_type_subtype, polling_interval_subtype, grant_size_subtype, grant_interval_subtype}
-use Rattle.tlv24.specs.Subtype.{grants_per_interval_subtype}
+use Rattle.tlv24.specs.Subtype.{scheduling_type_subtype, polling_interval_subtype, grant_size_subtype, grant_interval_subtype, grants_per_interval_subtype}
 use Rattle.tlv24.specs.declared.fields.FlowFields.{FlowFields}
 use Rattle.dsx_messages.specs.declared.code.Code.TheVariants.{RejectRequiredParameterNotPresent, RejectInvalidForContext}
 use Rattle.param_sets.specs.FirstTrue.{first_true}

@@ -1,7 +1,6 @@
 -- When one parameter set is within another (implementation-specific: the standard's subset relation covers all parameters).
 use Rattle.std.specs.Prelude.{◌≡◌, ℕ, ◌<◌, ◌≤◌, ◌==◌, ◌&&◌, ◌||◌, not, nat_lt, Bool, List, [], ◌∷◌, Option, Some, None}
-use Rattle.tlv24.specs.Subtype.{traffic_priority_subtype, max_sustained_rate_subtype, min_reserved_rate_subtype, scheduling_type_subtype}
-use Rattle.tlv24.specs.Subtype.{polling_interval_subtype, grant_size_subtype, grant_interval_subtype, grants_per_interval_subtype}
+use Rattle.tlv24.specs.Subtype.{traffic_priority_subtype, max_sustained_rate_subtype, min_reserved_rate_subtype, scheduling_type_subtype, polling_interval_subtype, grant_size_subtype, grant_interval_subtype, grants_per_interval_subtype}
 use Rattle.param_sets.specs.FirstTrue.{first_true}
 use Rattle.param_sets.specs.Scheduling.{scheduling_number}
 use Rattle.param_sets.specs.declared.param_set.ParamFields.{ParamFields}

@@ -28,8 +28,7 @@ word_bytes n = to_le_bytes w32 n
 abbrev pub record_of : ℕ → Option (List ℕ) → List ℕ
 record_of microseconds None = []
 record_of microseconds (Some frame) =
-    word_bytes (microseconds / 1000000 % 4294967296)
-    ++ (word_bytes (microseconds % 1000000) ++ (word_bytes (length frame) ++ (word_bytes (length frame) ++ frame)))
+    word_bytes (microseconds / 1000000 % 4294967296) ++ (word_bytes (microseconds % 1000000) ++ (word_bytes (length frame) ++ (word_bytes (length frame) ++ frame)))
 
 -- the records of packets, the first of which is before the MAP of the frame `next`, in frames of so many microseconds
 abbrev pub records_from : ℕ → ℕ → List Packet → List ℕ

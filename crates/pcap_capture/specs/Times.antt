@@ -15,5 +15,4 @@ frame_time_after count packet = count
 abbrev pub counted_from : ℕ → ℕ → ℕ → List Packet → List ℕ
 counted_from frame_us first_frame count [] = []
 counted_from frame_us first_frame count (packet ∷ packets) =
-    record_of ((first_frame + count) * frame_us) (frame_of packet)
-    ++ counted_from frame_us first_frame (frame_time_after count packet) packets
+    record_of ((first_frame + count) * frame_us) (frame_of packet) ++ counted_from frame_us first_frame (frame_time_after count packet) packets

@@ -36,8 +36,7 @@ pub fn run_has_one_capture()
     ensures exists { (plant : PlantFields) (steps : List Step) (outs : List Out) → Ordered plant steps outs
         → (bytes : List ℕ) × IsCaptureOf plant steps outs bytes }
     ensures unique { (plant : PlantFields) (steps : List Step) (outs : List Out) (one other : List ℕ)
-        → IsTraceOf plant steps outs → IsCaptureOf plant steps outs one → IsCaptureOf plant steps outs other
-        → one ≡ other }
+        → IsTraceOf plant steps outs → IsCaptureOf plant steps outs one → IsCaptureOf plant steps outs other → one ≡ other }
 {}
 
 /// States that the file of a run has the modems' messages of its steps, and the replies and MAPs of its outputs, in order.

@@ -76,8 +76,7 @@ opened_sid row flows sets = if is_some sets.admitted then least_free_of row.sids
 -- one flow more, under this SFID
 abbrev pub and_under : RowFields → List (ℕ × OpenedFlow) → Modem → SetsFields → Option ℕ → List (ℕ × OpenedFlow)
 and_under row flows modem sets None = flows
-and_under row flows modem sets (Some sfid) = insert_entry nat_cmp flows sfid
-    (record { modem = modem; sid = opened_sid row flows sets; sets = sets })
+and_under row flows modem sets (Some sfid) = insert_entry nat_cmp flows sfid (record { modem = modem; sid = opened_sid row flows sets; sets = sets })
 
 -- one flow more, under the least free SFID
 abbrev pub and_opened : RowFields → List (ℕ × OpenedFlow) → Modem → Option SetsFields → List (ℕ × OpenedFlow)
@@ -87,8 +86,7 @@ and_opened row flows modem (Some sets) = and_under row flows modem sets (least_f
 -- these provisioned flows next to those that are present, in the file's order
 abbrev pub all_opened : ConstsFields → RowFields → List (ℕ × OpenedFlow) → List Provision → List (ℕ × OpenedFlow)
 all_opened consts row flows [] = flows
-all_opened consts row flows (p ∷ provisions) = all_opened consts row (and_opened row flows p.modem (sets_of_encoding consts p.encoding))
-    provisions
+all_opened consts row flows (p ∷ provisions) = all_opened consts row (and_opened row flows p.modem (sets_of_encoding consts p.encoding)) provisions
 
 -- the flows that an operator is opened with, by SFID
 abbrev pub opened_flows : ConstsFields → RowFields → List (ℕ × OpenedFlow)

@@ -38,5 +38,4 @@ Lists places modems = (modem : Modem) → is_some (place_of places modem) ≡ is
 
 -- new is old with these modems at one place
 abbrev pub Adds : Places → ℕ → List Modem → Places → Type 0
-Adds old place modems new = (modem : Modem) → place_of new modem
-    ≡ option_or (place_of old modem) (if is_listed modem modems then Some place else None)
+Adds old place modems new = (modem : Modem) → place_of new modem ≡ option_or (place_of old modem) (if is_listed modem modems then Some place else None)

@@ -1,6 +1,5 @@
 -- What an operator is provisioned with: the keys of its row, each in its range (implementation-specific).
-use Rattle.std.specs.Prelude.{◌≤◌, ℕ, ◌+◌, ◌-◌, Bool, false, List, length, All, count_by, sum_by, Option, Some, None, IsTrue, IsSome}
-use Rattle.std.specs.Prelude.{is_some}
+use Rattle.std.specs.Prelude.{◌≤◌, ℕ, ◌+◌, ◌-◌, Bool, false, List, length, All, count_by, sum_by, Option, Some, None, IsTrue, IsSome, is_some}
 use Rattle.std.specs.List.{list_any}
 use Rattle.std.specs.Str.{bytes_eq}
 use Rattle.dsx_messages.specs.declared.modem.Modem.{Modem}

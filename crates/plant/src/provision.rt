@@ -28,8 +28,8 @@ impl Provision {
         ensures { result ≡ sets_of_encoding consts.now self.now.encoding }
     {
         let stated = read_flow(self.encoding.as_slice()).ok()?;
-        let encoding = consts.requested_encoding(&stated)?;
-        sets_of_asked(consts.get_fields().units, stated.get_set_type(), &encoding)
+        let asked = consts.requested_encoding(&stated)?;
+        sets_of_asked(consts.get_fields().units, stated.get_set_type(), &asked)
     }
 
     /// Returns the sets that the flow is opened with, as `sets` does. Takes over those of the flow
@@ -61,10 +61,10 @@ impl Provision {
 }
 
 /// Returns the sets of a flow that asks for this.
-fn sets_of_asked(units: Units, set_type: Option<u8>, encoding: &FlowTlv) -> Option<Sets>
-    ensures { result ≡ sets_of_asked units set_type encoding.now }
+fn sets_of_asked(units: Units, set_type: Option<u8>, asked: &FlowTlv) -> Option<Sets>
+    ensures { result ≡ sets_of_asked units set_type asked.now }
 {
-    let set = from_tlv(encoding, &units).ok()?;
+    let set = from_tlv(asked, &units).ok()?;
     sets_of_type(SetType::from_number(set_type?), set)
 }
 

@@ -27,8 +27,7 @@ reslicing_of change = record { from = change.from; slicing = map slice_of change
 
 -- what is gathered, with the plant's slices and with all that were given in place of those that frames to come have
 abbrev pub recorded_gathering : CoreView → List SliceChange → Gathering
-recorded_gathering live changes = record live.gathering
-    { slices = map (λ row. row.slice) live.plant.rows; reslicings = map reslicing_of changes }
+recorded_gathering live changes = record live.gathering { slices = map (λ row. row.slice) live.plant.rows; reslicings = map reslicing_of changes }
 
 -- a core without histories, with these histories and slice changes
 abbrev pub recorded_view : CoreView → List (List Entry) → List SliceChange → CoreView
@@ -45,11 +44,9 @@ pub record IsRecordOf (live : CoreView) (histories : List (List Entry)) (changes
   pub one_each : length histories ≡ length live.books
   pub books_are : map forgotten (with_histories live.books histories) ≡ live.books
   pub left : drop (length changes - length live.gathering.reslicings) (map reslicing_of changes) ≡ live.gathering.reslicings
-  pub slices_are : (frame : ℕ) → live.gathering.next ≤ frame
-      → frame_slices live.gathering frame ≡ frame_slices (recorded_gathering live changes) frame
+  pub slices_are : (frame : ℕ) → live.gathering.next ≤ frame → frame_slices live.gathering frame ≡ frame_slices (recorded_gathering live changes) frame
   pub first_are : AreSlices live.gathering.channel (length live.gathering.quotas) (map (λ row. row.slice) live.plant.rows)
-  pub later_are : All (λ reslicing. AreSlices live.gathering.channel (length live.gathering.quotas) reslicing.slicing)
-      (map reslicing_of changes)
+  pub later_are : All (λ reslicing. AreSlices live.gathering.channel (length live.gathering.quotas) reslicing.slicing) (map reslicing_of changes)
 
 -- the histories after a slice change: each with one more entry, of its own row, which outputs nothing
 abbrev pub histories_after_reslice : ℕ → List SliceRow → List (List Entry) → List (List Entry)

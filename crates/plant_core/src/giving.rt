@@ -19,8 +19,7 @@ use std::alloc::{AllocError, Global};
 /// Makes room for one more entry in each history.
 fn make_room(histories: &mut Vec<History>) -> Result<(), AllocError>
     ensures room { OnOk result (All (λ history. 0 < history.spare) histories.new.items) }
-    ensures entries { map (λ history. history.entries) histories.new.items
-        ≡ map (λ history. history.entries) histories.old.items }
+    ensures entries { map (λ history. history.entries) histories.new.items ≡ map (λ history. history.entries) histories.old.items }
 {
     for op in 0..histories.len() {
         histories[op].make_room()?;

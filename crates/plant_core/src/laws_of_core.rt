@@ -7,8 +7,8 @@ ghost use Rattle.plant_core.specs.live.Performing.{IsOf};
 ghost use Rattle.plant_core.specs.live.LiveView.{live_view};
 ghost use Rattle.plant_core.specs.CoreView.{core_view};
 
+use crate::held::PlantCore;
 use crate::live::LiveCore;
-use crate::plant_core::PlantCore;
 use operator_model::Entry;
 use plant::{Op, Plant};
 

@@ -4,17 +4,18 @@
 mod acting;
 mod core_fault;
 mod giving;
+mod held;
 mod keeping;
 mod laws_of_core;
 mod live;
 mod opening;
-mod plant_core;
 mod recorded;
 mod running;
 mod slice_change;
 mod stepping;
 
 pub use core_fault::CoreOpenFault;
+pub use held::PlantCore;
 pub use live::{
     ActPlan, CoreFault, LiveCore, ResliceFault, RestFault, ResumeFault, Unfits, books_stand_now,
     first_fault, is_same, least_meeting, live_run_is_shown, resting_core_is_at_rest,
@@ -22,7 +23,6 @@ pub use live::{
 };
 pub use opening::follow;
 pub use plant::Routes;
-pub use plant_core::PlantCore;
 pub use recorded::RecordedCore;
 pub use run_model::{
     equal_books_answer_alike, maps_are_shared_out, non_interference, opened_is_reached,

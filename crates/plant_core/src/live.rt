@@ -7,10 +7,10 @@ mod core_fault;
 mod core_memory;
 mod desk;
 mod giving;
+mod held;
 mod judging;
 mod keeping;
 mod laws;
-mod live_core;
 mod opening;
 mod planning;
 mod rest_fault;
@@ -21,11 +21,11 @@ mod stepping;
 
 pub use act_plan::ActPlan;
 pub use core_fault::{CoreFault, ResliceFault, Unfits};
+pub use held::LiveCore;
 pub use judging::{first_fault, is_same, least_meeting};
 pub use laws::{
     books_stand_now, live_run_is_shown, resting_core_is_at_rest, resumed_is_changed,
     started_core_is_after, step_goes_on, two_live_cores, two_resumed_cores,
 };
-pub use live_core::LiveCore;
 pub use rest_fault::RestFault;
 pub use resume_fault::ResumeFault;

@@ -9,8 +9,8 @@ ghost use Rattle.plant_core.specs.CoreView.{core_view};
 ghost use Rattle.plant_core.specs.RecordView.{record_view};
 
 use crate::core_fault::CoreOpenFault;
+use crate::held::PlantCore;
 use crate::live::LiveCore;
-use crate::plant_core::PlantCore;
 use crate::recorded::RecordedCore;
 use grant_policy::Ranking;
 use operator_book::History;

@@ -7,8 +7,8 @@ ghost use Rattle.plant_core.specs.live.Faults.{step_fault, IsReported};
 ghost use Rattle.plant_core.specs.live.Reachable.{LeadsOn};
 ghost use Rattle.plant_core.specs.CoreView.{core_view};
 
+use crate::held::PlantCore;
 use crate::live::CoreFault;
-use crate::plant_core::PlantCore;
 use run_model::{Out, Step};
 use std::alloc::Global;
 

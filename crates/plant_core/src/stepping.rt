@@ -10,8 +10,8 @@ ghost use Rattle.plant_core.specs.live.Reachable.{LeadsOn};
 ghost use Rattle.plant_core.specs.CoreView.{core_view};
 ghost use Rattle.plant_core.specs.RecordView.{record_view};
 
+use crate::held::PlantCore;
 use crate::live::CoreFault;
-use crate::plant_core::PlantCore;
 use crate::recorded::RecordedCore;
 use dsx_messages::Modem;
 use grant_policy::Ranking;
@@ -117,8 +117,7 @@ impl PlantCore {
         // A step of the definitions.
         ensures ok { IfOk result (λ outs. Steps step (core_view self.old) (core_view self.new) outs.items) }
         // The core stays one that a run of the plant reaches, with this step more.
-        ensures reached { IfOk result (λ outs. LeadsOn (core_view self.old) (step ∷ []) outs.items
-            (core_view self.new)) }
+        ensures reached { IfOk result (λ outs. LeadsOn (core_view self.old) (step ∷ []) outs.items (core_view self.new)) }
         ensures err { OnErr result (core_view self.new ≡ core_view self.old) }
         // Refused as a step of the live core is.
         ensures fault { IsReported result (step_fault (core_view self.old) step) }

@@ -65,7 +65,7 @@ impl PassedCell {
         ensures of { IsOfCell (cell_of self.now) (pass_of pass.new) }
         ensures looks { LooksOn (pass_of pass.old) (pass_of pass.new) }
         ensures ended_cell { (pass_of pass.new).ended_cell ≡ (pass_of pass.old).ended_cell }
-        ensures copy { IfOk result (λ copied. copied ≡ action.now) }
+        ensures copy { IfOk result (λ told. told ≡ action.now) }
         // If memory ran out before the turn, the cell stays open.
         ensures err { IfErr result (RefusesBeforeTurn (pass_of pass.new)) }
         ensures mine { (stranger : Modem) → result ≢ Err (refusals.Book (faults.NotMine stranger)) }
@@ -76,7 +76,7 @@ impl PassedCell {
             return Err(CellFault::Closed);
         }
         match action.copy(alloc) {
-            Ok(copied) => Ok(copied),
+            Ok(told) => Ok(told),
             Err(_) => Err(CellFault::Book(BookFault::NoMemory)),
         }
     }
@@ -95,8 +95,7 @@ impl PassedCell {
         ensures of { IsOfCell (cell_of self.now) (pass_of pass.new) }
         // There is a history that begins with all that the pass had seen, is a run of the operator's own machine, and
         // ends with this action and the receipt's outputs, at the receipt's index.
-        ensures ok { IfOk result (λ r. ActsInTurn (pass_of pass.old) (actions.Arrive modem heard) r
-            (pass_of pass.new)) }
+        ensures ok { IfOk result (λ r. ActsInTurn (pass_of pass.old) (actions.Arrive modem heard) r (pass_of pass.new)) }
         // What the refusal leaves. Out of memory closes the cell by its own turn, or leaves it open. No clause excludes
         // that `Closed` comes in place of another refusal: tests do.
         ensures err { IfErr result (λ fault. RefusesArrival (pass_of pass.old) fault (pass_of pass.new)) }
@@ -114,14 +113,14 @@ impl PassedCell {
             return Err(CellFault::Book(BookFault::NotMine { modem }));
         }
         let action = Action::Arrive { modem, heard };
-        let copied = match self.copy_if_open(alloc, pass, &action) {
-            Ok(copied) => copied,
+        let told = match self.copy_if_open(alloc, pass, &action) {
+            Ok(told) => told,
             Err(fault) => return Err(fault),
         };
         let (index, outputs) = turns::act(rt, alloc, &self.table.shared, &mut pass.seat, action)?;
         Ok(Receipt {
             index,
-            action: copied,
+            action: told,
             outputs,
         })
     }

@@ -3,7 +3,7 @@ use Rattle.std.proofs.Common.{◌≡◌, ℕ, ◌+◌, ◌≤◌, List, length, 
 use Rattle.plant_restart.proofs.Common.{get_or-take, length-take-le, All-take, recursion_from_All, PlantFields, OperatorState, Operator, at_place, ResumeFault, first_from, GoesAlong, GoTogether, slices_now, slices_next, IsOddFault, IsSliceFault, IsResumeFault, RestartFault, State, Core, NoMemory, operators_by_name, IsRestartFault, CanRestart}
 use Rattle.slice_scheduler.specs.Minislots.{Minislots}
 use Rattle.plant.specs.declared.consts.Channel.{Channel}
-use Rattle.state_judge.specs.Resuming.{IsStateUnder}
+use Rattle.operator_book.specs.Resuming.{IsStateUnder}
 use Rattle.map_assembly.specs.Plan.{AreSlices, IsInFrame, IsFirstInvalid}
 use Rattle.plant_core.specs.declared.live.resume_fault.ResumeFault.TheVariants as resume
 

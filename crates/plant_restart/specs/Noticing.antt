@@ -26,8 +26,7 @@ pub record IsRunOverChange (row : RowFields) (before after : Period) : Type 0 wh
 -- the operator goes on in the state in which it was
 abbrev pub ChangeKeepsState : Type 0
 ChangeKeepsState = (row : RowFields) (before after : Period) → IsRunOverChange row before after
-    → after.start.state row ≡ state_now (record { plant = before.plant; start = before.start; steps = before.steps; outs = before.outs })
-    before.place row
+    → after.start.state row ≡ state_now (record { plant = before.plant; start = before.start; steps = before.steps; outs = before.outs }) before.place row
 
 -- the operator notices the same as in any other course of periods in which it starts as before the change and has the same own steps:
 -- of other operators, changed in any way, at any time, or never

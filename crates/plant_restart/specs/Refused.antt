@@ -4,8 +4,8 @@ use Rattle.plant.specs.declared.consts.ConstsFields.{ConstsFields}
 use Rattle.plant.specs.declared.operator_row.RowFields.{RowFields}
 use Rattle.plant.specs.declared.plant.PlantFields.{PlantFields}
 use Rattle.operator_model.specs.State.{OperatorState}
-use Rattle.state_judge.specs.declared.state_fault.StateFault.{StateFault}
-use Rattle.state_judge.specs.RowFaults.{row_faults}
+use Rattle.operator_book.specs.declared.state_fault.StateFault.{StateFault}
+use Rattle.operator_book.specs.RowFaults.{row_faults}
 use Rattle.plant_restart.specs.declared.refusing.RefusedState.{RefusedState}
 use Rattle.plant_restart.specs.ByName.{state_under}
 
@@ -21,8 +21,7 @@ refused_under consts op row (Some state) = map (refused_state op) (row_faults co
 -- those of the state under each row's name, of rows from this place on
 abbrev pub refused_from : ConstsFields → List (List ℕ × OperatorState) → ℕ → List RowFields → List RefusedState
 refused_from consts states op [] = []
-refused_from consts states op (row ∷ rows) = refused_under consts op row (state_under states row.name)
-    ++ refused_from consts states (op + 1) rows
+refused_from consts states op (row ∷ rows) = refused_under consts op row (state_under states row.name) ++ refused_from consts states (op + 1) rows
 
 -- for each row of a plant, the faults that the state under its name has (`row_faults`), each with the place of the row
 abbrev pub refused_states : PlantFields → List (List ℕ × OperatorState) → List RefusedState

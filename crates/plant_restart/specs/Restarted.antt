@@ -4,8 +4,8 @@ use Rattle.plant.specs.declared.consts.ConstsFields.{ConstsFields}
 use Rattle.plant.specs.declared.operator_row.RowFields.{RowFields}
 use Rattle.plant.specs.declared.plant.PlantFields.{PlantFields}
 use Rattle.operator_model.specs.State.{OperatorState}
-use Rattle.state_judge.specs.declared.state_fault.StateFault.{StateFault}
-use Rattle.state_judge.specs.Resuming.{IsStateUnder, state_fault}
+use Rattle.operator_book.specs.declared.state_fault.StateFault.{StateFault}
+use Rattle.operator_book.specs.Resuming.{IsStateUnder, state_fault}
 use Rattle.map_assembly.specs.Plan.{AreSlices}
 use Rattle.run_model.specs.Places.{AtEachOperator}
 use Rattle.run_model.specs.IsStateAfter.{CoreView}
@@ -45,8 +45,7 @@ pub record IsWrongUnder (consts : ConstsFields) (states : List (List ℕ × Oper
   pub wrong : IsWrongState consts row state why
 
 -- that of the operator at this place
-pub record IsRefusedState (consts : ConstsFields) (rows : List RowFields) (states : List (List ℕ × OperatorState)) (op : ℕ)
-    (why : StateFault) : Type 0 where
+pub record IsRefusedState (consts : ConstsFields) (rows : List RowFields) (states : List (List ℕ × OperatorState)) (op : ℕ) (why : StateFault) : Type 0 where
   pub row : RowFields
   pub row_is : slice_get rows op ≡ Some row
   pub wrong : IsWrongUnder consts states row why
@@ -66,8 +65,7 @@ IsRowsFault consts states rows NoMemory = ⊤
 -- what each refusal of a restart says
 abbrev pub IsRestartFault : PlantFields → ℕ → List (List ℕ × OperatorState) → RestartFault → Type 0
 IsRestartFault plant frame states (State op why) = IsRefusedState plant.consts plant.rows states op why
-IsRestartFault plant frame states (Core why) = IsResumeFault plant frame (operators_by_name plant frame states) why
-    × (why ≢ resume.NoMemory)
+IsRestartFault plant frame states (Core why) = IsResumeFault plant frame (operators_by_name plant frame states) why × (why ≢ resume.NoMemory)
 IsRestartFault plant frame states NoMemory = ⊤
 
 -- each state under an operator's name is one of its row, and the operators go together: all are at the frame, which is not before the

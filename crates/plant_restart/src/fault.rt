@@ -4,9 +4,9 @@ ghost use Rattle.std.specs.Prelude.{◌≡◌};
 ghost use Rattle.plant_restart.specs.declared.fault.SaveFault.TheVariants as save_faults;
 ghost use Rattle.plant_restart.specs.declared.fault.RestartFault.TheVariants as restart_faults;
 
+use operator_book::StateFault;
 use plant::{Op, OperatorName};
 use plant_core::{RestFault, ResumeFault};
-use state_judge::StateFault;
 use std::alloc::{AllocError, AllocFailed};
 
 /// Why the states of a core are not saved.

@@ -9,10 +9,10 @@ ghost use Rattle.plant_restart.specs.Refused.{refused_state, refused_under, refu
 
 use crate::restarting::state_under;
 use crate::saving::states_to_save;
+use operator_book::{StateFault, row_faults};
 use plant::{Consts, Op, OperatorRow, Plant};
 use plant_core::LiveCore;
 use snapshot_format::SavedOperator;
-use state_judge::{StateFault, row_faults};
 use std::alloc::{AllocError, Global};
 
 /// Why an operator does not go on in its state under its row of another plant.
@@ -89,8 +89,7 @@ pub fn refused_states(
     // If the core rests, these are the faults of all states under the rows of the plant.
     ensures rests { IfOk result (λ refused. (frame : ℕ) → Rests (live_view core.now) frame
         → refused.items ≡ refused_states plant.now (states_by_name (live_view core.now))) }
-    ensures restless { IfOk result (λ refused. ((frame : ℕ) → ¬ Rests (live_view core.now) frame)
-        → refused.items ≡ []) }
+    ensures restless { IfOk result (λ refused. ((frame : ℕ) → ¬ Rests (live_view core.now) frame) → refused.items ≡ []) }
 {
     let Ok(frame) = core.resting_frame() else {
         return Ok(Vec::new(alloc));

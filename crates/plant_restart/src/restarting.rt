@@ -1,10 +1,9 @@
 //! Starts a core in given states of its operators, by their names.
 
-ghost use Rattle.std.specs.Prelude.{◌≡◌, ◌↔◌, ◌⊎◌, map, All, IsTrue, Some, IfOk, IfErr};
+ghost use Rattle.std.specs.Prelude.{◌≡◌, ◌↔◌, map, All, IsTrue, IfOk, IfErr};
 ghost use Rattle.plant.specs.Row.{IsRowOf};
 ghost use Rattle.operator_model.specs.State.{operator};
-ghost use Rattle.state_judge.specs.declared.state_fault.StateFault.TheVariants as state_faults;
-ghost use Rattle.state_judge.specs.Resuming.{state_fault, IsStateUnder};
+ghost use Rattle.operator_book.specs.declared.state_fault.StateFault.TheVariants as state_faults;
 ghost use Rattle.plant_core.specs.declared.live.resume_fault.ResumeFault.TheVariants as resume_faults;
 ghost use Rattle.plant_core.specs.live.LiveOperator.{sound_of};
 ghost use Rattle.plant_core.specs.live.LiveView.{live_view};
@@ -14,11 +13,10 @@ ghost use Rattle.plant_restart.specs.Restarted.{IsFaultOfState, IsRowFault, IsRo
 
 use crate::copying::state_to_resume;
 use crate::fault::RestartFault;
-use operator_book::{Machine, StateView};
+use operator_book::{Machine, StateFault, StateView};
 use plant::{Consts, Op, OperatorName, OperatorRow, Plant, is_same_name};
 use plant_core::{LiveCore, ResumeFault};
 use snapshot_format::SavedOperator;
-use state_judge::{StateFault, StateTables, judge_state};
 use std::alloc::{AllocError, Global};
 
 /// Returns whether memory ran out as a state was resumed.
@@ -53,25 +51,6 @@ pub(crate) fn state_under(
     Ok(None)
 }
 
-/// Returns the machine of an operator that goes on from a state under this row, or the fault of the
-/// state.
-fn resumed_machine(
-    alloc: Global,
-    row: &OperatorRow,
-    consts: &Consts,
-    state: StateView,
-) -> Result<Machine, StateFault>
-    ensures ok { IfOk result (λ live. live.sound ≡ operator consts.now row.now state) }
-    // The fault is the first one of the state in a stated order, or memory ran out.
-    ensures fault { IfErr result (λ f. (f ≡ state_faults.NoMemory) ⊎ (state_fault consts.now row.now state ≡ Some f)) }
-    // No other fault than memory comes of a sound state whose responses are as the cache keeps them, and whose
-    // modems the row lists.
-    ensures only { IsStateUnder consts.now row.now state → IfErr result (λ fault. fault ≡ state_faults.NoMemory) }
-{
-    let StateTables { flows, kept } = judge_state(alloc, row, consts, &state)?;
-    Ok(Machine::resume(alloc, row, consts, flows, kept, state)?)
-}
-
 /// Returns the machine of an operator that goes on in this state.
 fn machine_in_state(
     alloc: Global,
@@ -83,7 +62,7 @@ fn machine_in_state(
     ensures ok { IfOk result (λ machine. machine.sound ≡ operator consts.now row.now state) }
     ensures fault { IfErr result (IsFaultOfState consts.now op row.now state) }
 {
-    match resumed_machine(alloc, row, consts, state) {
+    match Machine::resume(alloc, row, consts, state) {
         Ok(machine) => Ok(machine),
         Err(why) => {
             if is_state_memory(why) {
@@ -149,8 +128,7 @@ pub(crate) fn restart(
     frame: u32,
     operators: &[SavedOperator],
 ) -> Result<LiveCore, RestartFault>
-    ensures ok { IfOk result (λ core. IsRestarted plant frame (map (saved_by_name frame) operators.now)
-        (live_view core)) }
+    ensures ok { IfOk result (λ core. IsRestarted plant frame (map (saved_by_name frame) operators.now) (live_view core)) }
     ensures fault { IfErr result (IsRestartFault plant frame (map (saved_by_name frame) operators.now)) }
 {
     let machines = machines_by_name(alloc, plant.rows(), plant.consts(), frame, operators)?;

@@ -45,8 +45,7 @@ pub fn save(alloc: Global, core: &LiveCore, plant_text: Bytes) -> Result<Snapsho
     // Memory is asked for where the core rests, and there the only fault is out of memory.
     ensures memory { result ≡ Err save_faults.NoMemory → (frame : ℕ) × Rests (live_view core.now) frame }
     // A core that rests is refused only if memory runs out.
-    ensures only { (frame : ℕ) → Rests (live_view core.now) frame
-        → IfErr result (λ fault. fault ≡ save_faults.NoMemory) }
+    ensures only { (frame : ℕ) → Rests (live_view core.now) frame → IfErr result (λ fault. fault ≡ save_faults.NoMemory) }
 {
     let frame = match core.resting_frame() {
         Ok(frame) => frame,

@@ -1,10 +1,10 @@
 -- The names that several proofs of this crate cite, passed on from one place. Declares nothing.
 pub use Rattle.clap.specs.Walk.{texts}
-pub use Rattle.diagnostics.specs.command_line.CommandLine.{NamesOrder, AsksHelp, AreWrong, GivesOrder, GivesHelp, GivesWrong}
-pub use Rattle.diagnostics.specs.command_line.Order.{Order, order_of}
-pub use Rattle.diagnostics.specs.declared.command_line.asked.RunReport.TheVariants.{History, Trace}
-pub use Rattle.diagnostics.specs.declared.command_line.asked.BatchWord.{BatchWord}
-pub use Rattle.diagnostics.specs.declared.command_line.asked.WordsFault.{WordsFault}
+pub use Rattle.command_line.specs.CommandLine.{NamesOrder, AsksHelp, AreWrong, GivesOrder, GivesHelp, GivesWrong}
+pub use Rattle.command_line.specs.Order.{Order, order_of, serve, batch_order}
+pub use Rattle.command_line.specs.declared.asked.RunReport.TheVariants.{History, Trace}
+pub use Rattle.command_line.specs.declared.asked.Word.{Word}
+pub use Rattle.command_line.specs.declared.asked.WordsFault.{WordsFault}
 pub use Rattle.line_service.proofs.LeftLemmas.{first_left, none_left, take_next, drop_next, count_next}
 pub use Rattle.line_service.proofs.StepLemmas.{fault_is_told}
 pub use Rattle.line_service.specs.Steps.{IsStepsEndAt, HasDone}
@@ -28,13 +28,13 @@ pub use Rattle.plant_script.specs.Run.{IsEndStatus, IsCapturedRunOf, memory_line
 pub use Rattle.plant_script.specs.Statuses.{status_code}
 pub use Rattle.plant_script.specs.Task.{IsWritten, EndsRun, RunsTo, WritesOutcome, Comes, history_at, IsEnded, noted_script}
 pub use Rattle.plant_script.specs.Traced.{EndsTraceBy, IsTracedRunOf, EndsTraced}
-pub use Rattle.plant_script.specs.Words.{AnswersWith, AnswersSteps, AnswersOperator}
+pub use Rattle.plant_script.specs.Words.{AnswersWith, AnswersFront, AnswersServe, AnswersSteps, AnswersOperator}
 pub use Rattle.plant_script.specs.declared.answer.Answer.{Answer}
 pub use Rattle.plant_script.specs.declared.input_outcome.InputOutcome.{InputOutcome}
 pub use Rattle.plant_workers.specs.audit.Outcome.{ticks_of, IsOutcome}
 pub use Rattle.plant_workers.specs.audit.Outs.{outs_from, outs_of}
 pub use Rattle.run_model.specs.IsStateAfter.{CoreView, IsStateAfter}
-pub use Rattle.run_model.specs.Starts.{first_start}
+pub use Rattle.run_model.specs.Starts.{first_start, Start}
 pub use Rattle.run_model.specs.declared.step.Out.{Out}
 pub use Rattle.run_model.specs.declared.step.Step.{Step}
 pub use Rattle.plant_workers.specs.plan.Spending.{IsSpentAt, IsFirstSpent, is_reslice, before_reslice}

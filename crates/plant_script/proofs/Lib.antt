@@ -5,7 +5,7 @@ pub mod LiveRuns
 pub mod Reached
 pub mod RefusedSteps
 pub mod RunSoFar
-pub mod ScriptRuns
+pub mod Services
 pub mod StepRuns
 pub mod Tasks
 pub mod Telling

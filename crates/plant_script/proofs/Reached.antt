@@ -1,12 +1,9 @@
 -- How far the program comes, and what it has written then.
 use Rattle.std.proofs.Common.{◌≡◌, ◌≢◌, ◌⊎◌, inl, inr, ℕ, Bool, List, [], ◌++◌, Option, Some, None, IfSome, Result, Ok, Err, IfOk, refl, sym, subst, ◌∙◌}
-use Rattle.plant_script.proofs.Common.{MatchResult, Appends, Order, order_of, BatchWord, WordsFault, NamesOrder, AsksHelp, AreWrong, GivesOrder, GivesHelp, GivesWrong, Answer, memory_line, status_code, IsThreadedRunOf, RunsTo, IsWritten, WritesOutcome, Comes, AnswersWith, RunsOut, AnswersRead, AnswersOrder, EndsOrder, ReachesOrder, Completes, AnswersWords, ReachesWords}
+use Rattle.plant_script.proofs.Common.{MatchResult, Appends, Order, order_of, Word, WordsFault, NamesOrder, AsksHelp, AreWrong, GivesOrder, GivesHelp, GivesWrong, Answer, memory_line, status_code, IsThreadedRunOf, RunsTo, IsWritten, WritesOutcome, Comes, AnswersWith, RunsOut, AnswersRead, AnswersOrder, EndsOrder, ReachesOrder, Completes, AnswersWords, ReachesWords}
 use Rattle.plant_script.specs.declared.progress.Progress.{Progress}
 use Rattle.plant_script.specs.declared.progress.Progress.TheVariants.{Ended, Threads}
 use Rattle.plant_script.specs.declared.input_outcome.InputOutcome.TheVariants as outcomes
-use Rattle.diagnostics.specs.command_line.Order.{threads}
-use Rattle.diagnostics.specs.declared.command_line.asked.BatchWord.TheVariants as batch
-use Rattle.diagnostics.specs.declared.command_line.asked.RunReport.TheVariants as report
 use Rattle.plant_script.specs.declared.input_outcome.Task.{Task}
 use Rattle.plant_script.proofs.Tasks.{same_order}
 
@@ -60,7 +57,7 @@ task_ends order read failed task script status wrote comes told = inr (written_a
 -- ---- words
 
 -- words that give an order are answered as the order is
-module _ (words : List (List ℕ)) (read : Option (List ℕ)) (word : BatchWord) (result : Result BatchWord WordsFault) (is : result ≡ Ok word) (names : NamesOrder words (order_of word))
+module _ (words : List (List ℕ)) (read : Option (List ℕ)) (word : Word) (result : Result Word WordsFault) (is : result ≡ Ok word) (names : NamesOrder words (order_of word))
     (named : (order : Order) → NamesOrder words order → GivesOrder order result) (help : AsksHelp words → GivesHelp result) (wrong : AreWrong words → GivesWrong result) where
   no_help : {P : Type 0} → AsksHelp words → P
   no_help asks = let given : GivesHelp (Ok word) = subst GivesHelp is (help asks) in absurd given
@@ -124,38 +121,3 @@ words_completed words read (Ok progress) status w0 w1 w2 reaches completes no_io
         let from_old : IsWritten (IsThreadedRunOf plant lines.items) status (λ text. Appends w0 w2 text) =
         subst (λ (w : Option (List ℕ)). IsWritten (IsThreadedRunOf plant lines.items) status (λ text. Appends w w2 text)) same told in
         (answers status w2 from_old).1
-
--- ---- an order alone
-
--- an order other than `threads` has ended
-pub order_ended : (order : Order) (read : Option (List ℕ)) (failed : Bool) (status : ℕ) (wrote : List ℕ → Type 0) → EndsOrder order read failed status wrote → status ≢ 6
-    → AnswersOrder order read status wrote
-order_ended order read failed status wrote (inl (six, why, told)) no_io = absurd (no_io six)
-order_ended order read failed status wrote (inr answers) no_io = answers
-
--- only one word orders `threads`
-pub threads_word : (word : BatchWord) → order_of word ≡ threads → word ≡ batch.Threads
-threads_word batch.One is = cc
-threads_word batch.Check is = cc
-threads_word batch.Threads is = refl
-threads_word (batch.Run report.Outputs) is = cc
-threads_word (batch.Run report.Capture) is = cc
-threads_word (batch.Run report.Trace) is = cc
-threads_word (batch.Run (report.History operator)) is = cc
-
--- what was reached of an order is completed
-pub order_completed : {E : Type 0} (order : Order) (read : Option (List ℕ)) (reached : Result Progress E) (status : ℕ) (w0 w1 w2 : Option (List ℕ))
-    → IfOk reached (λ progress. ReachesOrder order read progress w0 w1)
-    → MatchResult reached (λ progress. Completes progress status w1 w2) (λ error. ⊥) → status ≢ 6 → AnswersOrder order read status (λ text. Appends w0 w2 text)
-order_completed order read (Err error) status w0 w1 w2 reaches completes no_io = absurd completes
-order_completed order read (Ok progress) status w0 w1 w2 reaches completes no_io = by progress reaches completes
-  where
-    by : (p : Progress) → ReachesOrder order read p w0 w1 → Completes p status w1 w2 → AnswersOrder order read status (λ text. Appends w0 w2 text)
-    by (Ended ended failed) (inl unread) (is, same) = absurd (no_io (is ∙ unread.0))
-    by (Ended ended failed) (inr answers) (is, same) =
-        subst (λ (w : Option (List ℕ)). AnswersOrder order read status (λ text. Appends w0 w text)) (sym same)
-        (subst (λ (n : ℕ). AnswersOrder order read n (λ text. Appends w0 w1 text)) (sym is) answers)
-    by (Threads plant lines) (same, named, comes) told =
-        let from_old : IsWritten (IsThreadedRunOf plant lines.items) status (λ text. Appends w0 w2 text) =
-        subst (λ (w : Option (List ℕ)). IsWritten (IsThreadedRunOf plant lines.items) status (λ text. Appends w w2 text)) same told in
-        written_answers order read (IsThreadedRunOf plant lines.items) status (λ text. Appends w0 w2 text) comes from_old

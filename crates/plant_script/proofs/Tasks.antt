@@ -1,6 +1,6 @@
 -- What a task's run answers.
 use Rattle.std.proofs.Common.{◌≡◌, ℕ, suc, ◌+◌, inl, inr, Bool, List, [], ◌∷◌, Option, Some, Result, Ok, subst, arith, refl}
-use Rattle.plant_script.proofs.Common.{slice_get, position_from, cases_Bool, RowFields, PlantFields, LineStep, history_text, History, InputOutcome, IsScriptRun, history_at, RunsTo, Comes, Order, order_of, BatchWord, WordsFault, GivesOrder, AnswersSteps, status_code}
+use Rattle.plant_script.proofs.Common.{slice_get, position_from, cases_Bool, RowFields, PlantFields, LineStep, history_text, History, InputOutcome, IsScriptRun, history_at, RunsTo, Comes, Order, order_of, Word, WordsFault, GivesOrder, AnswersSteps, status_code}
 use Rattle.plant_script.specs.declared.input_outcome.InputOutcome.TheVariants as outcomes
 
 same_some : {A : Type 0} (x y : A) → ◌≡◌ {A = Option A} (Some x) (Some y) → x ≡ y
@@ -38,5 +38,5 @@ comes_of_operator plant op row script lines (outcomes.Task task) here h = λ sta
 comes_of_operator plant op row script lines (outcomes.Threads threaded steps) here h = λ status text run. (row, here, subst (TellsOf plant op lines status text) here (h status text run))
 
 -- the word that was read is the order
-pub same_order : (order : Order) (read : Result BatchWord WordsFault) (word : BatchWord) → GivesOrder order read → read ≡ Ok word → order_of word ≡ order
+pub same_order : (order : Order) (read : Result Word WordsFault) (word : Word) → GivesOrder order read → read ≡ Ok word → order_of word ≡ order
 same_order order read word gives is = subst (GivesOrder order) is gives

@@ -2,7 +2,7 @@
 use Rattle.std.proofs.Common.{◌≡◌, ◌⊎◌, inl, inr, ℕ, List, ◌++◌, Option, Some, None, refl, sym, ap, subst, ◌∙◌}
 use Rattle.plant_script.proofs.Common.{slice_get, Appends, Appends-trans, PlantFields, CoreView, LineStep, StepsEnd, IsStepsEndAt, Trace, memory_line, EndsBy, status_of, line_of, EndsTraceBy, IsTracedRunOf, EndsTraced, RunsTo, IsWritten}
 use Rattle.line_service.specs.declared.steps_end.StepsEnd.TheVariants as ends
-use Rattle.operator_model.specs.declared.check.Decision.{Decision}
+use Rattle.trace_report.specs.declared.decision.Decision.{Decision}
 use Rattle.trace_report.specs.Trace.{HasNoWords, IsTraceEndAt, HasTraced}
 use Rattle.plant_script.proofs.LiveRuns.{no_five, no_six}
 

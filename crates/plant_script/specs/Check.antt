@@ -5,9 +5,7 @@ use Rattle.toml.specs.Parse.{parse_document}
 use Rattle.dsx_messages.specs.Modem.{hex_digits}
 use Rattle.plant.specs.declared.plant.PlantFields.{PlantFields}
 use Rattle.slice_table.specs.declared.plant_fault.PlantFault.{PlantFault}
-use Rattle.slice_table.specs.declared.plant_fault.PlantFault.TheVariants.{NotToml, Missing, BadValue, SlicesMeet, SidsMeet, SfidsMeet}
-use Rattle.slice_table.specs.declared.plant_fault.PlantFault.TheVariants.{ModemTwice, TooManyElements, BudgetOverSlice, ProvisionedOver}
-use Rattle.slice_table.specs.declared.plant_fault.PlantFault.TheVariants.{NoMemory}
+use Rattle.slice_table.specs.declared.plant_fault.PlantFault.TheVariants.{NotToml, Missing, BadValue, SlicesMeet, SidsMeet, SfidsMeet, ModemTwice, TooManyElements, BudgetOverSlice, ProvisionedOver, NoMemory}
 use Rattle.slice_table.specs.Keys.{key_text}
 use Rattle.slice_table.specs.ReadPlant.{text_plant}
 use Rattle.line_service.specs.declared.script.script.LineStep.{LineStep}

@@ -22,8 +22,7 @@ IsRefused core None refused = refused ≡ None
 IsRefused core (Some line) refused = (refused ≡ Some line.number) × IsSome (step_fault core line.step)
 
 -- so many of the lines' steps are done, and no more
-pub record HasRun (plant : PlantFields) (lines : List LineStep) (say : List Out
-    → List ℕ) (refused : Option ℕ) (core : CoreView) (text : List ℕ) : Type 0 where
+pub record HasRun (plant : PlantFields) (lines : List LineStep) (say : List Out → List ℕ) (refused : Option ℕ) (core : CoreView) (text : List ℕ) : Type 0 where
   pub at : ℕ
   pub done : AreDone plant (take at lines) say core text
   pub ends : IsRefused core (slice_get lines at) refused
@@ -42,8 +41,7 @@ pub record AreCaptured (plant : PlantFields) (lines : List LineStep) (core : Cor
   pub of_run : CapturesRun plant (steps_without_numbers lines) outs captured
 
 -- so many of the lines' steps are done, and no more
-pub record HasCaptured (plant : PlantFields) (lines : List LineStep) (refused : Option ℕ) (core : CoreView)
-    (captured : CaptureView) : Type 0 where
+pub record HasCaptured (plant : PlantFields) (lines : List LineStep) (refused : Option ℕ) (core : CoreView) (captured : CaptureView) : Type 0 where
   pub at : ℕ
   pub done : AreCaptured plant (take at lines) core captured
   pub ends : IsRefused core (slice_get lines at) refused

@@ -6,6 +6,7 @@ pub mod One
 pub mod OperatorA
 pub mod Reaching
 pub mod Run
+pub mod Serving
 pub mod Statuses
 pub mod Task
 pub mod Traced

@@ -73,8 +73,7 @@ ReportsCore plant lines status text =
     ⊎ (NoneSpentBefore plant (steps_without_numbers lines) (length lines) × ReportsStray (codes "-") (codes "-") status text)
 
 -- the new slices of the line at this place are refused, for the core's own fault of them after the steps before
-pub record ReportsReslice (plant : PlantFields) (lines : List LineStep) (at : ℕ) (fault : ResliceFault) (status : ℕ)
-    (text : List ℕ) : Type 0 where
+pub record ReportsReslice (plant : PlantFields) (lines : List LineStep) (at : ℕ) (fault : ResliceFault) (status : ℕ) (text : List ℕ) : Type 0 where
   pub refused : IsResliceFault plant (steps_without_numbers lines) at fault
   pub reports : ReportsPlace lines at status text
 
@@ -83,8 +82,7 @@ pub record ReportsReslice (plant : PlantFields) (lines : List LineStep) (at : �
 abbrev pub ReportsFault : PlantFields → List LineStep → RunFault → ℕ → List ℕ → Type 0
 ReportsFault plant lines (faults.Strayed op index) status text =
     ReportsStray (operator_name (slice_get plant.rows op)) (refused_place_text (Some index)) status text
-ReportsFault plant lines (faults.Short op) status text =
-    ReportsStray (operator_name (slice_get plant.rows op)) (refused_place_text None) status text
+ReportsFault plant lines (faults.Short op) status text = ReportsStray (operator_name (slice_get plant.rows op)) (refused_place_text None) status text
 ReportsFault plant lines (faults.MapStrayed frame) status text = ReportsStray (codes "-") (decimal frame) status text
 ReportsFault plant lines (faults.Core fault) status text = ReportsCore plant lines status text
 ReportsFault plant lines (faults.ResliceRefused at fault) status text = ReportsReslice plant lines at fault status text
@@ -103,6 +101,5 @@ pub record HasFault (plant : PlantFields) (lines : List LineStep) (status : ℕ)
 pub record IsThreadedRunOf (plant : PlantFields) (lines : List LineStep) (status : ℕ) (text : List ℕ) : Type 0 where
   pub comes : HasSettled plant lines status text ⊎ HasFault plant lines status text
   pub unserved : (fault : CoreFault) → IsFirstUnserved plant (steps_without_numbers lines) fault → ReportsCore plant lines status text
-  pub spent : (place : ℕ) → IsServable plant (steps_without_numbers lines)
-      → IsFirstSpent plant (before_reslice (steps_without_numbers lines)) place
+  pub spent : (place : ℕ) → IsServable plant (steps_without_numbers lines) → IsFirstSpent plant (before_reslice (steps_without_numbers lines)) place
       → ReportsSpent plant lines place status text

@@ -2,10 +2,10 @@
 use Rattle.std.specs.Prelude.{◌≡◌, ◌≢◌, ◌⊎◌, ⊤, ℕ, List, [], ◌∷◌, ◌++◌, Bool, true, false, Option, IfSome, codes}
 use Rattle.std.specs.Io.KnownBytes.{Appends}
 use Rattle.std.specs.String.{string_bytes}
-use Rattle.diagnostics.specs.declared.command_line.asked.WordsFault.{WordsFault}
-use Rattle.diagnostics.specs.declared.command_line.asked.WordsFault.TheVariants as faults
-use Rattle.diagnostics.specs.command_line.Order.{Order, threads}
-use Rattle.diagnostics.specs.command_line.CommandLine.{NamesOrder, AsksHelp, AreWrong}
+use Rattle.command_line.specs.declared.asked.WordsFault.{WordsFault}
+use Rattle.command_line.specs.declared.asked.WordsFault.TheVariants as faults
+use Rattle.command_line.specs.Order.{Order, serve, threads}
+use Rattle.command_line.specs.CommandLine.{NamesOrder, AsksHelp, AreWrong}
 use Rattle.plant_script.specs.declared.progress.Progress.{Progress}
 use Rattle.plant_script.specs.declared.progress.Progress.TheVariants.{Ended, Threads}
 use Rattle.plant_script.specs.One.{is_readable}
@@ -31,21 +31,21 @@ abbrev pub AnswersOrder : Order → Option (List ℕ) → ℕ → (List ℕ → 
 AnswersOrder order read status wrote =
     ((status ≡ 5) × RunsOut order read wrote) ⊎ ((status ≢ 5) × (status ≢ 6) × AnswersRead order read status wrote)
 
--- The input is lacking: a read failed, or the input is too long or not UTF-8.
-abbrev pub LacksInput : Option (List ℕ) → Bool → Type 0
-LacksInput read failed = (failed ≡ true) ⊎ IfSome read (λ input. is_readable input ≡ false)
+-- The input is lacking: a read failed, or the input is too long or not UTF-8. Of the plant file that `serve` reads it is not said why.
+abbrev pub LacksInput : Order → Option (List ℕ) → Bool → Type 0
+LacksInput serve read failed = ⊤
+LacksInput order read failed = (failed ≡ true) ⊎ IfSome read (λ input. is_readable input ≡ false)
 
 -- an order has ended: with 6 the input is lacking
 abbrev pub EndsOrder : Order → Option (List ℕ) → Bool → ℕ → (List ℕ → Type 0) → Type 0
 EndsOrder order read failed status wrote =
-    ((status ≡ 6) × LacksInput read failed × wrote io_line) ⊎ AnswersOrder order read status wrote
+    ((status ≡ 6) × LacksInput order read failed × wrote io_line) ⊎ AnswersOrder order read status wrote
 
 -- an order has ended; or it is `threads`, nothing is written, and what the run of these lines results in is the answer
 abbrev pub ReachesOrder : Order → Option (List ℕ) → Progress → Option (List ℕ) → Option (List ℕ) → Type 0
 ReachesOrder order read (Ended status failed) old new = EndsOrder order read failed (status_code status) (λ text. Appends old new text)
 ReachesOrder order read (Threads plant lines) old new = (new ≡ old) × (order ≡ threads)
-    × IfSome read (λ input. (status : ℕ) (text : List ℕ) → IsThreadedRunOf plant lines.items status text
-    → AnswersWith order input status text)
+    × IfSome read (λ input. (status : ℕ) (text : List ℕ) → IsThreadedRunOf plant lines.items status text → AnswersWith order input status text)
 
 -- ---- what is left to do
 
@@ -96,7 +96,7 @@ pub record AnswersWords (words : List (List ℕ)) (read : Option (List ℕ)) (st
 -- the input of an order is lacking, and its line is written
 abbrev pub TellsUnread : List (List ℕ) → Option (List ℕ) → Bool → ℕ → (List ℕ → Type 0) → Type 0
 TellsUnread words read failed status wrote =
-    (status ≡ 6) × wrote io_line × ((order : Order) × NamesOrder words order × LacksInput read failed)
+    (status ≡ 6) × wrote io_line × ((order : Order) × NamesOrder words order × LacksInput order read failed)
 
 -- The program has ended: status 6 is for an input that is lacking, and for nothing else. Or the words are `threads`, nothing is
 -- written, and the words are answered once it is written what the run of these lines results in.

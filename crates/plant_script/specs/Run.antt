@@ -5,12 +5,9 @@ use Rattle.plant.specs.declared.plant.PlantFields.{PlantFields}
 use Rattle.run_model.specs.declared.step.Step.{Step}
 use Rattle.run_model.specs.declared.step.Out.{Out}
 use Rattle.run_model.specs.IsStateAfter.{CoreView, IsStateAfter}
-use Rattle.run_model.specs.Starts.{Start}
-use Rattle.plant_core.specs.live.After.{IsAfterFrom}
 use Rattle.plant_core.specs.live.Faults.{step_fault}
 use Rattle.line_service.specs.declared.script.script.LineStep.{LineStep}
 use Rattle.line_service.specs.script.Script.{steps_without_numbers}
-use Rattle.line_service.specs.script.Text.{outs_text}
 use Rattle.pcap_capture.specs.Capture.{IsCaptureOf}
 
 -- the run ends after the last step; or before the first one that is refused
@@ -45,8 +42,7 @@ EndsBy core next status last =
 
 -- so many steps are done, one after the other, on a core of the plant as it is opened: the run shows to each operator its own
 -- machine run alone, with all outputs in order (`IsStateAfter`). What is said of them is written, and after it the last line.
-pub record IsScriptRun (plant : PlantFields) (lines : List LineStep) (say : List Step → List Out
-    → List ℕ) (status : ℕ) (text : List ℕ) : Type 0 where
+pub record IsScriptRun (plant : PlantFields) (lines : List LineStep) (say : List Step → List Out → List ℕ) (status : ℕ) (text : List ℕ) : Type 0 where
   pub at : ℕ
   pub outs : List Out
   pub core : CoreView
@@ -54,17 +50,6 @@ pub record IsScriptRun (plant : PlantFields) (lines : List LineStep) (say : List
   pub last : List ℕ
   pub ends : EndsBy core (slice_get lines at) status last
   pub text_is : text ≡ say (steps_without_numbers (take at lines)) outs ++ last
-
--- So many steps are done, as in `IsScriptRun`, on a core that goes on from this start, as that of a snapshot does. Their outputs are
--- written, and after them the last line.
-pub record IsScriptRunFrom (plant : PlantFields) (start : Start) (lines : List LineStep) (status : ℕ) (text : List ℕ) : Type 0 where
-  pub at : ℕ
-  pub outs : List Out
-  pub live : CoreView
-  pub reached : IsAfterFrom plant start (steps_without_numbers (take at lines)) outs live
-  pub last : List ℕ
-  pub ends : EndsBy live (slice_get lines at) status last
-  pub text_is : text ≡ outs_text plant outs ++ last
 
 -- So many steps are done, as in `IsScriptRun`, and what is written is the capture of just these steps, each with its own outputs: whole,
 -- with no line after it where a step is refused.

@@ -1,8 +1,7 @@
 -- The exit statuses (implementation-specific).
 use Rattle.std.specs.Prelude.{ℕ}
 use Rattle.plant_script.specs.declared.status.Status.{Status}
-use Rattle.plant_script.specs.declared.status.Status.TheVariants.{Success, WrongArguments, InvalidPlant, InvalidLine, OutOfMemory, IoError}
-use Rattle.plant_script.specs.declared.status.Status.TheVariants.{Strayed}
+use Rattle.plant_script.specs.declared.status.Status.TheVariants.{Success, WrongArguments, InvalidPlant, InvalidLine, OutOfMemory, IoError, Strayed}
 
 -- the number of each exit status; definitions say numbers, and the code has the enum `Status`
 abbrev pub status_code : Status → ℕ

@@ -10,8 +10,8 @@ use Rattle.line_service.specs.declared.script.script.LineStep.{LineStep}
 use Rattle.line_service.specs.script.Input.{script_text}
 use Rattle.line_service.specs.script.Text.{outs_text, history_text}
 use Rattle.plant_script.specs.declared.answer.Answer.{Answer}
-use Rattle.diagnostics.specs.declared.command_line.asked.RunReport.{RunReport}
-use Rattle.diagnostics.specs.declared.command_line.asked.RunReport.TheVariants.{Outputs, Capture, Trace, History}
+use Rattle.command_line.specs.declared.asked.RunReport.{RunReport}
+use Rattle.command_line.specs.declared.asked.RunReport.TheVariants.{Outputs, Capture, Trace, History}
 use Rattle.plant_script.specs.declared.input_outcome.InputOutcome.{InputOutcome}
 use Rattle.plant_script.specs.declared.input_outcome.InputOutcome.TheVariants as outcomes
 use Rattle.plant_script.specs.Run.{memory_line, IsScriptRun, IsCapturedRunOf}
@@ -74,8 +74,7 @@ IsNotThreaded (outcomes.Threads plant lines) = ⊥
 -- the status and the text of an answer: what is said, and after it the invalid line, if there is one
 abbrev pub IsEnded : List ℕ → Option ℕ → Answer → Type 0
 IsEnded text None answer = (status_code answer.status ≡ 0) × (answer.text.items ≡ text)
-IsEnded text (Some number) answer = (status_code answer.status ≡ 4)
-    × (answer.text.items ≡ text ++ (codes "fault: line " ++ (decimal number ++ 10 ∷ [])))
+IsEnded text (Some number) answer = (status_code answer.status ≡ 4) × (answer.text.items ≡ text ++ (codes "fault: line " ++ (decimal number ++ 10 ∷ [])))
 
 -- what `run` results in is written
 abbrev pub EndsRun : PlantFields → List LineStep → ℕ → (List ℕ → Type 0) → Type 0

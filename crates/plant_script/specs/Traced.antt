@@ -5,7 +5,7 @@ use Rattle.run_model.specs.declared.step.Out.{Out}
 use Rattle.run_model.specs.IsStateAfter.{CoreView, IsStateAfter}
 use Rattle.line_service.specs.declared.script.script.LineStep.{LineStep}
 use Rattle.line_service.specs.script.Script.{steps_without_numbers}
-use Rattle.operator_model.specs.declared.check.Decision.{Decision}
+use Rattle.trace_report.specs.declared.decision.Decision.{Decision}
 use Rattle.line_service.specs.declared.steps_end.StepsEnd.TheVariants.{NoMemory}
 use Rattle.trace_report.specs.Trace.{AreDecided, IsTraceText, IsReportText, HasNoWords}
 use Rattle.plant_script.specs.Run.{memory_line, EndsBy}

@@ -7,16 +7,16 @@ use Rattle.plant.specs.declared.plant.PlantFields.{PlantFields}
 use Rattle.slice_table.specs.declared.plant_fault.PlantFault.{PlantFault}
 use Rattle.slice_table.specs.ReadPlant.{text_plant}
 use Rattle.line_service.specs.declared.script.script.LineStep.{LineStep}
-use Rattle.diagnostics.specs.command_line.Order.{Order, one, check, run, threads, capture, trace, history}
+use Rattle.command_line.specs.Order.{Order, one, check, run, threads, capture, serve, trace, history}
 use Rattle.line_service.specs.script.Input.{plant_text, script_text}
 use Rattle.line_service.specs.script.Script.{is_named, steps_of}
 use Rattle.line_service.specs.script.Text.{outs_text, history_text}
 use Rattle.plant_script.specs.One.{Answer, is_readable, answer_of}
 use Rattle.plant_script.specs.Check.{answer_to_steps, answer_to_plant, check_of}
-use Rattle.run_model.specs.Starts.{Start}
-use Rattle.plant_script.specs.Run.{io_line, IsScriptRun, IsScriptRunFrom, IsCapturedRunOf}
+use Rattle.plant_script.specs.Run.{io_line, IsScriptRun, IsCapturedRunOf}
 use Rattle.plant_script.specs.OnThreads.{IsThreadedRunOf}
 use Rattle.plant_script.specs.Traced.{IsTracedRunOf}
+use Rattle.plant_script.specs.Serving.{IsServed}
 
 -- ---- answers
 
@@ -33,10 +33,6 @@ AnswersSteps runs_to (Err number) status text = Is (answer_to_steps (Err number)
 abbrev pub AnswersRun : PlantFields → List ℕ → ℕ → List ℕ → Type 0
 AnswersRun plant script status text =
     AnswersSteps (λ lines. IsScriptRun plant lines (λ done told. outs_text plant told)) (steps_of plant script) status text
-
--- all outputs of the run on a core that goes on from this start
-abbrev pub AnswersRunFrom : PlantFields → Start → List ℕ → ℕ → List ℕ → Type 0
-AnswersRunFrom plant start script status text = AnswersSteps (IsScriptRunFrom plant start) (steps_of plant script) status text
 
 -- all outputs of the run on threads
 abbrev pub AnswersThreads : PlantFields → List ℕ → ℕ → List ℕ → Type 0
@@ -76,6 +72,15 @@ AnswersInput answers input status text =
     (AnswersPlant answers (text_plant (parse_document (plant_text input))) (script_text input) status text)
     (Is (record { status = 6; text = io_line }) status text)
 
+-- an invalid plant is reported alone; else its plant is served as long as there are lines
+abbrev pub AnswersFront : Result PlantFields PlantFault → List ℕ → ℕ → List ℕ → Type 0
+AnswersFront (Ok plant) script status text = IsServed plant script status text
+AnswersFront (Err fault) script status text = Is (answer_to_plant (Err fault) script) status text
+
+-- the plant file is judged first; that it is too long or not UTF-8 is no answer
+abbrev pub AnswersServe : List ℕ → ℕ → List ℕ → Type 0
+AnswersServe input status text = AnswersFront (text_plant (parse_document (plant_text input))) (script_text input) status text
+
 -- what each command writes for an input, and with which status
 abbrev pub AnswersWith : Order → List ℕ → ℕ → List ℕ → Type 0
 AnswersWith one input status text = Is (answer_of input) status text
@@ -83,5 +88,6 @@ AnswersWith check input status text = Is (check_of input) status text
 AnswersWith run input status text = AnswersInput AnswersRun input status text
 AnswersWith threads input status text = AnswersInput AnswersThreads input status text
 AnswersWith capture input status text = AnswersInput AnswersCapture input status text
+AnswersWith serve input status text = AnswersServe input status text
 AnswersWith trace input status text = AnswersInput AnswersTrace input status text
 AnswersWith (history operator) input status text = AnswersInput (AnswersHistory operator) input status text

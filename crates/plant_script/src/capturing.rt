@@ -81,8 +81,7 @@ pub fn answer_of_capture(
     lines: Vec<LineStep>,
 ) -> Result<Answer, AllocError>
     requires { IsStateAfter (core_view core.old).plant [] [] (core_view core.old) }
-    ensures { IfOk result (λ answer. IsCapturedRunOf (core_view core.old).plant lines.items (status_code answer.status)
-        answer.text.items) }
+    ensures { IfOk result (λ answer. IsCapturedRunOf (core_view core.old).plant lines.items (status_code answer.status) answer.text.items) }
 {
     let mut capture = Capture::open(alloc, core.plant().consts());
     let refused = run_captured(alloc, core, lines.as_slice(), &mut capture)?;

@@ -75,8 +75,7 @@ pub fn answer_to_line(alloc: Global, number: u64) -> Result<Answer, AllocError>
 
 /// Returns what is answered to the script of a plant.
 fn answer_to_script(alloc: Global, plant: Plant, script: &[u8]) -> Result<Answer, AnswerFault>
-    ensures value { IfOk result (λ answer.
-        (status_code answer.status ≡ (answer_to_steps (steps_of plant script.now)).status)
+    ensures value { IfOk result (λ answer. (status_code answer.status ≡ (answer_to_steps (steps_of plant script.now)).status)
         × (answer.text.items ≡ (answer_to_steps (steps_of plant script.now)).text)) }
     ensures memory { IfErr result (λ fault. fault ≡ Memory) }
 {

@@ -4,7 +4,7 @@ ghost use Rattle.std.proofs.Props.{props};
 ghost use Rattle.line_service.specs.script.Script.{ArePlaced};
 
 use crate::answer::Answer;
-use diagnostics::RunReport;
+use command_line::RunReport;
 use line_service::LineStep;
 use plant::{Op, Plant};
 

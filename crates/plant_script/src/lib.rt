@@ -1,7 +1,8 @@
 //! The commands of the program: each reads its input and writes its result. `one` processes the messages of one modem on a
 //! built-in plant. `check` validates a plant file and a script. `run` performs a script and prints all outputs. `threads`
 //! performs it with a thread for each operator, and prints the same operator by operator. `capture` writes the run as a pcap
-//! file. `trace` prints the check that decided each step. `history OP` prints what the operator OP did.
+//! file. `serve` keeps the plant running and answers each line as it arrives. `trace` prints the check that decided each step.
+//! `history OP` prints what the operator OP did.
 #![tactic(auto)]
 
 mod answer;
@@ -18,6 +19,7 @@ mod program;
 mod progress;
 mod rankings;
 mod running;
+mod serving;
 mod status;
 mod task;
 mod tracing;
@@ -25,10 +27,6 @@ mod tracing;
 pub use check::plant_line;
 pub use command::{behind_name, exit_code};
 pub use ending::Ending;
-pub use input::{AnswerFault, read_input};
-pub use program::{
-    run_batch, run_program, run_program_with_reasons, run_threads, run_without_threads,
-};
+pub use program::{run_program, run_program_with_reasons, run_without_threads};
 pub use progress::Progress;
-pub use running::write_script_run;
 pub use status::Status;

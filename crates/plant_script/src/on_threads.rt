@@ -155,8 +155,7 @@ fn answer_to_stray(
     index: Option<usize>,
 ) -> Result<Answer, AllocError>
     ensures { IfOk result (λ answer.
-        ReportsStray (operator_name (slice_get plant.now.rows op)) (refused_place_text index)
-        (status_code answer.status) answer.text.items) }
+        ReportsStray (operator_name (slice_get plant.now.rows op)) (refused_place_text index) (status_code answer.status) answer.text.items) }
 {
     let mut text = Vec::new(alloc);
     match put_stray(&mut text, plant, op, index) {
@@ -176,8 +175,7 @@ fn answer_of_fault(
     fault: RunFault,
 ) -> Result<Answer, AllocError>
     requires { IsFault plant.now (steps_without_numbers lines.now) fault }
-    ensures { IfOk result (λ answer. ReportsFault plant.now lines.now fault (status_code answer.status)
-        answer.text.items) }
+    ensures { IfOk result (λ answer. ReportsFault plant.now lines.now fault (status_code answer.status) answer.text.items) }
 {
     match fault {
         RunFault::Strayed { op, index } => answer_to_stray(alloc, plant, op, Some(index)),

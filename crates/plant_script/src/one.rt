@@ -86,8 +86,7 @@ fn put_message(
     ensures state { OnOk result ((view_of book.new).state
         ≡ (own_run (operator consts_a row_a (view_of book.old).state) (sent_actions (message.now ∷ []))).state) }
     ensures text { OnOk result (text.new.items ≡ text.old.items
-        ++ text_of_outputs (own_run (operator consts_a row_a (view_of book.old).state)
-        (sent_actions (message.now ∷ []))).outputs) }
+        ++ text_of_outputs (own_run (operator consts_a row_a (view_of book.old).state) (sent_actions (message.now ∷ []))).outputs) }
 {
     let heard = Heard::Message(message.copy(alloc)?);
     let modem = first_modem();

@@ -4,11 +4,11 @@ ghost use Rattle.std.specs.Prelude.{◌≡◌, ◌≢◌, ◌⊎◌, ⊤, true, 
 ghost use Rattle.clap.specs.Walk.{texts};
 ghost use Rattle.std.specs.Io.KnownBytes.{Appends};
 ghost use Rattle.plant_script.specs.Task.{noted_script, Comes, IsNotThreaded};
-ghost use Rattle.plant_script.specs.Reaching.{AnswersFault, AnswersOrder, AnswersWords, Completes, IsLeftEnded, ReachesOrder, ReachesWords};
+ghost use Rattle.plant_script.specs.Reaching.{AnswersFault, AnswersWords, Completes, IsLeftEnded, ReachesOrder, ReachesWords};
 ghost use Rattle.line_service.specs.script.Input.{script_text};
-ghost use Rattle.diagnostics.specs.declared.command_line.asked.BatchWord.TheVariants as batch;
-ghost use Rattle.diagnostics.specs.command_line.Order.{order_of, threads};
-ghost use Rattle.diagnostics.specs.command_line.CommandLine.{AsksHelp, AreWrong};
+ghost use Rattle.command_line.specs.declared.asked.BatchWord.TheVariants as batch;
+ghost use Rattle.command_line.specs.Order.{batch_order, order_of};
+ghost use Rattle.command_line.specs.CommandLine.{AsksHelp, AreWrong};
 ghost use Rattle.plant_script.specs.Words.{AnswersWith};
 ghost use Rattle.plant_script.specs.One.{answer_of, is_readable};
 ghost use Rattle.plant_script.specs.Statuses.{status_code};
@@ -22,16 +22,16 @@ use crate::on_threads::write_threads;
 use crate::one::text_of_outputs;
 use crate::progress::Progress;
 use crate::running::write_ranked;
+use crate::serving::serve_words;
 use crate::status::Status;
 use crate::task::{task_of, threads_of};
-use diagnostics::{
-    BatchWord, Trouble, WordsFault, read_words, reason_of, reason_of_trouble, reason_of_words,
-};
-use line_service::{LineFault, NoNotes, Observer, before_bar, messages_of, parts_of, script_text};
+use command_line::{BatchWord, Word, WordsFault, read_words};
+use diagnostics::{Trouble, reason_of, reason_of_trouble, reason_of_words};
+use line_service::{LineFault, before_bar, messages_of, parts_of, script_text};
 use simdutf8::compat::from_utf8;
 use std::alloc::{AllocError, Global};
 use std::io;
-use std::io::{Read, Write};
+use std::io::{BufRead, Read, Write};
 use std::sync::Wait;
 use std::thread::Threads;
 
@@ -39,7 +39,7 @@ use std::thread::Threads;
 #[derive(Drop)]
 struct Seen<'a> {
     /// What the words ask for, where they give an order.
-    word: Option<BatchWord<'a>>,
+    word: Option<Word<'a>>,
     /// Whether a read failed.
     failed: bool,
     /// Of an input that is not UTF-8, how many bytes are.
@@ -60,18 +60,6 @@ impl<'a> Seen<'a> {
             input: None,
         }
     }
-
-    /// Returns that nothing was read yet for a command.
-    fn with_word(word: BatchWord<'a>) -> Seen<'a>
-        ensures { result.failed ≡ false }
-    {
-        Seen {
-            word: Some(word),
-            failed: false,
-            valid: None,
-            input: None,
-        }
-    }
 }
 
 /// Returns why an input could not be read or an output not be written.
@@ -86,36 +74,37 @@ fn trouble_of(seen: &Seen<'_>, status: Status) -> Trouble {
     }
 }
 
-/// Returns the reasons of a status, by what was seen.
-fn reasons_of_seen(alloc: Global, seen: &Seen<'_>, status: Status) -> Result<String, AllocError> {
-    match (status, seen.word, &seen.input) {
-        (Status::OutOfMemory | Status::IoError | Status::Strayed, _, _) => {
-            reason_of_trouble(alloc, trouble_of(seen, status))
-        }
-        (_, Some(word), Some(input)) => {
-            let text = from_utf8(input.as_slice()).unwrap_or("");
-            reason_of(alloc, word, text, status.code())
-        }
-        _ => Ok(String::new(alloc)),
-    }
-}
-
-/// Returns the reasons of a status of a command line.
+/// Returns the reasons of a status that has some in what was read.
 fn reasons_of<'a>(
     alloc: Global,
     words: &'a [&'a str],
     seen: &Seen<'a>,
     status: Status,
 ) -> Result<String, AllocError> {
-    if seen.word.is_none() && status == Status::WrongArguments {
-        reason_of_words(alloc, words)
-    } else {
-        reasons_of_seen(alloc, seen, status)
+    match (seen.word, &seen.input) {
+        (Some(word), Some(input)) => {
+            let text = from_utf8(input.as_slice()).unwrap_or("");
+            reason_of(alloc, word, text, status.code())
+        }
+        (None, _) if status == Status::WrongArguments => reason_of_words(alloc, words),
+        _ => Ok(String::new(alloc)),
     }
 }
 
-/// Writes reasons. What fails in it is lost.
-fn tell_reasons<E: Write>(told: Result<String, AllocError>, reasons: &mut E) {
+/// Writes the reasons of a status. What fails in it is lost.
+fn tell_reasons<'a, E: Write>(
+    alloc: Global,
+    words: &'a [&'a str],
+    seen: &Seen<'a>,
+    status: Status,
+    reasons: &mut E,
+) {
+    let told = match status {
+        Status::OutOfMemory | Status::IoError | Status::Strayed => {
+            reason_of_trouble(alloc, trouble_of(seen, status))
+        }
+        _ => reasons_of(alloc, words, seen, status),
+    };
     let _lost = match told {
         Ok(text) => reasons.write_all(text.as_bytes()),
         Err(_full) => reasons.write_all(b"out of memory: no message can be written\n"),
@@ -159,8 +148,7 @@ fn serve_input(
     input: &[u8],
 ) -> Result<InputOutcome, AnswerFault>
     requires { is_readable input.now ≡ true }
-    ensures served { IfOk result (λ outcome. Comes outcome (script_text input.now)
-        (AnswersWith (order_of word.entry) input.now)) }
+    ensures served { IfOk result (λ outcome. Comes outcome (script_text input.now) (AnswersWith (batch_order word.entry) input.now)) }
     ensures threads { word.entry ≢ batch.Threads → IfOk result IsNotThreaded }
     ensures memory { IfErr result (λ fault. fault ≡ AnswerFault.Memory) }
 {
@@ -181,8 +169,7 @@ fn serve<R: Read>(
 ) -> Result<InputOutcome, AnswerFault>
     requires { seen.old.failed ≡ false }
     ensures served { IfOk result (λ outcome.
-        IfSome (R.remaining reader.old) (λ input. Comes outcome (noted_script seen.new.input)
-        (AnswersWith (order_of word.entry) input))) }
+        IfSome (R.remaining reader.old) (λ input. Comes outcome (noted_script seen.new.input) (AnswersWith (batch_order word.entry) input))) }
     ensures threads { word.entry ≢ batch.Threads → IfOk result IsNotThreaded }
     ensures io { (result ≡ Err AnswerFault.Io)
         → (seen.new.failed ≡ true) ⊎ IfSome (R.remaining reader.old) (λ input. is_readable input ≡ false) }
@@ -216,24 +203,22 @@ fn answer_to_words<W: Write>(writer: &mut W, fault: WordsFault) -> io::Result<St
 }
 
 /// Carries out a command that reads all of its input, and notes what was seen on the way. The run of
-/// `threads` is left to the caller. The observer is shown the steps of `run`. An `Err` is a write
-/// that failed.
-fn answer_batch<'a, R: Read, W: Write, O: Observer<W>>(
+/// `threads` is left to the caller. An `Err` is a write that failed.
+fn answer_batch<'a, R: Read, W: Write>(
     alloc: Global,
     word: BatchWord<'a>,
     reader: &mut R,
     writer: &mut W,
-    observer: &mut O,
     seen: &mut Seen<'a>,
     ending: Ending,
 ) -> io::Result<Progress>
     requires { seen.old.failed ≡ false }
-    ensures { IfOk result (λ progress. ReachesOrder (order_of word.entry) (R.remaining reader.old) progress
+    ensures { IfOk result (λ progress. ReachesOrder (batch_order word.entry) (R.remaining reader.old) progress
         (W.contents writer.old) (W.contents writer.new)) }
 {
     match serve(alloc, word, reader, seen) {
         Ok(InputOutcome::Task(task)) => {
-            let status = write_ranked(alloc, task, script_of(seen), ending, observer, writer)?;
+            let status = write_ranked(alloc, task, script_of(seen), ending, writer)?;
             Ok(Progress::Ended {
                 status,
                 is_read_failed: seen.failed,
@@ -257,9 +242,36 @@ fn answer_batch<'a, R: Read, W: Write, O: Observer<W>>(
     }
 }
 
+/// Carries out a command, and notes what was seen on the way. The run of `threads` is left to the
+/// caller. An `Err` is a write that failed, or under `serve` a read after the plant file.
+fn answer_word<'a, R: BufRead, W: Write>(
+    alloc: Global,
+    word: Word<'a>,
+    reader: &mut R,
+    writer: &mut W,
+    seen: &mut Seen<'a>,
+    ending: Ending,
+) -> io::Result<Progress>
+    requires untried { seen.old.failed ≡ false }
+    ensures { IfOk result (λ progress. ReachesOrder (order_of word.entry) (R.remaining reader.old) progress
+        (W.contents writer.old) (W.contents writer.new)) }
+{
+    match word {
+        Word::Serve => {
+            let (file, failed, valid) = (&mut seen.input, &mut seen.failed, &mut seen.valid);
+            let status = serve_words(alloc, reader, writer, file, failed, valid)?;
+            Ok(Progress::Ended {
+                status,
+                is_read_failed: seen.failed,
+            })
+        }
+        Word::Batch(word) => answer_batch(alloc, word, reader, writer, seen, ending),
+    }
+}
+
 /// Answers the words, and notes what was seen on the way. The run of `threads` is left to the
-/// caller. An `Err` is a write that failed.
-fn answer_words<'a, R: Read, W: Write>(
+/// caller. An `Err` is a write that failed, or under `serve` a read after the plant file.
+fn answer_words<'a, R: BufRead, W: Write>(
     alloc: Global,
     words: &'a [&'a str],
     reader: &mut R,
@@ -277,7 +289,7 @@ fn answer_words<'a, R: Read, W: Write>(
     match read_words(alloc, words) {
         Ok(word) => {
             seen.word = Some(word);
-            answer_batch(alloc, word, reader, writer, &mut NoNotes, seen, ending)
+            answer_word(alloc, word, reader, writer, seen, ending)
         }
         Err(fault) => {
             let status = answer_to_words(writer, fault)?;
@@ -289,7 +301,7 @@ fn answer_words<'a, R: Read, W: Write>(
     }
 }
 
-/// Reports a write that failed, and returns the status of that. What is written then no clause says, since nothing
+/// Reports a read or a write that failed, and returns the status of that. What is written then no clause says, since nothing
 /// is known of a write that failed.
 fn report_failure<W: Write>(writer: &mut W) -> Status
     ensures { result ≡ Status.IoError }
@@ -300,7 +312,7 @@ fn report_failure<W: Write>(writer: &mut W) -> Status
 }
 
 /// Ends the program: does what is left of it, the run of `threads`, and returns the exit status. What has ended is left as it
-/// is. After a write that failed, it tries to write the line that says so, and returns 6.
+/// is. After a write that failed, or under `serve` a read, it tries to write the line that says so, and returns 6.
 fn end_program<H: Threads + Wait + Sync, W: Write>(
     rt: &H,
     alloc: Global,
@@ -309,12 +321,10 @@ fn end_program<H: Threads + Wait + Sync, W: Write>(
     ending: Ending,
 ) -> Status
     ensures written { status_code result ≢ 6 → MatchResult reached
-        (λ progress. Completes progress (status_code result) (W.contents writer.old) (W.contents writer.new))
-        (λ error. ⊥) }
+        (λ progress. Completes progress (status_code result) (W.contents writer.old) (W.contents writer.new)) (λ error. ⊥) }
     // What has ended is left as it is, with its status.
     ensures ended { MatchResult reached
-        (λ progress. IsLeftEnded progress (status_code result) (W.contents writer.old) (W.contents writer.new))
-        (λ error. ⊤) }
+        (λ progress. IsLeftEnded progress (status_code result) (W.contents writer.old) (W.contents writer.new)) (λ error. ⊤) }
 {
     let written = match reached {
         Ok(
@@ -338,8 +348,9 @@ fn end_program<H: Threads + Wait + Sync, W: Write>(
 /// up to the run of `threads`. All other commands have ended when it returns, and it waits for
 /// nobody.
 ///
-/// An `Err` is a write that failed: what is written then no clause says.
-pub fn run_without_threads<'a, R: Read, W: Write>(
+/// An `Err` is a write that failed, or under `serve` a read after the plant file: what is written
+/// then no clause says.
+pub fn run_without_threads<'a, R: BufRead, W: Write>(
     alloc: Global,
     words: &'a [&'a str],
     reader: &mut R,
@@ -375,9 +386,9 @@ pub fn run_without_threads<'a, R: Read, W: Write>(
 ///
 /// Status 6 may come at any time, since no clause says what a writer does. What is written with it
 /// is fixed where no write has failed (`run_without_threads`). Status 5 may come wherever memory is
-/// allocated, and never in place of a refused step of `run` or `trace`. No clause says anything of
-/// the text of help.
-pub fn run_program<'a, H: Threads + Wait + Sync, R: Read, W: Write>(
+/// allocated, and never in place of a refused step of `run`, `trace` or `serve`. No clause says
+/// anything of the text of help.
+pub fn run_program<'a, H: Threads + Wait + Sync, R: BufRead, W: Write>(
     rt: &H,
     alloc: Global,
     words: &'a [&'a str],
@@ -401,7 +412,7 @@ pub fn run_program<'a, H: Threads + Wait + Sync, R: Read, W: Write>(
 /// is well it reports keys that nothing reads. What fails in writing reasons is lost, and changes
 /// no status. No clause says what the reasons are. A process that ends after the answer says so by
 /// `ending`, and need not wait until a core or a settled run is taken apart.
-pub fn run_program_with_reasons<'a, H: Threads + Wait + Sync, R: Read, W: Write, E: Write>(
+pub fn run_program_with_reasons<'a, H: Threads + Wait + Sync, R: BufRead, W: Write, E: Write>(
     rt: &H,
     alloc: Global,
     words: &'a [&'a str],
@@ -420,78 +431,6 @@ pub fn run_program_with_reasons<'a, H: Threads + Wait + Sync, R: Read, W: Write,
     let mut seen = Seen::new();
     let reached = answer_words(alloc, words, reader, writer, &mut seen, ending);
     let status = end_program(rt, alloc, reached, writer, ending);
-    tell_reasons(reasons_of(alloc, words, &seen, status), reasons);
-    status.code()
-}
-
-/// Carries out a command other than `threads`, and notes what was seen on the way. Returns the exit
-/// status.
-fn answer_order<'a, R: Read, W: Write, O: Observer<W>>(
-    alloc: Global,
-    word: BatchWord<'a>,
-    reader: &mut R,
-    writer: &mut W,
-    observer: &mut O,
-    seen: &mut Seen<'a>,
-    ending: Ending,
-) -> Status
-    requires untried { seen.old.failed ≡ false }
-    requires other { word ≢ batch.Threads }
-    ensures { status_code result ≢ 6 → AnswersOrder (order_of word.entry) (R.remaining reader.old) (status_code result)
-        (λ text. Appends (W.contents writer.old) (W.contents writer.new) text) }
-{
-    match answer_batch(alloc, word, reader, writer, observer, seen, ending) {
-        Ok(
-            Progress::Ended {
-                status,
-                is_read_failed: _read,
-            },
-        ) => return status,
-        Ok(Progress::Threads { .. }) => unreachable!(),
-        Err(_failed) => return report_failure(writer),
-    }
-}
-
-/// Carries out a command other than `threads`, as `run_program_with_reasons` does, and waits for
-/// nobody. The observer is shown the steps of `run`. Returns the exit status.
-pub fn run_batch<'a, R: Read, W: Write, O: Observer<W>, E: Write>(
-    alloc: Global,
-    word: BatchWord<'a>,
-    reader: &mut R,
-    writer: &mut W,
-    observer: &mut O,
-    reasons: &mut E,
-    ending: Ending,
-) -> u8
-    requires { word ≢ batch.Threads }
-    // Where no write has failed, what is written answers the command and what is read.
-    ensures { result ≢ 6 → AnswersOrder (order_of word.entry) (R.remaining reader.old) result
-        (λ text. Appends (W.contents writer.old) (W.contents writer.new) text) }
-{
-    let mut seen = Seen::with_word(word);
-    let status = answer_order(alloc, word, reader, writer, observer, &mut seen, ending);
-    tell_reasons(reasons_of_seen(alloc, &seen, status), reasons);
-    status.code()
-}
-
-/// Carries out the command `threads`, as `run_program_with_reasons` does. It may wait. Returns the
-/// exit status.
-pub fn run_threads<H: Threads + Wait + Sync, R: Read, W: Write, E: Write>(
-    rt: &H,
-    alloc: Global,
-    reader: &mut R,
-    writer: &mut W,
-    reasons: &mut E,
-    ending: Ending,
-) -> u8
-    // Where no write has failed, what is written answers the command and what is read.
-    ensures { result ≢ 6 → AnswersOrder threads (R.remaining reader.old) result
-        (λ text. Appends (W.contents writer.old) (W.contents writer.new) text) }
-{
-    let word = BatchWord::Threads;
-    let mut seen = Seen::with_word(word);
-    let reached = answer_batch(alloc, word, reader, writer, &mut NoNotes, &mut seen, ending);
-    let status = end_program(rt, alloc, reached, writer, ending);
-    tell_reasons(reasons_of_seen(alloc, &seen, status), reasons);
+    tell_reasons(alloc, words, &seen, status, reasons);
     status.code()
 }

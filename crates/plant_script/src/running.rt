@@ -4,34 +4,29 @@ ghost use Rattle.std.specs.Prelude.{◌≡◌, ◌≢◌, ◌++◌, [], map, sli
 ghost use Rattle.std.specs.Io.KnownBytes.{Appends};
 ghost use Rattle.plant.specs.declared.plant.PlantFields.{PlantFields};
 ghost use Rattle.run_model.specs.IsStateAfter.{IsStateAfter};
-ghost use Rattle.run_model.specs.Starts.{Start};
 ghost use Rattle.plant_core.specs.CoreView.{core_view};
-ghost use Rattle.plant_core.specs.live.After.{IsAfter, IsAfterFrom, IsReachableFromStart};
+ghost use Rattle.plant_core.specs.live.After.{IsAfter, IsReachableFromStart};
 ghost use Rattle.plant_core.specs.live.Following.{FollowRows};
 ghost use Rattle.plant_core.specs.live.LiveView.{live_view};
 ghost use Rattle.operator_book.specs.ViewOf.{policy_of};
 ghost use Rattle.line_service.specs.script.Script.{ArePlaced};
 ghost use Rattle.line_service.specs.script.Text.{outs_text};
 ghost use Rattle.plant_script.specs.Done.{HasRun, book_text};
-ghost use Rattle.plant_script.specs.Run.{IsScriptRun, IsScriptRunFrom, IsCapturedRunOf};
+ghost use Rattle.plant_script.specs.Run.{IsScriptRun, IsCapturedRunOf};
 ghost use Rattle.plant_script.specs.Statuses.{status_code};
 ghost use Rattle.plant_script.specs.Task.{history_at, RunsTo, IsWritten, EndsRun, IsEnded};
-ghost use Rattle.plant_script.specs.Words.{AnswersRunFrom};
 
 use crate::answer::Answer;
 use crate::capturing::answer_of_capture;
-use crate::check::answer_to_line;
 use crate::ending::{Ending, put_away, refused_line, write_end, write_fault, write_outcome};
 use crate::input::AnswerFault;
 use crate::input_outcome::Task;
 use crate::rankings::rankings_of;
 use crate::status::Status;
 use crate::tracing::write_traced_run;
-use diagnostics::RunReport;
+use command_line::RunReport;
 use grant_policy::Ranking;
-use line_service::{
-    LineFault, LineStep, Observer, open_core, run_steps, run_steps_by, steps_of, write_actions,
-};
+use line_service::{LineStep, NoNotes, open_core, run_steps_by, write_actions};
 use plant::{Op, Plant};
 use plant_core::{CoreOpenFault, LiveCore, PlantCore};
 use std::alloc::{AllocError, Global};
@@ -96,8 +91,7 @@ fn answer_of_history(
 ) -> Result<Answer, AllocError>
     requires { IsStateAfter (core_view core.old).plant [] [] (core_view core.old) }
     ensures { IfOk result (λ answer. IsScriptRun (core_view core.old).plant lines.items
-        (λ done told. history_at (slice_get (core_view core.old).plant.rows op) op done) (status_code answer.status)
-        answer.text.items) }
+        (λ done told. history_at (slice_get (core_view core.old).plant.rows op) op done) (status_code answer.status) answer.text.items) }
 {
     let refused = run_unheard(alloc, core, lines)?;
     let mut text = Vec::new(alloc);
@@ -161,24 +155,21 @@ fn answer_of_history_run(
 }
 
 /// Does the steps of lines on a core as it is opened, its ticks ranked by these rankings, and writes
-/// what each outputs as it is made, and the last line. The observer is shown each step. Returns the
-/// status.
-fn write_run<W: Write, O: Observer<W>>(
+/// what each outputs as it is made, and the last line. Returns the status.
+fn write_run<W: Write>(
     alloc: Global,
     core: &mut LiveCore,
     lines: Vec<LineStep>,
     rankings: &[Ranking],
-    observer: &mut O,
     writer: &mut W,
 ) -> io::Result<Status>
     requires reached { IsReachableFromStart (live_view core.old) }
     requires policies { FollowRows (map policy_of rankings.now) (live_view core.old).plant.rows }
     requires placed { ArePlaced (live_view core.old).plant lines.items }
     ensures { IfOk result (λ status. (plant : PlantFields) → IsAfter plant [] [] (live_view core.old)
-        → EndsRun plant lines.items (status_code status)
-        (λ text. Appends (W.contents writer.old) (W.contents writer.new) text)) }
+        → EndsRun plant lines.items (status_code status) (λ text. Appends (W.contents writer.old) (W.contents writer.new) text)) }
 {
-    let end = run_steps_by(alloc, core, lines, rankings, observer, writer)?;
+    let end = run_steps_by(alloc, core, lines, rankings, &NoNotes, writer)?;
     let status = write_end(writer, end)?;
     writer.flush()?;
     Ok(status)
@@ -186,32 +177,23 @@ fn write_run<W: Write, O: Observer<W>>(
 
 /// Runs a script, and writes the outputs as they are made. No history is kept. The rankings are in
 /// the plant's order of operators. Returns the exit status.
-fn write_outputs_run<W: Write, O: Observer<W>>(
+fn write_outputs_run<W: Write>(
     alloc: Global,
     plant: Plant,
     lines: Vec<LineStep>,
     rankings: Vec<Ranking>,
     ending: Ending,
-    observer: &mut O,
     writer: &mut W,
 ) -> io::Result<Status>
     requires policies { map (λ ranking. ranking.policy) rankings.items ≡ map (λ row. row.policy) plant.rows }
     requires placed { ArePlaced plant lines.items }
-    ensures { IfOk result (λ status. IsWritten (IsScriptRun plant lines.items (λ done told. outs_text plant told))
-        (status_code status)
+    ensures { IfOk result (λ status. IsWritten (IsScriptRun plant lines.items (λ done told. outs_text plant told)) (status_code status)
         (λ text. Appends (W.contents writer.old) (W.contents writer.new) text)) }
 {
     let Ok(mut core) = open_core(alloc, plant) else {
         return write_fault(writer, AnswerFault::Memory);
     };
-    let status = write_run(
-        alloc,
-        &mut core,
-        lines,
-        rankings.as_slice(),
-        observer,
-        writer,
-    )?;
+    let status = write_run(alloc, &mut core, lines, rankings.as_slice(), writer)?;
     put_away(core, ending);
     Ok(status)
 }
@@ -219,18 +201,16 @@ fn write_outputs_run<W: Write, O: Observer<W>>(
 /// Runs a task, and writes what is printed of its run. The rankings are in the plant's order of
 /// operators; of the script, whose steps the task has, `trace` prints the lines. Returns the exit
 /// status.
-fn write_task<W: Write, O: Observer<W>>(
+fn write_task<W: Write>(
     alloc: Global,
     task: Task,
     script: &[u8],
     rankings: Vec<Ranking>,
     ending: Ending,
-    observer: &mut O,
     writer: &mut W,
 ) -> io::Result<Status>
     requires { map (λ ranking. ranking.policy) rankings.items ≡ map (λ row. row.policy) task.plant.rows }
-    ensures { IfOk result (λ status. IsWritten (RunsTo task.plant task.report script.now task.lines.items)
-        (status_code status)
+    ensures { IfOk result (λ status. IsWritten (RunsTo task.plant task.report script.now task.lines.items) (status_code status)
         (λ text. Appends (W.contents writer.old) (W.contents writer.new) text)) }
 {
     let Task {
@@ -239,9 +219,7 @@ fn write_task<W: Write, O: Observer<W>>(
         report,
     } = task;
     match report {
-        RunReport::Outputs => write_outputs_run(
-            alloc, plant, lines, rankings, ending, observer, writer,
-        ),
+        RunReport::Outputs => write_outputs_run(alloc, plant, lines, rankings, ending, writer),
         RunReport::Capture => {
             let answer = answer_of_capture_run(alloc, plant, lines, rankings, ending);
             write_outcome(writer, answer)
@@ -255,18 +233,15 @@ fn write_task<W: Write, O: Observer<W>>(
 }
 
 /// Runs a task, each operator ranked by the policy of its row, and writes what is printed of its
-/// run; of the script, whose steps the task has, `trace` prints the lines. The observer is shown the
-/// steps of `run`. Returns the exit status.
-pub fn write_ranked<W: Write, O: Observer<W>>(
+/// run; of the script, whose steps the task has, `trace` prints the lines. Returns the exit status.
+pub fn write_ranked<W: Write>(
     alloc: Global,
     task: Task,
     script: &[u8],
     ending: Ending,
-    observer: &mut O,
     writer: &mut W,
 ) -> io::Result<Status>
-    ensures { IfOk result (λ status. IsWritten (RunsTo task.plant task.report script.now task.lines.items)
-        (status_code status)
+    ensures { IfOk result (λ status. IsWritten (RunsTo task.plant task.report script.now task.lines.items) (status_code status)
         (λ text. Appends (W.contents writer.old) (W.contents writer.new) text)) }
 {
     let rankings = rankings_of!(
@@ -274,54 +249,5 @@ pub fn write_ranked<W: Write, O: Observer<W>>(
         task.plant,
         return write_fault(writer, AnswerFault::Memory)
     );
-    write_task(alloc, task, script, rankings, ending, observer, writer)
-}
-
-/// Does the steps of lines on a core, and writes what each outputs as it is made, and the last line.
-/// Returns the status.
-fn write_run_from<W: Write, O: Observer<W>>(
-    alloc: Global,
-    core: &mut LiveCore,
-    lines: Vec<LineStep>,
-    observer: &mut O,
-    writer: &mut W,
-) -> io::Result<Status>
-    requires reached { IsReachableFromStart (live_view core.old) }
-    requires placed { ArePlaced (live_view core.old).plant lines.items }
-    ensures { IfOk result (λ status. (plant : PlantFields) (start : Start)
-        → IsAfterFrom plant start [] [] (live_view core.old)
-        → IsWritten (IsScriptRunFrom plant start lines.items) (status_code status)
-        (λ text. Appends (W.contents writer.old) (W.contents writer.new) text)) }
-{
-    let end = run_steps(alloc, core, lines, observer, writer)?;
-    let ended = write_end(writer, end)?;
-    writer.flush()?;
-    Ok(ended)
-}
-
-/// Runs a script on a core on which no step was done, as that of a snapshot, and writes what `run`
-/// writes: the outputs as they are made, or the first invalid line alone. Each operator is ranked by
-/// the policy of its row. Returns the exit status. An error is one of the writer's.
-pub fn write_script_run<W: Write, O: Observer<W>>(
-    alloc: Global,
-    core: &mut LiveCore,
-    script: &[u8],
-    observer: &mut O,
-    writer: &mut W,
-) -> io::Result<Status>
-    requires { IsReachableFromStart (live_view core.old) }
-    // From whatever start the core goes on, what is written is that of `run` from there.
-    ensures { IfOk result (λ status. (plant : PlantFields) (start : Start)
-        → IsAfterFrom plant start [] [] (live_view core.old)
-        → IsWritten (AnswersRunFrom plant start script.now) (status_code status)
-        (λ text. Appends (W.contents writer.old) (W.contents writer.new) text)) }
-{
-    match steps_of(alloc, core, script) {
-        Ok(lines) => write_run_from(alloc, core, lines, observer, writer),
-        Err(LineFault::Shape { number }) => {
-            let answer = answer_to_line(alloc, number);
-            write_outcome(writer, answer)
-        }
-        Err(LineFault::NoMemory) => write_fault(writer, AnswerFault::Memory),
-    }
+    write_task(alloc, task, script, rankings, ending, writer)
 }

@@ -16,7 +16,7 @@ use crate::check::{answer_to_fault, answer_to_line, plant_of_input};
 use crate::input::AnswerFault;
 use crate::input_outcome::{InputOutcome, Task};
 use crate::status::Status;
-use diagnostics::RunReport;
+use command_line::RunReport;
 use line_service::{LineFault, before_bar, place_of, script_text, steps_of};
 use plant::{Op, Plant, Routes};
 use slice_table::PlantFault;
@@ -98,8 +98,7 @@ pub fn task_of(
     input: &[u8],
 ) -> Result<InputOutcome, AnswerFault>
     requires { is_readable input.now ≡ true }
-    ensures value { IfOk result (λ outcome. Comes outcome (script_text input.now)
-        (AnswersInput (AnswersReport report.entry) input.now)) }
+    ensures value { IfOk result (λ outcome. Comes outcome (script_text input.now) (AnswersInput (AnswersReport report.entry) input.now)) }
     ensures threads { IfOk result IsNotThreaded }
     ensures memory { IfErr result (λ fault. fault ≡ Memory) }
 {
@@ -140,8 +139,7 @@ fn threads_of_script(
 /// Returns the run of an input's script on its plant, on threads; or the answer to an invalid input.
 pub fn threads_of(alloc: Global, input: &[u8]) -> Result<InputOutcome, AnswerFault>
     requires { is_readable input.now ≡ true }
-    ensures value { IfOk result (λ outcome. Comes outcome (script_text input.now)
-        (AnswersInput AnswersThreads input.now)) }
+    ensures value { IfOk result (λ outcome. Comes outcome (script_text input.now) (AnswersInput AnswersThreads input.now)) }
     ensures memory { IfErr result (λ fault. fault ≡ Memory) }
 {
     let place = before_bar(input);

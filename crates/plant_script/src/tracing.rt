@@ -7,7 +7,7 @@ ghost use Rattle.plant_core.specs.CoreView.{core_view};
 ghost use Rattle.plant_script.specs.Traced.{EndsTraced};
 ghost use Rattle.plant_script.specs.Statuses.{status_code};
 ghost use Rattle.plant_script.specs.Task.{RunsTo, IsWritten};
-ghost use Rattle.diagnostics.specs.declared.command_line.asked.RunReport.TheVariants.{Trace};
+ghost use Rattle.command_line.specs.declared.asked.RunReport.TheVariants.{Trace};
 
 use crate::ending::{Ending, put_away, write_end, write_fault};
 use crate::input::AnswerFault;

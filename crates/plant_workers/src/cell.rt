@@ -7,7 +7,7 @@ ghost use Rattle.plant_workers.specs.cell_state.Receiving.{IsOfSomeBook};
 ghost use Rattle.plant_workers.specs.cell_state.Taking.{frames_at, IsFrameOfSomeBook};
 ghost use Rattle.plant_workers.specs.cell_state.Telling.{IsOfBook, IsOfTurn, IsOfTaking};
 
-use crate::cell_state::{CellFault, CellState};
+use crate::cell_state::{CellFault, Held};
 use crate::gate::Gate;
 use crate::part::LOOKS;
 use crate::receipts::Receipt;
@@ -26,7 +26,7 @@ use std::sync::{Mutex, Wait};
 #[derive(Drop)]
 pub struct OperatorCell {
     op: Op,
-    state: Mutex<CellState>,
+    held: Mutex<Held>,
     signal: Signal,
 }
 
@@ -37,7 +37,7 @@ impl OperatorCell {
         requires { book.ranking.policy ≡ book.kept.book.row.policy }
         ensures { result.op ≡ op }
     {
-        OperatorCell::holding(op, CellState::of(book))
+        OperatorCell::holding(op, Held::of(book))
     }
 
     /// Returns a cell round a book of which so many frames are collected: what `into_parts` gives,
@@ -46,17 +46,17 @@ impl OperatorCell {
         requires { taken ≤ length (frames_at (view_of book)) }
         ensures { result.op ≡ op }
     {
-        OperatorCell::holding(op, CellState::again(book, taken))
+        OperatorCell::holding(op, Held::again(book, taken))
     }
 
     /// Returns the cell round this.
-    fn holding(op: Op, state: CellState) -> OperatorCell
+    fn holding(op: Op, held: Held) -> OperatorCell
         ensures { result.op ≡ op }
     {
-        let count = state.count();
+        let count = held.count();
         OperatorCell {
             op,
-            state: Mutex::new(state),
+            held: Mutex::new(held),
             signal: Signal::new(count),
         }
     }
@@ -68,10 +68,10 @@ impl OperatorCell {
     {
         let OperatorCell {
             op: _,
-            state,
+            held,
             signal: _,
         } = self;
-        state.into_inner().into_parts()
+        held.into_inner().into_parts()
     }
 
     /// Returns what is done under the lock.
@@ -87,7 +87,7 @@ impl OperatorCell {
     {
         Turn {
             op: self.op,
-            state: &self.state,
+            held: &self.held,
             signal: &self.signal,
             looks,
         }

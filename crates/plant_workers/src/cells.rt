@@ -5,7 +5,7 @@ ghost use Rattle.std.proofs.Props.{props};
 ghost use Rattle.plant_workers.specs.Cells.{AreInOrder};
 
 use crate::cell::OperatorCell;
-use crate::cell_state::CellState;
+use crate::cell_state::Held;
 use grant_policy::Ranking;
 use operator_book::Book;
 use plant::Plant;
@@ -41,12 +41,12 @@ fn open_each(
 }
 
 /// Puts a cell round each state, in the order of the operators.
-fn hold_each(alloc: Global, states: Vec<CellState>) -> Result<Vec<OperatorCell>, AllocError>
+fn hold_each(alloc: Global, helds: Vec<Held>) -> Result<Vec<OperatorCell>, AllocError>
     ensures { IfOk result (λ cells. AreInOrder (map (λ cell. cell.op) cells.items)) }
 {
-    let mut cells = Vec::with_capacity(alloc, states.len())?;
-    for state in states {
-        let (book, taken) = state.into_parts();
+    let mut cells = Vec::with_capacity(alloc, helds.len())?;
+    for held in helds {
+        let (book, taken) = held.into_parts();
         cells.push(OperatorCell::again(cells.len(), book, taken))?;
     }
     Ok(cells)
@@ -64,8 +64,8 @@ impl Cells {
     }
 
     /// Returns the cells round these states, which are in the order of the operators.
-    pub(crate) fn again(alloc: Global, states: Vec<CellState>) -> Result<Cells, AllocError> {
-        let cells = hold_each(alloc, states)?;
+    pub(crate) fn again(alloc: Global, helds: Vec<Held>) -> Result<Cells, AllocError> {
+        let cells = hold_each(alloc, helds)?;
         Ok(Cells { cells })
     }
 
@@ -77,14 +77,14 @@ impl Cells {
     }
 
     /// Takes the cells apart, each into the state that its lock guards.
-    pub(crate) fn into_helds(self, alloc: Global) -> Result<Vec<CellState>, AllocError> {
+    pub(crate) fn into_helds(self, alloc: Global) -> Result<Vec<Held>, AllocError> {
         let Cells { cells } = self;
-        let mut states = Vec::with_capacity(alloc, cells.len())?;
+        let mut helds = Vec::with_capacity(alloc, cells.len())?;
         for cell in cells {
             let (book, taken) = cell.into_parts();
-            states.push(CellState::again(book, taken))?;
+            helds.push(Held::again(book, taken))?;
         }
-        Ok(states)
+        Ok(helds)
     }
 
     /// Takes the cells apart, and returns the books.

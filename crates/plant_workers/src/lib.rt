@@ -26,7 +26,7 @@ pub use audit::{
     Assembly, Placing, are_ticked, compare, placings_make_the_maps, stray_at, waiting_operator,
 };
 pub use cell::OperatorCell;
-pub use cell_state::{CallerReceipt, CellFault, CellState, reslice};
+pub use cell_state::{CellFault, Held, Told, reslice};
 pub use gate::{Gate, OpenGate};
 pub use plan::{before_reslice, first_spent, first_unserved, turns_of};
 pub use ranking::are_ranked;

@@ -4,7 +4,7 @@ ghost use Rattle.std.specs.Prelude.{All, IfOk};
 ghost use Rattle.plant_workers.specs.receipts.Callers.{IsFor, AreByCallers};
 ghost use Rattle.plant_workers.specs.declared.receipts.caller.Caller.TheVariants as callers;
 
-use crate::cell_state::CallerReceipt;
+use crate::cell_state::Told;
 use crate::receipts::{Caller, Callers, Receipt, Receipts};
 use crate::thread_report::ThreadReport;
 use std::alloc::{AllocError, Global};
@@ -44,12 +44,12 @@ impl Lists {
     }
 
     /// Adds a receipt after its caller's others.
-    fn push(&mut self, added: CallerReceipt) -> Result<(), AllocError> {
-        let CallerReceipt {
+    fn push(&mut self, told: Told) -> Result<(), AllocError> {
+        let Told {
             op: _,
             caller,
             receipt,
-        } = added;
+        } = told;
         match caller {
             Caller::Dispatcher => add(Caller::Dispatcher, &mut self.dispatcher, receipt),
             Caller::Ticker => add(Caller::Ticker, &mut self.ticker, receipt),
@@ -87,14 +87,11 @@ pub(crate) fn no_lists(alloc: Global, operators: usize) -> Result<Vec<Lists>, Al
 }
 
 /// Adds receipts, each to those of its operator.
-pub(crate) fn add_told(
-    lists: &mut Vec<Lists>,
-    receipts: Vec<CallerReceipt>,
-) -> Result<(), AllocError> {
-    for receipt in receipts {
-        let op = receipt.op;
+pub(crate) fn add_told(lists: &mut Vec<Lists>, all: Vec<Told>) -> Result<(), AllocError> {
+    for told in all {
+        let op = told.op;
         if op < lists.len() {
-            lists[op].push(receipt)?;
+            lists[op].push(told)?;
         }
     }
     Ok(())
@@ -106,11 +103,8 @@ pub(crate) fn add_tales(
     thread_reports: Vec<ThreadReport>,
 ) -> Result<(), AllocError> {
     for thread_report in thread_reports {
-        let ThreadReport {
-            receipts,
-            refused: _,
-        } = thread_report;
-        add_told(lists, receipts)?;
+        let ThreadReport { told, refused: _ } = thread_report;
+        add_told(lists, told)?;
     }
     Ok(())
 }

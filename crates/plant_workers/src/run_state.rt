@@ -11,7 +11,7 @@ ghost use Rattle.plant_workers.specs.Faulting.{IsOfReslice, IsRunFault};
 
 use crate::audit::Assembly;
 use crate::cell::OperatorCell;
-use crate::cell_state::{CallerReceipt, CellState, reslice};
+use crate::cell_state::{Held, Told, reslice};
 use crate::cells::Cells;
 use crate::following::fault_of_reslice;
 use crate::gate::Gate;
@@ -65,24 +65,24 @@ fn thread_reports_of<R: Threads + Wait + Sync, G: Gate<R> + Sync>(
 fn reslice_helds(
     alloc: Global,
     plant: &Plant,
-    states: &mut Vec<CellState>,
+    helds: &mut Vec<Held>,
     steps: &[Step],
     at: usize,
     from: u32,
     rows: &[SliceRow],
-) -> Result<Vec<CallerReceipt>, RunFault>
+) -> Result<Vec<Told>, RunFault>
     requires { slice_get steps.now at ≡ Some (steps_of.Reslice from rows.now) }
     ensures of_run { IfErr result (IsRunFault plant.now steps.now) }
     ensures refused { (refusal : ResliceFault)
-        → reslice_fault from (map cell_book states.old.items) rows.now ≡ Some refusal
-        → length (map cell_book states.old.items) ≡ length plant.now.rows
-        → IsErrAnd result (IsOfReslice plant.now steps.now at (map cell_book states.old.items) refusal) }
+        → reslice_fault from (map cell_book helds.old.items) rows.now ≡ Some refusal
+        → length (map cell_book helds.old.items) ≡ length plant.now.rows
+        → IsErrAnd result (IsOfReslice plant.now steps.now at (map cell_book helds.old.items) refusal) }
 {
-    match reslice(alloc, states, from, rows) {
-        Ok(receipts) => Ok(receipts),
+    match reslice(alloc, helds, from, rows) {
+        Ok(told) => Ok(told),
         Err(fault) => {
-            let states = states.as_slice();
-            Err(fault_of_reslice(plant, states, steps, at, fault))
+            let helds = helds.as_slice();
+            Err(fault_of_reslice(plant, helds, steps, at, fault))
         }
     }
 }
@@ -173,14 +173,14 @@ impl RunState {
             assembly,
             lists,
         } = self;
-        let mut states = cells.into_helds(alloc)?;
-        let receipts = reslice_helds(alloc, plant, &mut states, steps, at, from, rows)?;
+        let mut helds = cells.into_helds(alloc)?;
+        let told = reslice_helds(alloc, plant, &mut helds, steps, at, from, rows)?;
         let mut resliced = RunState {
-            cells: Cells::again(alloc, states)?,
+            cells: Cells::again(alloc, helds)?,
             assembly,
             lists,
         };
-        match resliced.note_reslice(alloc, from, rows, receipts) {
+        match resliced.note_reslice(alloc, from, rows, told) {
             Ok(()) => Ok(resliced),
             Err(fault) => Err(fault),
         }
@@ -192,11 +192,11 @@ impl RunState {
         alloc: Global,
         from: u32,
         rows: &[SliceRow],
-        receipts: Vec<CallerReceipt>,
+        told: Vec<Told>,
     ) -> Result<(), RunFault>
         ensures { IfErr result (λ fault. (plant : PlantFields) (steps : List Step) → IsRunFault plant steps fault) }
     {
-        add_told(&mut self.lists, receipts)?;
+        add_told(&mut self.lists, told)?;
         if self.assembly.reslice(alloc, from, rows)? {
             Ok(())
         } else {

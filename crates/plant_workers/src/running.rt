@@ -42,13 +42,12 @@ fn run_steps<R: Threads + Wait + Sync, G: Gate<R> + Sync>(
     plant: &Plant,
     run_state: RunState,
     steps: &[Step],
+    jobs: &[Job],
     gate: &G,
     stacks: &[usize],
 ) -> Result<RunState, RunFault>
     ensures { IfErr result (IsRunFault plant.now steps.now) }
 {
-    let jobs = jobs_of(alloc, plant, steps)?;
-    let jobs = jobs.as_slice();
     let mut run_state = run_state;
     let mut begin = 0;
     for (at, step) in steps.iter().enumerate() {
@@ -87,7 +86,17 @@ fn run_served<R: Threads + Wait + Sync, G: Gate<R> + Sync>(
 {
     let cells = Cells::open(alloc, plant, rankings)?;
     let run_state = RunState::new(alloc, plant, cells)?;
-    let run_state = run_steps(rt, alloc, plant, run_state, steps, gate, stacks)?;
+    let jobs = jobs_of(alloc, plant, steps)?;
+    let run_state = run_steps(
+        rt,
+        alloc,
+        plant,
+        run_state,
+        steps,
+        jobs.as_slice(),
+        gate,
+        stacks,
+    )?;
     finish(alloc, plant, run_state, steps)
 }
 

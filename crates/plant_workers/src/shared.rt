@@ -8,7 +8,7 @@ ghost use Rattle.plant_workers.specs.Parts.{caller_in, IsOfPart};
 ghost use Rattle.plant_workers.specs.Refusing.{IsOfAct, IsOfPut};
 
 use crate::audit::Assembly;
-use crate::cell_state::{CallerReceipt, CellFault};
+use crate::cell_state::{CellFault, Told};
 use crate::gate::Gate;
 use crate::job::Job;
 use crate::part::{Part, PartJobs};
@@ -48,16 +48,16 @@ fn act<R: Wait, G: Gate<R>, C: Turns<R>>(
     part: Part,
     action: Action,
     gate: &G,
-) -> Result<CallerReceipt, EarlyEnd>
+) -> Result<Told, EarlyEnd>
     requires { caller_of action ≡ caller_in part }
-    ensures op { IfOk result (λ returned. returned.op ≡ C.place cell.now) }
-    ensures caller { IfOk result (λ returned. returned.caller ≡ caller_in part) }
-    ensures action { IfOk result (λ returned. returned.receipt.action ≡ action) }
+    ensures op { IfOk result (λ told. told.op ≡ C.place cell.now) }
+    ensures caller { IfOk result (λ told. told.caller ≡ caller_in part) }
+    ensures action { IfOk result (λ told. told.receipt.action ≡ action) }
     ensures fault { IfErr result (IsOfAct (C.place cell.now) index action) }
 {
     let op = cell.op();
     match cell.act_in_turn(rt, alloc, part.looks(), index, action, gate) {
-        Ok(receipt) => Ok(CallerReceipt {
+        Ok(receipt) => Ok(Told {
             op,
             caller: part.caller(),
             receipt,
@@ -100,7 +100,7 @@ fn do_job<R: Wait, G: Gate<R>, C: Turns<R>>(
     part: Part,
     job: &Job,
     gate: &G,
-    receipts: &mut Vec<CallerReceipt>,
+    told: &mut Vec<Told>,
 ) -> Result<(), EarlyEnd>
     requires { IsOfPart part job.now.step.now }
 {
@@ -108,13 +108,13 @@ fn do_job<R: Wait, G: Gate<R>, C: Turns<R>>(
         return Ok(());
     };
     // Room for a receipt, before anything is done.
-    if receipts.reserve(1).is_err() {
+    if told.reserve(1).is_err() {
         return Err(no_memory(job.op));
     }
     match job.action(alloc) {
         Ok(Some(action)) => {
             let receipt = act(rt, alloc, cell, job.turn, part, action, gate)?;
-            receipts.push_reserved(receipt);
+            told.push_reserved(receipt);
             Ok(())
         }
         Ok(None) => put_oldest_frame(rt, alloc, shared.assembly, cell, job.turn, part),
@@ -129,12 +129,12 @@ fn do_jobs<R: Wait, G: Gate<R>, C: Turns<R>>(
     alloc: Global,
     gate: &G,
     share: &PartJobs,
-    receipts: &mut Vec<CallerReceipt>,
+    told: &mut Vec<Told>,
 ) -> Result<(), EarlyEnd> {
     let part = share.part;
     for job in &share.jobs {
         if part.has(job) {
-            do_job(shared, rt, alloc, part, job, gate, receipts)?;
+            do_job(shared, rt, alloc, part, job, gate, told)?;
         }
     }
     Ok(())
@@ -153,15 +153,15 @@ pub(crate) trait Chores<R: Wait, G: Gate<R>> {
 
 impl<R: Wait, G: Gate<R>, C: Turns<R>> Chores<R, G> for Shared<'_, C> {
     fn run_part(&self, rt: &R, alloc: Global, gate: &G, share: &PartJobs<'_>) -> ThreadReport {
-        let mut receipts = Vec::new(alloc);
-        let refused = match do_jobs(self, rt, alloc, gate, share, &mut receipts) {
+        let mut told = Vec::new(alloc);
+        let refused = match do_jobs(self, rt, alloc, gate, share, &mut told) {
             Ok(()) => None,
             Err(refusal) => {
                 Chores::<R, G>::stop_all(self, rt);
                 Some(refusal)
             }
         };
-        ThreadReport { receipts, refused }
+        ThreadReport { told, refused }
     }
 
     fn stop_all(&self, rt: &R) {

@@ -1,6 +1,6 @@
 //! What signals to those who wait for a turn that an operator's history has grown.
 
-use crate::cell_state::CellState;
+use crate::cell_state::Held;
 use std::array;
 use std::sync::atomic::{AtomicUsize, Ordering};
 use std::sync::{Condvar, Mutex, MutexGuard, Wait};
@@ -45,22 +45,22 @@ impl Signal {
     pub(crate) fn wait_for<'a, R: Wait>(
         &self,
         rt: &R,
-        state: &'a Mutex<CellState>,
+        held: &'a Mutex<Held>,
         index: usize,
         looks: usize,
-    ) -> MutexGuard<'a, CellState> {
+    ) -> MutexGuard<'a, Held> {
         self.look(index, looks);
-        let state = state.lock(rt);
-        if index <= state.count() || state.stopped {
-            return state;
+        let held = held.lock(rt);
+        if index <= held.count() || held.stopped {
+            return held;
         }
         // Counted before the lock is released, so that whoever changes the history next finds that one sleeps.
         self.sleepers.fetch_add(1, Ordering::SeqCst);
-        let state = self.grown[index % GROUPS].wait_while(rt, state, |state| {
-            state.count() < index && !state.stopped
+        let held = self.grown[index % GROUPS].wait_while(rt, held, |held| {
+            held.count() < index && !held.stopped
         });
         self.sleepers.fetch_sub(1, Ordering::SeqCst);
-        state
+        held
     }
 
     /// Signals that the history has grown to so many entries. Call it after the lock is released, for each entry.

@@ -9,7 +9,7 @@ ghost use Rattle.plant_workers.specs.Refusing.{own_turn, lesser_turn, IsLeastTur
 ghost use Rattle.plant_workers.specs.Refusing.{fault_of_turn, fault_of_assembly, of_assembly, IsFirstOfAssembly};
 ghost use Rattle.plant_workers.specs.Refusing.{IsEndWithoutTurn, IsEndOfRun};
 
-use crate::cell_state::{CallerReceipt, CellFault};
+use crate::cell_state::{CellFault, Told};
 use crate::receipts::RunFault;
 use map_assembly::GatherFault;
 use operator_book::BookFault;
@@ -28,7 +28,7 @@ pub(crate) enum EarlyEnd {
 /// What a thread of a run reports when it has ended.
 #[derive(Drop)]
 pub(crate) struct ThreadReport {
-    pub receipts: Vec<CallerReceipt>,
+    pub told: Vec<Told>,
     pub refused: Option<EarlyEnd>,
 }
 

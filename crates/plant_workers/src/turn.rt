@@ -5,7 +5,7 @@ ghost use Rattle.plant_workers.specs.cell_state.Receiving.{IsOfSomeBook};
 ghost use Rattle.plant_workers.specs.cell_state.Taking.{IsFrameOfSomeBook};
 ghost use Rattle.plant_workers.specs.cell_state.Telling.{IsOfBook, IsOfTurn, IsOfTaking};
 
-use crate::cell_state::{CellFault, CellState};
+use crate::cell_state::{CellFault, Held};
 use crate::gate::Gate;
 use crate::receipts::Receipt;
 use crate::signal::Signal;
@@ -20,7 +20,7 @@ use std::sync::{Mutex, MutexGuard, Wait};
 #[derive(Clone, Copy)]
 pub(crate) struct Turn<'a> {
     pub op: Op,
-    pub state: &'a Mutex<CellState>,
+    pub held: &'a Mutex<Held>,
     pub signal: &'a Signal,
     pub looks: usize,
 }
@@ -67,8 +67,8 @@ pub(crate) trait Turns<R: Wait> {
 
 impl<'a> Turn<'a> {
     /// Waits until the history has `index` entries or the turns have stopped, and returns the lock.
-    fn wait_for<R: Wait>(self, rt: &R, index: usize) -> MutexGuard<'a, CellState> {
-        self.signal.wait_for(rt, self.state, index, self.looks)
+    fn wait_for<R: Wait>(self, rt: &R, index: usize) -> MutexGuard<'a, Held> {
+        self.signal.wait_for(rt, self.held, index, self.looks)
     }
 
     /// Does an action at once.
@@ -82,11 +82,11 @@ impl<'a> Turn<'a> {
         ensures some_book { IfOk result (IsOfSomeBook action) }
         ensures fault { IfErr result (IsOfBook action) }
     {
-        let mut state = self.state.lock(rt);
-        match state.act(alloc, action) {
+        let mut held = self.held.lock(rt);
+        match held.act(alloc, action) {
             Ok(receipt) => {
-                let count = state.count();
-                drop(state);
+                let count = held.count();
+                drop(held);
                 self.signal.grow(count);
                 Ok(receipt)
             }
@@ -112,21 +112,21 @@ impl<'a> Turn<'a> {
         ensures some_book { IfOk result (IsOfSomeBook action) }
         ensures fault { IfErr result (IsOfTurn self.entry.op index action) }
     {
-        let mut state = self.wait_for(rt, index);
-        let receipt = state.turn(alloc, self.op, index, action);
-        if receipt.is_ok() {
+        let mut held = self.wait_for(rt, index);
+        let told = held.turn(alloc, self.op, index, action);
+        if told.is_ok() {
             gate.inside(rt, self.op, index);
         }
-        let count = state.count();
-        let stopped = state.stopped;
-        drop(state);
-        if receipt.is_ok() {
+        let count = held.count();
+        let stopped = held.stopped;
+        drop(held);
+        if told.is_ok() {
             self.signal.grow(count);
             gate.outside(rt, self.op, index);
         } else if stopped {
             self.signal.stop();
         }
-        receipt
+        told
     }
 
     /// Takes the oldest frame that waits.
@@ -137,8 +137,8 @@ impl<'a> Turn<'a> {
     ) -> Result<Option<(u32, Elements)>, AllocError>
         ensures { IfOk result (λ taken. IfSome taken IsFrameOfSomeBook) }
     {
-        let mut state = self.state.lock(rt);
-        state.collect(alloc)
+        let mut held = self.held.lock(rt);
+        held.collect(alloc)
     }
 
     /// Waits until the history has so many entries, and takes the oldest frame that waits.
@@ -151,15 +151,15 @@ impl<'a> Turn<'a> {
         ensures some_book { IfOk result (λ taken. IfSome taken IsFrameOfSomeBook) }
         ensures fault { IfErr result (IsOfTaking self.entry.op) }
     {
-        let mut state = self.wait_for(rt, index);
-        state.take(alloc, self.op)
+        let mut held = self.wait_for(rt, index);
+        held.take(alloc, self.op)
     }
 
     /// Stops the turns, and wakes all that wait for one.
     pub(crate) fn stop<R: Wait>(self, rt: &R) {
-        let mut state = self.state.lock(rt);
-        state.stop();
-        drop(state);
+        let mut held = self.held.lock(rt);
+        held.stop();
+        drop(held);
         self.signal.stop();
     }
 }

@@ -1,6 +1,7 @@
 -- What is written for an input of which the first bytes are read before the others.
 use Rattle.std.proofs.Common.{◌≡◌, ◌≢◌, ℕ, Bool, true, false, MatchBool, List, ◌++◌, Option, Some, None, sym, ap, subst, ◌∙◌}
-use Rattle.program_runner.proofs.Common.{option_append, Asked, run, WhereKnown, is_snapshot_head, IsAskedAnswer, IsWordAnswer, IsProgramAnswer, IsRunAnswer, IsSnapshotRun, IsHeadRead, IsResumeAnswer, IsRestoreAnswer, is_run}
+use Rattle.program_runner.proofs.Common.{option_append, Appends, Asked, WhereKnown, is_snapshot_head, IsWordAnswer, IsRunAnswer, IsCommandAnswer, IsHeadRead, IsResumeAnswer, IsRestoreAnswer, is_run}
+use Rattle.plant_script.specs.Reaching.{AnswersWords}
 
 -- ---- the bytes that were read, and the others after them
 
@@ -26,30 +27,21 @@ restore_resumed (Some input) (Some rest) whole head status old new read is same 
     let here = subst (λ (bytes : Option (List ℕ)). IsResumeAnswer bytes status old new) (whole_is input rest head whole read same) answers in
     λ not_six. when_true _ _ (is_snapshot_head input) (shown input rest head true read is) (here not_six)
 
--- `run` of a snapshot
-pub run_restored : (known left whole : Option (List ℕ)) (head : List ℕ) (status : ℕ) (old new : Option (List ℕ)) → WhereKnown known left (λ input rest. IsHeadRead input rest head)
-    → is_snapshot_head head ≡ true → whole ≡ option_append (Some head) left → IsSnapshotRun whole status old new → IsRunAnswer known status old new
-run_restored None left whole head status old new read is same answers = tt
-run_restored (Some input) None whole head status old new read is same answers = absurd read
-run_restored (Some input) (Some rest) whole head status old new read is same answers =
-    when_true _ _ (is_snapshot_head input) (shown input rest head true read is)
-    (subst (λ (bytes : Option (List ℕ)). IsSnapshotRun bytes status old new) (whole_is input rest head whole read same) answers)
-
 -- `run` of an input that is not a snapshot
-pub run_performed : (known left whole : Option (List ℕ)) (head : List ℕ) (status : ℕ) (old new : Option (List ℕ)) → WhereKnown known left (λ input rest. IsHeadRead input rest head)
-    → is_snapshot_head head ≡ false → whole ≡ option_append (Some head) left → IsProgramAnswer run whole status old new → IsRunAnswer known status old new
-run_performed None left whole head status old new read other same answers = tt
-run_performed (Some input) None whole head status old new read other same answers = absurd read
-run_performed (Some input) (Some rest) whole head status old new read other same answers =
+pub run_performed : (words : List (List ℕ)) (known left whole : Option (List ℕ)) (head : List ℕ) (status : ℕ) (old new : Option (List ℕ)) → WhereKnown known left (λ input rest. IsHeadRead input rest head)
+    → is_snapshot_head head ≡ false → whole ≡ option_append (Some head) left → (status ≢ 6 → AnswersWords words whole status (λ text. Appends old new text)) → IsRunAnswer words known status old new
+run_performed words None left whole head status old new read other same answers = tt
+run_performed words (Some input) None whole head status old new read other same answers = absurd read
+run_performed words (Some input) (Some rest) whole head status old new read other same answers =
     when_false _ _ (is_snapshot_head input) (shown input rest head false read other)
-    (subst (λ (bytes : Option (List ℕ)). IsProgramAnswer run bytes status old new) (whole_is input rest head whole read same) answers)
+    (record { answered = subst (λ (bytes : Option (List ℕ)). status ≢ 6 → AnswersWords words bytes status (λ text. Appends old new text)) (whole_is input rest head whole read same) answers })
 
 -- ---- the command
 
-pub as_run : (asked : Asked) (read : Option (List ℕ)) (status : ℕ) (old new : Option (List ℕ)) → is_run asked ≡ true
-    → IsRunAnswer read status old new → IsAskedAnswer asked read status old new
-as_run asked read status old new is answers = when_true _ _ (is_run asked) is answers
+pub as_run : (asked : Asked) (words : List (List ℕ)) (read : Option (List ℕ)) (status : ℕ) (old new : Option (List ℕ)) → is_run asked ≡ true
+    → IsRunAnswer words read status old new → IsCommandAnswer asked words read status old new
+as_run asked words read status old new is answers = when_true _ _ (is_run asked) is answers
 
-pub as_word : (asked : Asked) (read : Option (List ℕ)) (status : ℕ) (old new : Option (List ℕ)) → is_run asked ≡ false
-    → IsWordAnswer asked read status old new → IsAskedAnswer asked read status old new
-as_word asked read status old new other answers = when_false _ _ (is_run asked) other answers
+pub as_word : (asked : Asked) (words : List (List ℕ)) (read : Option (List ℕ)) (status : ℕ) (old new : Option (List ℕ)) → is_run asked ≡ false
+    → IsWordAnswer asked words read status old new → IsCommandAnswer asked words read status old new
+as_word asked words read status old new other answers = when_false _ _ (is_run asked) other answers

@@ -1,19 +1,12 @@
--- A script that is performed for the snapshot after it.
-use Rattle.std.proofs.Common.{◌≡◌, ◌≢◌, ◌⊎◌, ℕ, List, Option, Some, None, inl, inr, subst}
+-- A script that is performed, of which no snapshot is written.
+use Rattle.std.proofs.Common.{◌≡◌, ◌≢◌, ℕ, List, Option, Some, None, inl, inr, subst}
 use Rattle.program_runner.proofs.Common.{Appends, memory_line, state_line, RefusesToBegin, IsSnapshotAnswer}
 use Rattle.plant_core.specs.declared.live.rest_fault.RestFault.{RestFault}
 use Rattle.state_service.specs.declared.resumed.begin_fault.BeginFault.{BeginFault}
 use Rattle.state_service.specs.declared.resumed.begin_fault.BeginFault.TheVariants as begin
 use Rattle.state_service.specs.declared.resumed.saving.SnapshotEnd.{SnapshotEnd}
-use Rattle.state_service.specs.declared.resumed.saving.SnapshotEnd.TheVariants.{Saved, Unfinished, NoMemory, NotBegun}
+use Rattle.state_service.specs.declared.resumed.saving.SnapshotEnd.TheVariants.{Unfinished, NoMemory, NotBegun}
 use Rattle.state_service.specs.resumed.SavedAfter.{EndsWithSnapshot}
-
-pub saved : (known old new : Option (List ℕ)) (status : ℕ) (end : SnapshotEnd) → end ≡ Saved → EndsWithSnapshot known None None old new end
-    → (status ≡ 0) ⊎ (status ≡ 4) → IsSnapshotAnswer known status old new
-saved None old new status end is ends either = λ not_six. tt
-saved (Some input) old new status end is ends either =
-    let after = subst (λ (e : SnapshotEnd). EndsWithSnapshot (Some input) None None old new e) is ends in
-    λ not_six. inl (either, after)
 
 pub unfinished : (known old mid new : Option (List ℕ)) (status : ℕ) (end : SnapshotEnd) (why : RestFault) (operator : Option (List ℕ)) → end ≡ Unfinished why operator
     → EndsWithSnapshot known None None old mid end → (status ≢ 6 → (status ≡ 3) × Appends mid new state_line) → IsSnapshotAnswer known status old new

@@ -1,18 +1,18 @@
 -- What is written for a command without an option.
 use Rattle.std.proofs.Common.{◌≡◌, ◌≢◌, [], ℕ, List, Bool, true, false, not, ◌||◌, MatchBool, cond, is_some, Option, None, Some, option_map, IfSome, refl, sym, subst, ap, ◌∙◌, inl, inr}
-use Rattle.program_runner.proofs.Common.{Appends, memory_line, IsProgramAnswer, IsAskedAnswer, IsWordAnswer, IsRunAnswer, IsSnapshotRun, is_run, is_snapshot_head, IsResumeAnswer, IsRestoreAnswer, Asked, Order, order, service, run, asked_of, Reading, GivesLine, bare_order, bare_service, command, help, help_or_wrong, version, wrong, OptionTexts, is_bare, texts_of}
-use Rattle.diagnostics.specs.declared.command_line.asked.CommandLine.{CommandLine}
-use Rattle.diagnostics.specs.command_line.CommandLine.{GivesFault}
-use Rattle.diagnostics.specs.declared.command_line.asked.LineFault.{LineFault}
-use Rattle.diagnostics.specs.declared.command_line.asked.LineFault.TheVariants as line
-use Rattle.diagnostics.specs.declared.command_line.asked.ServiceWord.{ServiceWord}
-use Rattle.diagnostics.specs.declared.command_line.asked.ServiceWord.TheVariants.{Serve, Resume, Restore, Snapshot}
-use Rattle.diagnostics.specs.declared.command_line.options.OutputFormat.{OutputFormat}
-use Rattle.diagnostics.specs.declared.command_line.options.OutputFormat.TheVariants.{Plain, JsonLines}
-use Rattle.diagnostics.specs.declared.command_line.options.ProgramOptions.{ProgramOptions}
-use Rattle.diagnostics.specs.declared.command_line.options.UnknownKeyHandling.{UnknownKeyHandling}
-use Rattle.diagnostics.specs.declared.command_line.options.UnknownKeyHandling.TheVariants.{Warn, Refuse}
-use Rattle.diagnostics.specs.command_line.Options.{is_json, is_strict}
+use Rattle.program_runner.proofs.Common.{Appends, memory_line, IsProgramAnswer, IsAskedAnswer, IsWordAnswer, IsRunAnswer, IsCommandAnswer, is_run, is_snapshot_head, IsResumeAnswer, IsRestoreAnswer, Asked, Order, order, service, asked_of, bare_texts, Reading, GivesLine, bare_order, bare_service, command, help, help_or_wrong, version, wrong, OptionTexts, is_bare, texts_of}
+use Rattle.command_line.specs.declared.asked.CommandLine.{CommandLine}
+use Rattle.command_line.specs.CommandLine.{GivesFault}
+use Rattle.command_line.specs.declared.asked.LineFault.{LineFault}
+use Rattle.command_line.specs.declared.asked.LineFault.TheVariants as line
+use Rattle.command_line.specs.declared.asked.ServiceWord.{ServiceWord}
+use Rattle.command_line.specs.declared.asked.ServiceWord.TheVariants.{Resume, Restore, Snapshot}
+use Rattle.command_line.specs.declared.options.OutputFormat.{OutputFormat}
+use Rattle.command_line.specs.declared.options.OutputFormat.TheVariants.{Plain, JsonLines}
+use Rattle.command_line.specs.declared.options.ProgramOptions.{ProgramOptions}
+use Rattle.command_line.specs.declared.options.UnknownKeyHandling.{UnknownKeyHandling}
+use Rattle.command_line.specs.declared.options.UnknownKeyHandling.TheVariants.{Warn, Refuse}
+use Rattle.command_line.specs.Options.{is_json, is_strict}
 use Rattle.program_runner.specs.Answered.{WritesLineFault, words_line}
 use Rattle.program_runner.specs.Resume.{WritesHelp}
 use Rattle.program_runner.specs.Version.{version_text}
@@ -46,6 +46,11 @@ bare_options options bare =
     let after_state = not_or (is_some (texts_of options).state) _ after_strict.1 in
     (no_value _ options.input after_input.0, plain options.output after_json.0, warned options.unknown_keys after_strict.0, no_value _ options.state after_state.0)
 
+-- what is answered to words that are those of the command
+pub asked_answered : (asked : Asked) (words : List (List ℕ)) (read : Option (List ℕ)) (status : ℕ) (old new : Option (List ℕ)) → words ≡ bare_texts asked
+    → IsCommandAnswer asked words read status old new → IsAskedAnswer asked read status old new
+asked_answered asked words read status old new same answers = subst (λ (all : List (List ℕ)). IsCommandAnswer asked all read status old new) same answers
+
 -- ---- out of memory
 
 -- what holds of each input holds of a known one
@@ -53,40 +58,46 @@ if_known : (read : Option (List ℕ)) (P : List ℕ → Type 0) → ((input : Li
 if_known None P holds = tt
 if_known (Some input) P holds = holds input
 
--- the line of a failed allocation is written alone
-out_of_memory : (o : Order) (read : Option (List ℕ)) (status : ℕ) (old new : Option (List ℕ))
-    → (status ≢ 6 → (status ≡ 5) × Appends old new memory_line) → IsProgramAnswer o read status old new
-out_of_memory o read status old new wrote = λ not_six. inl ((wrote not_six).0, ([], (wrote not_six).1, inl refl))
+-- no word was read: the line of a failed allocation is written alone
+out_of_memory : (words : List (List ℕ)) (read : Option (List ℕ)) (status : ℕ) (old new : Option (List ℕ))
+    → (status ≢ 6 → (status ≡ 5) × Appends old new memory_line) → IsProgramAnswer words read status old new
+out_of_memory words read status old new wrote = record {
+  answered = λ not_six. record {
+    served = λ order names not_five. absurd (not_five (wrote not_six).0);
+    refused = λ wrong not_five. absurd (not_five (wrote not_six).0);
+    helped = λ help not_five. absurd (not_five (wrote not_six).0);
+    memory = λ five. ([], (wrote not_six).1, inl refl);
+  };
+}
 
 -- each service answers so, and so does `run`, whatever is read
 either : {A B : Type 0} (t : Bool) → A → B → MatchBool t A B
 either true a b = a
 either false a b = b
 
-module _ (read : Option (List ℕ)) (status : ℕ) (old new : Option (List ℕ)) (wrote : status ≢ 6 → (status ≡ 5) × Appends old new memory_line) where
+module _ (words : List (List ℕ)) (read : Option (List ℕ)) (status : ℕ) (old new : Option (List ℕ)) (wrote : status ≢ 6 → (status ≡ 5) × Appends old new memory_line) where
   resume_out_of_memory : IsResumeAnswer read status old new
   resume_out_of_memory = λ not_six. if_known read _ (λ input. inr (begin_faults.NoMemory, tt, (wrote not_six).0, (wrote not_six).1))
 
   restore_out_of_memory : IsRestoreAnswer read status old new
   restore_out_of_memory = λ not_six. if_known read _ (λ input. either (is_snapshot_head input) (inr (begin_faults.NoMemory, tt, (wrote not_six).0, (wrote not_six).1)) (inr (wrote not_six)))
 
-  snapshot_run_out_of_memory : IsSnapshotRun read status old new
-  snapshot_run_out_of_memory = λ not_six. if_known read _ (λ input. inr (begin_faults.NoMemory, tt, (wrote not_six).0, (wrote not_six).1))
+  pub run_out_of_memory : IsRunAnswer words read status old new
+  run_out_of_memory = if_known read _ (λ input. either (is_snapshot_head input) resume_out_of_memory (out_of_memory words read status old new wrote))
 
-  pub run_out_of_memory : IsRunAnswer read status old new
-  run_out_of_memory = if_known read _ (λ input. either (is_snapshot_head input) snapshot_run_out_of_memory (out_of_memory run read status old new wrote))
-
-  word_out_of_memory : (asked : Asked) → IsWordAnswer asked read status old new
-  word_out_of_memory (order o) = out_of_memory o read status old new wrote
-  word_out_of_memory (service Serve) = resume_out_of_memory
+  word_out_of_memory : (asked : Asked) → IsWordAnswer asked words read status old new
+  word_out_of_memory (order o) = out_of_memory words read status old new wrote
   word_out_of_memory (service Resume) = resume_out_of_memory
   word_out_of_memory (service Restore) = restore_out_of_memory
   word_out_of_memory (service Snapshot) = λ not_six. if_known read _ (λ input. inr (inr (inr (begin_faults.NoMemory, tt, (wrote not_six).0, (wrote not_six).1))))
 
+  command_out_of_memory : (asked : Asked) → IsCommandAnswer asked words read status old new
+  command_out_of_memory asked = either (is_run asked) run_out_of_memory (word_out_of_memory asked)
+
 -- no command was performed
-asked_out_of_memory : (asked : Asked) (read : Option (List ℕ)) (status : ℕ) (old new : Option (List ℕ)) → (status ≢ 6 → (status ≡ 5) × Appends old new memory_line)
+pub asked_out_of_memory : (asked : Asked) (read : Option (List ℕ)) (status : ℕ) (old new : Option (List ℕ)) → (status ≢ 6 → (status ≡ 5) × Appends old new memory_line)
     → IsAskedAnswer asked read status old new
-asked_out_of_memory asked read status old new wrote = either (is_run asked) (run_out_of_memory read status old new wrote) (word_out_of_memory read status old new wrote asked)
+asked_out_of_memory asked read status old new wrote = command_out_of_memory (bare_texts asked) read status old new wrote asked
 
 -- ---- what words name
 

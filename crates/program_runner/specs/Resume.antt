@@ -1,22 +1,15 @@
--- The commands `serve`, `resume`, `restore` and `snapshot`, and what they write (implementation-specific).
+-- The commands `resume`, `restore` and `snapshot`, and what they write (implementation-specific).
 use Rattle.std.specs.Prelude.{◌≡◌, ◌≢◌, ◌⊎◌, ℕ, List, [], ◌∷◌, ◌++◌, Option, None, IfSome, MatchBool, codes}
 use Rattle.std.specs.Fmt.{decimal}
 use Rattle.std.specs.Io.KnownBytes.{Appends}
 use Rattle.plant_core.specs.declared.live.rest_fault.RestFault.{RestFault}
 use Rattle.plant_script.specs.Check.{fault_text}
 use Rattle.plant_script.specs.Run.{memory_line, io_line}
-use Rattle.plant_script.specs.Task.{IsWritten}
-use Rattle.plant_script.specs.Words.{AnswersRunFrom}
-use Rattle.plant.specs.declared.plant.PlantFields.{PlantFields}
-use Rattle.plant_restart.specs.ByName.{start_by_name}
-use Rattle.snapshot_format.specs.declared.saved.Snapshot.{Snapshot}
-use Rattle.snapshot_format.specs.States.{states_of}
 use Rattle.state_service.specs.declared.resumed.begin_fault.BeginFault.{BeginFault}
-use Rattle.state_service.specs.declared.resumed.begin_fault.BeginFault.TheVariants.{NotText, InvalidSnapshot, InvalidPlant, NotRestored}
-use Rattle.state_service.specs.declared.resumed.begin_fault.BeginFault.TheVariants.{NoMemory}
+use Rattle.state_service.specs.declared.resumed.begin_fault.BeginFault.TheVariants.{NotText, InvalidSnapshot, InvalidPlant, NotRestored, NoMemory}
 use Rattle.state_service.specs.declared.resumed.saving.SnapshotEnd.{SnapshotEnd}
 use Rattle.state_service.specs.declared.resumed.saving.SnapshotEnd.TheVariants as saving
-use Rattle.state_service.specs.resumed.Beginning.{is_snapshot_head, front_text, lines_after, IsBeginning, IsBeginFault}
+use Rattle.state_service.specs.resumed.Beginning.{is_snapshot_head, front_text, lines_after, IsBeginFault}
 use Rattle.state_service.specs.resumed.Resumed.{IsResumedService}
 use Rattle.state_service.specs.resumed.SavedAfter.{IsSnapshotAfter}
 use Rattle.snapshot_format.specs.declared.fault.Wrong.TheVariants.{Version}
@@ -50,7 +43,7 @@ abbrev pub RefusesToBegin : BeginFault → ℕ → Option (List ℕ) → Option 
 RefusesToBegin fault status old new =
     ((status ≡ begin_status fault) × Appends old new (begin_line fault)) ⊎ ((status ≡ 5) × Appends old new memory_line)
 
--- ---- the commands `serve` and `resume`
+-- ---- the command `resume`
 
 -- the lines are answered; or the service does not begin, and its fault is written
 abbrev pub ResumeEnds : List ℕ → List ℕ → ℕ → Option (List ℕ) → Option (List ℕ) → Type 0
@@ -58,7 +51,7 @@ ResumeEnds text lines status old new =
     ((status ≡ 0) × IsResumedService text lines old new)
     ⊎ ((fault : BeginFault) × IsBeginFault text fault × (status ≡ begin_status fault) × Appends old new (begin_line fault))
 
--- what the commands `serve` and `resume` write for an input; status 6 is for what could not be read or written
+-- what the command `resume` writes for an input; status 6 is for what could not be read or written
 abbrev pub IsResumeAnswer : Option (List ℕ) → ℕ → Option (List ℕ) → Option (List ℕ) → Type 0
 IsResumeAnswer read status old new = status ≢ 6 → IfSome read (λ input. ResumeEnds (front_text input) (lines_after input) status old new)
 
@@ -71,48 +64,22 @@ no_snapshot = InvalidSnapshot 1 Version
 -- what the command `restore` writes for an input: a snapshot is answered as by `resume`, and any other input is refused
 abbrev pub IsRestoreAnswer : Option (List ℕ) → ℕ → Option (List ℕ) → Option (List ℕ) → Type 0
 IsRestoreAnswer read status old new =
-    status ≢ 6 → IfSome read (λ input. MatchBool (is_snapshot_head input) (ResumeEnds (front_text input) (lines_after input) status old new)
-    (RefusesToBegin no_snapshot status old new))
-
--- ---- the command `run` on a snapshot
-
--- the script after the snapshot is answered as `run` answers one after a plant file, from the states of the snapshot on
-pub record RunsScript (text script : List ℕ) (status : ℕ) (old new : Option (List ℕ)) : Type 0 where
-  pub plant : PlantFields
-  pub saved : Snapshot
-  pub begins : IsBeginning text plant saved
-  pub ran : IsWritten (AnswersRunFrom plant (start_by_name plant saved.frame (states_of saved)) script) status
-      (λ text. Appends old new text)
-
--- so it is; or the run does not begin, and its fault is written, as where memory runs out for the script
-abbrev pub SnapshotRunEnds : List ℕ → List ℕ → ℕ → Option (List ℕ) → Option (List ℕ) → Type 0
-SnapshotRunEnds text script status old new =
-    RunsScript text script status old new ⊎ ((fault : BeginFault) × IsBeginFault text fault × (status ≡ begin_status fault)
-    × Appends old new (begin_line fault))
-
--- what the command `run` writes for a snapshot; status 6 is for what could not be read or written
-abbrev pub IsSnapshotRun : Option (List ℕ) → ℕ → Option (List ℕ) → Option (List ℕ) → Type 0
-IsSnapshotRun read status old new = status ≢ 6
-    → IfSome read (λ input. SnapshotRunEnds (front_text input) (lines_after input) status old new)
+    status ≢ 6 → IfSome read (λ input. MatchBool (is_snapshot_head input) (ResumeEnds (front_text input) (lines_after input) status old new) (RefusesToBegin no_snapshot status old new))
 
 -- ---- the command `snapshot`
 
 -- the lines are performed, no snapshot is written for this reason, and this line is written
 abbrev pub EndsUnsaved : List ℕ → List ℕ → SnapshotEnd → List ℕ → Option (List ℕ) → Option (List ℕ) → Type 0
-EndsUnsaved text lines end fault_line old new = (mid : Option (List ℕ)) × IsSnapshotAfter text lines None None old mid end
-    × Appends mid new fault_line
+EndsUnsaved text lines end fault_line old new = (mid : Option (List ℕ)) × IsSnapshotAfter text lines None None old mid end × Appends mid new fault_line
 
--- the snapshot after the lines is written, with status 4 where a line was refused; or the plant does not rest then; or memory ran out; or
--- the service does not begin
+-- the snapshot after the lines is written; or the plant does not rest then; or memory ran out; or the service does not begin
 abbrev pub SnapshotEnds : List ℕ → List ℕ → ℕ → Option (List ℕ) → Option (List ℕ) → Type 0
 SnapshotEnds text lines status old new =
-    (((status ≡ 0) ⊎ (status ≡ 4)) × IsSnapshotAfter text lines None None old new saving.Saved)
-    ⊎ (((status ≡ 3) × ((why : RestFault) × ((operator : Option (List ℕ))
-    × EndsUnsaved text lines (saving.Unfinished why operator) state_line old new)))
+    ((status ≡ 0) × IsSnapshotAfter text lines None None old new saving.Saved)
+    ⊎ (((status ≡ 3) × ((why : RestFault) × ((operator : Option (List ℕ)) × EndsUnsaved text lines (saving.Unfinished why operator) state_line old new)))
     ⊎ (((status ≡ 5) × EndsUnsaved text lines saving.NoMemory memory_line old new)
     ⊎ ((fault : BeginFault) × IsBeginFault text fault × (status ≡ begin_status fault) × Appends old new (begin_line fault))))
 
 -- what the command `snapshot` writes for an input; status 6 is for what could not be read or written
 abbrev pub IsSnapshotAnswer : Option (List ℕ) → ℕ → Option (List ℕ) → Option (List ℕ) → Type 0
-IsSnapshotAnswer read status old new = status ≢ 6
-    → IfSome read (λ input. SnapshotEnds (front_text input) (lines_after input) status old new)
+IsSnapshotAnswer read status old new = status ≢ 6 → IfSome read (λ input. SnapshotEnds (front_text input) (lines_after input) status old new)

@@ -52,8 +52,6 @@ abbrev pub opening_kind : JournalOpenFault → FaultKind
 opening_kind openings.NotAFolder = Io
 opening_kind (openings.Io part error) = Io
 opening_kind openings.InUse = Io
-opening_kind openings.Link = State
-opening_kind openings.Emptied = State
 opening_kind openings.NoMemory = Memory
 
 -- ---- what is written
@@ -66,16 +64,13 @@ WritesFault State status old new = (status ≡ 3) × Appends old new (codes "fau
 WritesFault Memory status old new = (status ≡ 5) × Appends old new memory_line
 WritesFault Io status old new = status ≡ 6
 
--- all lines of the input that a line feed ends are answered, from the journal of these bytes on, whatever bytes follow the last line feed;
--- or a fault ends the service, and its line is the last one
+-- all lines of the input are answered, from the journal of these bytes on; or a fault ends the service, and its line is the last one
 abbrev pub StateServiceEnds : List ℕ → Option (List ℕ) → ℕ → Option (List ℕ) → Option (List ℕ) → Type 0
 StateServiceEnds bytes read status old new =
-    ((status ≡ 0) × IfSome read (λ input. (unfinished : ℕ) × (content : Option JournalContent)
-    × IsStateService bytes (plant_text input) (script_text input) unfinished content old new))
+    ((status ≡ 0) × IfSome read (λ input. (content : Option JournalContent) × IsStateService bytes (plant_text input) (script_text input) content old new))
     ⊎ ((fault : StateServiceFault) × (mid : Option (List ℕ)) × WritesFault (state_kind fault) status mid new)
 
 -- all lines are answered from the journal of the folder, or a fault ends the service; or the journal is not opened
 abbrev pub StateFolderEnds : Option (List ℕ) → ℕ → Option (List ℕ) → Option (List ℕ) → Type 0
 StateFolderEnds read status old new =
-    ((bytes : List ℕ) × StateServiceEnds bytes read status old new)
-    ⊎ ((fault : JournalOpenFault) × WritesFault (opening_kind fault) status old new)
+    ((bytes : List ℕ) × StateServiceEnds bytes read status old new) ⊎ ((fault : JournalOpenFault) × WritesFault (opening_kind fault) status old new)

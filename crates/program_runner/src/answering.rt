@@ -3,11 +3,11 @@
 ghost use Rattle.std.specs.Prelude.{◌≡◌, ◌≢◌};
 ghost use Rattle.std.specs.Io.KnownBytes.{Appends};
 ghost use Rattle.plant_script.specs.Run.{memory_line};
-ghost use Rattle.diagnostics.specs.declared.command_line.options.OutputFormat.TheVariants.{Plain};
+ghost use Rattle.command_line.specs.declared.options.OutputFormat.TheVariants.{Plain};
 ghost use Rattle.program_runner.specs.Answered.{words_line};
 
-use crate::json_lines::{JsonLines, LineSource};
-use diagnostics::{OutputFormat, text_of_wrong};
+use command_line::{OutputFormat, text_of_wrong};
+use json_lines::{JsonLines, LineSource};
 use std::alloc::{AllocError, Global};
 use std::io::Write;
 
@@ -41,8 +41,7 @@ pub(crate) fn refuse<'a, W: Write, E: Write>(
     writer: &mut W,
     reasons: &mut E,
 ) -> u8
-    ensures { output ≡ Plain → result ≢ 6 → (result ≡ 2)
-        × Appends (W.contents writer.old) (W.contents writer.new) words_line }
+    ensures { output ≡ Plain → result ≢ 6 → (result ≡ 2) × Appends (W.contents writer.old) (W.contents writer.new) words_line }
 {
     tell(reasons, text_of_wrong(alloc, words));
     match output {

@@ -1,8 +1,8 @@
 //! What standard error says of a service that does not begin.
 
+use operator_book::StateFault;
 use plant_restart::{RestartFault, RestoreFault};
 use snapshot_format::Wrong;
-use state_judge::StateFault;
 use state_service::BeginFault;
 use std::alloc::{AllocError, Global};
 use std::io;

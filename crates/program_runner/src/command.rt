@@ -1,31 +1,35 @@
-//! A command other than `threads` that is performed, with what it needs besides its streams.
+//! A command that is performed, with what it needs besides its streams.
 
-ghost use Rattle.std.specs.Prelude.{◌≡◌, ◌≢◌};
-ghost use Rattle.diagnostics.specs.command_line.Order.{asked_of};
-ghost use Rattle.diagnostics.specs.declared.command_line.asked.BatchWord.TheVariants as batch;
-ghost use Rattle.diagnostics.specs.declared.command_line.asked.CommandWord.TheVariants as any;
+ghost use Rattle.std.specs.Prelude.{◌≡◌};
+ghost use Rattle.clap.specs.Walk.{texts};
+ghost use Rattle.command_line.specs.Order.{asked_of};
 ghost use Rattle.program_runner.specs.Answered.{IsWordAnswer};
 
 use crate::restoring::run_restore;
 use crate::resuming::run_resume;
 use crate::snapshot_command::run_snapshot;
-use diagnostics::{CommandWord, ServiceWord, UnknownKeyHandling};
-use line_service::NoNotes;
-use plant_script::{Ending, run_batch};
+use command_line::{CommandWord, ServiceWord, UnknownKeyHandling};
+use plant_script::{Ending, run_program_with_reasons};
 use std::alloc::Global;
 use std::io::{BufRead, Write};
+use std::sync::Wait;
+use std::thread::Threads;
 
-/// A command other than `threads` that is performed, with what it needs besides its streams. It waits for nobody.
+/// A command that is performed, with what it needs besides its streams.
 #[derive(Drop)]
-pub(crate) struct Command<'a> {
+pub(crate) struct Command<'a, H> {
+    pub(crate) rt: &'a H,
+    /// The system, of which journals are opened.
+    pub(crate) host: &'a HostRuntime,
     pub(crate) alloc: Global,
     pub(crate) word: CommandWord<'a>,
+    /// Words of the command without its options.
+    pub(crate) words: &'a [&'a str],
     pub(crate) unknown_keys: UnknownKeyHandling,
     pub(crate) ending: Ending,
-    ghost returns: { word ≢ any.Order batch.Threads },
 }
 
-impl Command<'_> {
+impl<H: Threads + Wait + Sync> Command<'_, H> {
     /// Performs the command without its options, `run` as on a plant file. Returns the status.
     pub(crate) fn run<R: BufRead, W: Write, E: Write>(
         &self,
@@ -33,13 +37,10 @@ impl Command<'_> {
         writer: &mut W,
         reasons: &mut E,
     ) -> u8
-        ensures { IsWordAnswer (asked_of self.now.word) (R.remaining reader.old) result (W.contents writer.old)
-            (W.contents writer.new) }
+        ensures { IsWordAnswer (asked_of self.now.word) (texts self.now.words.now) (R.remaining reader.old) result
+            (W.contents writer.old) (W.contents writer.new) }
     {
         match self.word {
-            CommandWord::Service(ServiceWord::Serve) => run_resume(
-                self.alloc, reader, writer, reasons,
-            ),
             CommandWord::Service(ServiceWord::Resume) => run_resume(
                 self.alloc, reader, writer, reasons,
             ),
@@ -49,12 +50,12 @@ impl Command<'_> {
             CommandWord::Service(ServiceWord::Snapshot) => run_snapshot(
                 self.alloc, reader, writer, reasons,
             ),
-            CommandWord::Order(word) => run_batch(
+            CommandWord::Order(_word) => run_program_with_reasons(
+                self.rt,
                 self.alloc,
-                word,
+                self.words,
                 reader,
                 writer,
-                &mut NoNotes,
                 reasons,
                 self.ending,
             ),

@@ -1,7 +1,5 @@
 //! A writer that counts the answers that are faults, and drops all answers.
 
-ghost use Rattle.std.specs.Prelude.{◌≡◌, ◌⊎◌};
-
 use std::alloc::{AllocError, Global};
 use std::io;
 use std::io::Write;
@@ -63,14 +61,6 @@ impl FaultCount {
             *place = byte;
         }
         self.length = self.length.saturating_add(1);
-    }
-
-    /// Returns the status of a script whose lines have these answers: 4 where one of them is a fault.
-    pub(crate) fn status(&self) -> u8
-        // Which of them it is, is only tested.
-        ensures { (result ≡ 0) ⊎ (result ≡ 4) }
-    {
-        if self.count == 0 { 0 } else { 4 }
     }
 
     /// Returns how many answers were faults, and which was the first, if there was one.

@@ -1,25 +1,22 @@
 //! Commands with the option `--json`.
 
 use crate::answering::finish;
-use crate::check_notes::CheckNotes;
 use crate::command::Command;
-use crate::head_reading::read_head;
-use crate::json_lines::{JsonLines, LineSource};
-use crate::restoring::refuse_unread;
-use crate::resuming::{end_with_error, refuse_to_begin};
-use crate::service_reasons::ServiceReasons;
-use crate::snapshot_run::{begin_run, read_script, report_end};
+use crate::noted_service::serve_objects;
+use crate::recording::RecordingReader;
 use crate::strict::run_keys;
-use diagnostics::{BatchWord, CommandWord, RunReport, ServiceWord};
-use plant_script::{run_batch, write_script_run};
-use state_service::{ServiceEnd, is_snapshot_head, resume};
-use std::alloc::{AllocError, Global};
-use std::io::{BufRead, Read, Write};
+use command_line::{BatchWord, CommandWord, RunReport, Word};
+use json_lines::{JsonLines, LineSource, OutputNote, TraceNotes};
+use plant_script::run_program_with_reasons;
+use std::alloc::Global;
+use std::io::{BufRead, BufReader, Write};
+use std::sync::Wait;
+use std::thread::Threads;
 
 /// Performs a command, and writes an object for each of its lines. Returns the status: 5 where an allocation failed for an
 /// object.
-fn run_lines<R: BufRead, W: Write, E: Write>(
-    command: &Command<'_>,
+fn run_lines<H: Threads + Wait + Sync, R: BufRead, W: Write, E: Write>(
+    command: &Command<'_, H>,
     source: LineSource,
     reader: &mut R,
     writer: &mut W,
@@ -30,123 +27,77 @@ fn run_lines<R: BufRead, W: Write, E: Write>(
     if lines.is_full() { 5 } else { status }
 }
 
-/// Runs the script after a snapshot, and writes an object for each output. Returns the status.
-fn run_snapshot_objects<R: BufRead, W: Write, E: Write>(
-    alloc: Global,
+/// Writes the object of a last line. Returns the status.
+fn finish_line<W: Write>(alloc: Global, writer: &mut W, status: u8, line: &[u8]) -> u8 {
+    let mut lines = JsonLines::new(alloc, writer, LineSource::Alone);
+    finish(&mut lines, status, line)
+}
+
+/// Returns what is known of each output of a run: it is performed as a trace. None where an allocation failed, or a read.
+fn notes_of<H: Threads + Wait + Sync, R: BufRead, E: Write>(
+    command: &Command<'_, H>,
     reader: &mut R,
-    lines: &mut JsonLines<'_, W>,
+    reasons: &mut E,
+) -> Result<Vec<OutputNote>, u8> {
+    let words = ["trace"];
+    let mut notes = TraceNotes::new(command.alloc);
+    let mut message = Vec::new(command.alloc);
+    let status = run_program_with_reasons(
+        command.rt,
+        command.alloc,
+        words.as_slice(),
+        reader,
+        &mut notes,
+        &mut message,
+        command.ending,
+    );
+    let status = match notes.into_notes() {
+        Some(notes) if status != 5 && status != 6 => return Ok(notes),
+        Some(_notes) => status,
+        None => 5,
+    };
+    let _lost = reasons.write_all(message.as_slice());
+    Err(status)
+}
+
+/// Performs `run`, and writes an object for each output, with the line of the script and the check that decided it. Returns the
+/// status.
+fn run_noted<H: Threads + Wait + Sync, R: BufRead, W: Write, E: Write>(
+    command: &Command<'_, H>,
+    reader: &mut R,
+    writer: &mut W,
     reasons: &mut E,
 ) -> u8 {
-    let mut core = match begin_run(alloc, reader, lines, reasons) {
-        Ok(core) => core,
-        Err(status) => return status,
+    let alloc = command.alloc;
+    let Ok(mut recording) = BufReader::new(alloc, RecordingReader::new(alloc, reader)) else {
+        return finish_line(alloc, writer, 5, b"fault: memory\n");
     };
-    let script = match read_script(alloc, reader, lines, reasons) {
-        Ok(script) => script,
-        Err(status) => return status,
-    };
-    let mut observer = CheckNotes::new(alloc, ServiceReasons::new(alloc, reasons));
-    let ended = write_script_run(alloc, &mut core, script.as_slice(), &mut observer, lines);
-    match ended {
-        Ok(status) => {
-            let reasons = &mut observer.reasons;
-            report_end(alloc, &mut core, script.as_slice(), status, reasons);
-            status.code()
+    let noted = notes_of(command, &mut recording, reasons);
+    match (noted, recording.get_ref().record()) {
+        (Ok(notes), Some(mut input)) => {
+            let source = LineSource::Run(notes.into_iter());
+            run_lines(command, source, &mut input, writer, reasons)
         }
-        Err(_error) if lines.is_full() => {
-            observer.reasons.report(Err(AllocError));
-            finish(lines, 5, b"fault: memory\n")
-        }
-        Err(error) => end_with_error(alloc, &error, lines, &mut observer.reasons),
+        (Err(6), Some(_input)) => finish_line(alloc, writer, 6, b"fault: io\n"),
+        _ => finish_line(alloc, writer, 5, b"fault: memory\n"),
     }
 }
 
-/// Runs the script after a plant file, and writes an object for each output. Returns the status.
-fn run_file_objects<R: BufRead, W: Write, E: Write>(
-    command: &Command<'_>,
-    reader: &mut R,
-    lines: &mut JsonLines<'_, W>,
-    reasons: &mut E,
-) -> u8 {
-    let alloc = command.alloc;
-    let word = BatchWord::Run(RunReport::Outputs);
-    // Why a step is refused is reported of the whole script.
-    let mut unheard = Vec::new(alloc);
-    let mut observer = CheckNotes::new(alloc, ServiceReasons::new(alloc, &mut unheard));
-    let ending = command.ending;
-    run_batch(alloc, word, reader, lines, &mut observer, reasons, ending)
-}
-
-/// Performs `run`, and writes an object for each output, with the line of the script, the check that decided it, and the numbers
-/// that the check compared. Returns the status: 5 where an allocation failed for an object.
-fn run_input_objects<R: BufRead, W: Write, E: Write>(
-    command: &Command<'_>,
-    reader: &mut R,
-    writer: &mut W,
-    reasons: &mut E,
-) -> u8 {
-    let alloc = command.alloc;
-    let mut lines = JsonLines::new(alloc, writer, LineSource::service());
-    let head = match read_head(alloc, reader) {
-        Ok(head) => head,
-        Err(error) => return refuse_unread(alloc, &error, &mut lines, reasons),
-    };
-    let mut whole = head.as_slice().chain(reader);
-    let status = if is_snapshot_head(head.as_slice()) {
-        run_snapshot_objects(alloc, &mut whole, &mut lines, reasons)
-    } else {
-        run_file_objects(command, &mut whole, &mut lines, reasons)
-    };
-    if lines.is_full() { 5 } else { status }
-}
-
-/// Performs `serve`, and writes an object for each line of the output, with the line of the script, the check that decided it, and the
-/// numbers that the check compared. Returns the status: 5 where an allocation failed for an object.
-fn resume_objects<R: BufRead, W: Write, E: Write>(
-    alloc: Global,
-    reader: &mut R,
-    writer: &mut W,
-    reasons: &mut E,
-) -> u8 {
-    let mut lines = JsonLines::new(alloc, writer, LineSource::service());
-    let mut observer = CheckNotes::new(alloc, ServiceReasons::new(alloc, reasons));
-    let status = match resume(alloc, reader, &mut lines, &mut observer) {
-        Ok(ServiceEnd::Served) => 0,
-        Ok(ServiceEnd::NotBegun { fault }) => refuse_to_begin(
-            alloc,
-            &fault,
-            &mut lines,
-            &mut observer.reasons,
-        ),
-        Err(_error) if lines.is_full() => {
-            observer.reasons.report(Err(AllocError));
-            finish(&mut lines, 5, b"fault: memory\n")
-        }
-        Err(error) => end_with_error(alloc, &error, &mut lines, &mut observer.reasons),
-    };
-    if lines.is_full() { 5 } else { status }
-}
-
 /// Performs a command, and writes objects in place of lines. Returns the status.
-pub(crate) fn run_objects<R: BufRead, W: Write, E: Write>(
-    command: &Command<'_>,
+pub(crate) fn run_objects<H: Threads + Wait + Sync, R: BufRead, W: Write, E: Write>(
+    command: &Command<'_, H>,
     reader: &mut R,
     writer: &mut W,
     reasons: &mut E,
 ) -> u8 {
     match command.word {
-        CommandWord::Order(BatchWord::Run(RunReport::Outputs)) => {
-            run_input_objects(command, reader, writer, reasons)
+        CommandWord::Order(Word::Batch(BatchWord::Run(RunReport::Outputs))) => {
+            run_noted(command, reader, writer, reasons)
         }
-        CommandWord::Order(BatchWord::Run(RunReport::Trace)) => {
+        CommandWord::Order(Word::Batch(BatchWord::Run(RunReport::Trace))) => {
             run_lines(command, LineSource::trace(), reader, writer, reasons)
         }
-        CommandWord::Service(ServiceWord::Serve | ServiceWord::Resume) => resume_objects(
-            command.alloc,
-            reader,
-            writer,
-            reasons,
-        ),
+        CommandWord::Order(Word::Serve) => serve_objects(command, reader, writer, reasons),
         _ => run_lines(command, LineSource::Alone, reader, writer, reasons),
     }
 }

@@ -2,15 +2,17 @@
 
 use crate::answering::tell;
 use crate::begin_reasons::state_text;
+use crate::number_reasons::number_reason;
 use crate::shared_reasons::shared_text;
-use diagnostics::reason_of_plant_file;
+use command_line::Word;
+use diagnostics::reason_of;
 use frame_numbers::RenumberFault;
+use operator_book::StateFault;
 use plant::{Op, OperatorName, Plant};
 use plant_core::{LiveCore, RestFault, ResumeFault};
 use plant_restart::{ChangeFault, RefusedState, RestartFault, refused_states};
 use slice_table::read_plant;
-use state_judge::StateFault;
-use state_service::NewPlantFault;
+use state_service::{NewFrameFault, NewPlantFault, RefusalNotes};
 use std::alloc::{AllocError, Global};
 use std::io::Write;
 
@@ -59,7 +61,7 @@ fn plant_of(alloc: Global, file: &[u8]) -> Option<Plant> {
 }
 
 /// Returns the name of an operator of a plant by its place.
-pub(crate) fn operator_named(plant: Option<&Plant>, op: Op) -> Option<OperatorName> {
+fn operator_named(plant: Option<&Plant>, op: Op) -> Option<OperatorName> {
     let row = plant?.rows().get(op)?;
     Some(row.get_fields().name)
 }
@@ -145,7 +147,7 @@ fn fault_text(
 
 /// Returns why the plant is not changed to the plant file after the line `P` of this number. Of an invalid file it says what
 /// `check` says.
-pub(crate) fn refusal_reason(
+fn refusal_reason(
     alloc: Global,
     core: &LiveCore,
     number: u64,
@@ -156,7 +158,7 @@ pub(crate) fn refusal_reason(
     let mut reason = format!(in alloc; "line {number}: the plant is not changed: {text}\n")?;
     if let NewPlantFault::InvalidPlant { fault: _ } = why {
         let file = str::from_utf8(file).unwrap_or("");
-        let more = reason_of_plant_file(alloc, file, INVALID_PLANT)?;
+        let more = reason_of(alloc, Word::Serve, file, INVALID_PLANT)?;
         reason.push_str(more.as_str())?;
     }
     Ok(reason)
@@ -222,7 +224,7 @@ pub(crate) fn refusal_texts(
 }
 
 /// Writes a line for each further refusal of an operator's state under a plant file, if one is reported.
-pub(crate) fn report_further<E: Write>(
+fn report_further<E: Write>(
     alloc: Global,
     core: &LiveCore,
     number: u64,
@@ -247,4 +249,43 @@ pub(crate) fn report_further<E: Write>(
         tell(reasons, line);
     }
     Ok(())
+}
+
+/// Writes the reasons of refused changes to standard error as they come.
+#[derive(Drop)]
+pub(crate) struct RefusalReasons<'a, E> {
+    reasons: &'a mut E,
+}
+
+impl<'a, E: Write> RefusalReasons<'a, E> {
+    /// Returns the reasons that are written so.
+    pub(crate) fn new(reasons: &'a mut E) -> RefusalReasons<'a, E> {
+        RefusalReasons { reasons }
+    }
+}
+
+impl<E: Write> RefusalNotes for RefusalReasons<'_, E> {
+    fn note_refused(
+        &mut self,
+        alloc: Global,
+        core: &LiveCore,
+        number: u64,
+        file: &[u8],
+        why: &NewPlantFault,
+    ) {
+        tell(self.reasons, refusal_reason(alloc, core, number, file, why));
+        if report_further(alloc, core, number, file, why, self.reasons).is_err() {
+            tell(self.reasons, Err(AllocError));
+        }
+    }
+
+    fn note_frame_refused(
+        &mut self,
+        alloc: Global,
+        number: u64,
+        plant: &Plant,
+        why: &NewFrameFault,
+    ) {
+        tell(self.reasons, number_reason(alloc, number, plant, why));
+    }
 }

@@ -1,7 +1,8 @@
-//! The command `restore`: a service that begins with a snapshot. And `run`, whose script may follow one.
+//! The command `restore`: a service that begins with a snapshot. And `run`, which may begin with one.
 
 ghost use Rattle.std.specs.Prelude.{◌≡◌, ◌≢◌};
 ghost use Rattle.std.specs.Io.KnownBytes.{Appends};
+ghost use Rattle.clap.specs.Walk.{texts};
 ghost use Rattle.plant_script.specs.Run.{memory_line};
 ghost use Rattle.program_runner.specs.Answered.{IsRunAnswer};
 ghost use Rattle.program_runner.specs.Resume.{IsRestoreAnswer};
@@ -10,15 +11,14 @@ use crate::answering::{finish, tell};
 use crate::command::Command;
 use crate::head_reading::read_head;
 use crate::resuming::{answer_io_error, run_resume, write_begin_fault};
-use crate::snapshot_run::run_on_snapshot;
-use diagnostics::{BatchWord, RunReport};
-use line_service::NoNotes;
-use plant_script::run_batch;
+use plant_script::run_program_with_reasons;
 use snapshot_format::Wrong;
 use state_service::{BeginFault, is_snapshot_head};
 use std::alloc::{AllocError, Global};
 use std::io;
 use std::io::{BufRead, Read, Write};
+use std::sync::Wait;
+use std::thread::Threads;
 
 /// Why an input is refused that does not begin as a snapshot does.
 const NO_SNAPSHOT: &str =
@@ -26,7 +26,7 @@ const NO_SNAPSHOT: &str =
      or begin with a plant file under `run` or `resume`\n";
 
 /// Answers that the first bytes of an input are not read: out of memory, or a read that failed. Returns the status.
-pub(crate) fn refuse_unread<W: Write, E: Write>(
+fn refuse_unread<W: Write, E: Write>(
     alloc: Global,
     error: &io::Error,
     writer: &mut W,
@@ -68,14 +68,14 @@ pub(crate) fn run_restore<R: BufRead, W: Write, E: Write>(
     run_resume(alloc, &mut whole, writer, reasons)
 }
 
-/// Performs the command `run`: on a snapshot, if the input begins as one does, and otherwise on a plant file. Returns the status.
-pub(crate) fn run_input<R: BufRead, W: Write, E: Write>(
-    command: &Command<'_>,
+/// Performs the command `run`: as `resume`, if the input begins as a snapshot does. Returns the status.
+pub(crate) fn run_input<H: Threads + Wait + Sync, R: BufRead, W: Write, E: Write>(
+    command: &Command<'_, H>,
     reader: &mut R,
     writer: &mut W,
     reasons: &mut E,
 ) -> u8
-    ensures { IsRunAnswer (R.remaining reader.old) result (W.contents writer.old) (W.contents writer.new) }
+    ensures { IsRunAnswer (texts command.now.words.now) (R.remaining reader.old) result (W.contents writer.old) (W.contents writer.new) }
 {
     let alloc = command.alloc;
     let head = match read_head(alloc, reader) {
@@ -84,16 +84,8 @@ pub(crate) fn run_input<R: BufRead, W: Write, E: Write>(
     };
     let mut whole = head.as_slice().chain(reader);
     if is_snapshot_head(head.as_slice()) {
-        return run_on_snapshot(alloc, &mut whole, writer, reasons);
+        return run_resume(alloc, &mut whole, writer, reasons);
     }
-    let word = BatchWord::Run(RunReport::Outputs);
-    run_batch(
-        alloc,
-        word,
-        &mut whole,
-        writer,
-        &mut NoNotes,
-        reasons,
-        command.ending,
-    )
+    let (rt, words, ending) = (command.rt, command.words, command.ending);
+    run_program_with_reasons(rt, alloc, words, &mut whole, writer, reasons, ending)
 }

@@ -1,12 +1,12 @@
-//! The commands `serve` and `resume`: a service that begins with a plant file or a snapshot.
+//! The command `resume`: a service that begins with a plant file or a snapshot.
 
 ghost use Rattle.std.specs.Prelude.{◌≡◌, ◌≢◌, IfOk};
 ghost use Rattle.std.specs.String.{string_bytes};
 ghost use Rattle.program_runner.specs.Resume.{begin_status, begin_line, RefusesToBegin, IsResumeAnswer};
 
 use crate::answering::{finish, tell};
-use crate::begin_reasons::io_reason;
-use crate::service_reasons::ServiceReasons;
+use crate::begin_reasons::{begin_reason, io_reason};
+use crate::refusal_reasons::RefusalReasons;
 use plant_script::plant_line;
 use state_service::{BeginFault, ServiceEnd, resume};
 use std::alloc::{AllocError, Global};
@@ -56,20 +56,12 @@ pub(crate) fn refuse_to_begin<W: Write, E: Write>(
     alloc: Global,
     fault: &BeginFault,
     writer: &mut W,
-    observer: &mut ServiceReasons<'_, E>,
+    reasons: &mut E,
 ) -> u8
     ensures { result ≢ 6 → RefusesToBegin fault.now result (W.contents writer.old) (W.contents writer.new) }
 {
-    observer.report_begin_fault(alloc, fault);
+    tell(reasons, begin_reason(alloc, fault));
     write_begin_fault(alloc, fault, writer)
-}
-
-/// Writes the line of a read or a write that failed. Returns the status.
-fn end_failed<W: Write>(writer: &mut W) -> u8
-    ensures { result ≡ 6 }
-{
-    let _lost = finish(writer, 6, b"fault: io\n");
-    6
 }
 
 /// Answers a read or a write that failed. Returns the status.
@@ -82,23 +74,11 @@ pub(crate) fn answer_io_error<W: Write, E: Write>(
     ensures { result ≡ 6 }
 {
     tell(reasons, io_reason(alloc, error));
-    end_failed(writer)
+    let _lost = finish(writer, 6, b"fault: io\n");
+    6
 }
 
-/// Answers a read or a write of a service that failed. Returns the status.
-pub(crate) fn end_with_error<W: Write, E: Write>(
-    alloc: Global,
-    error: &io::Error,
-    writer: &mut W,
-    observer: &mut ServiceReasons<'_, E>,
-) -> u8
-    ensures { result ≡ 6 }
-{
-    observer.report(io_reason(alloc, error));
-    end_failed(writer)
-}
-
-/// Performs the command `serve`. Returns the status.
+/// Performs the command `resume`. Returns the status.
 pub(crate) fn run_resume<R: BufRead, W: Write, E: Write>(
     alloc: Global,
     reader: &mut R,
@@ -107,11 +87,10 @@ pub(crate) fn run_resume<R: BufRead, W: Write, E: Write>(
 ) -> u8
     ensures { IsResumeAnswer (R.remaining reader.old) result (W.contents writer.old) (W.contents writer.new) }
 {
-    let mut observer = ServiceReasons::new(alloc, reasons);
-    let ended = resume(alloc, reader, writer, &mut observer);
+    let ended = resume(alloc, reader, writer, &mut RefusalReasons::new(reasons));
     match ended {
         Ok(ServiceEnd::Served) => 0,
-        Ok(ServiceEnd::NotBegun { fault }) => refuse_to_begin(alloc, &fault, writer, &mut observer),
-        Err(error) => end_with_error(alloc, &error, writer, &mut observer),
+        Ok(ServiceEnd::NotBegun { fault }) => refuse_to_begin(alloc, &fault, writer, reasons),
+        Err(error) => answer_io_error(alloc, &error, writer, reasons),
     }
 }

@@ -3,15 +3,13 @@
 ghost use Rattle.std.specs.Prelude.{◌≡◌, ◌≢◌, true, false};
 ghost use Rattle.std.specs.Io.KnownBytes.{Appends};
 ghost use Rattle.clap.specs.Walk.{texts};
-ghost use Rattle.diagnostics.specs.command_line.CommandLine.{AreRefused, AsksHelp, AsksVersion, NamesOrder, NamesService, asks_json};
-ghost use Rattle.diagnostics.specs.command_line.Options.{is_bare, texts_of};
-ghost use Rattle.diagnostics.specs.command_line.Order.{Order, asked_of, order, service, threads};
-ghost use Rattle.diagnostics.specs.declared.command_line.asked.BatchWord.TheVariants as batch;
-ghost use Rattle.diagnostics.specs.declared.command_line.asked.CommandWord.TheVariants as any;
-ghost use Rattle.diagnostics.specs.declared.command_line.asked.ServiceWord.{ServiceWord};
-ghost use Rattle.diagnostics.specs.declared.command_line.options.OutputFormat.TheVariants.{Plain};
-ghost use Rattle.diagnostics.specs.declared.command_line.options.UnknownKeyHandling.TheVariants.{Warn};
-ghost use Rattle.program_runner.specs.Answered.{IsAskedAnswer, WritesLineFault, is_run, words_line};
+ghost use Rattle.command_line.specs.CommandLine.{AreRefused, AsksHelp, AsksVersion, NamesOrder, NamesService, asks_json};
+ghost use Rattle.command_line.specs.Options.{is_bare, texts_of};
+ghost use Rattle.command_line.specs.Order.{Order, asked_of, order, service};
+ghost use Rattle.command_line.specs.declared.asked.ServiceWord.{ServiceWord};
+ghost use Rattle.command_line.specs.declared.options.OutputFormat.TheVariants.{Plain};
+ghost use Rattle.command_line.specs.declared.options.UnknownKeyHandling.TheVariants.{Warn};
+ghost use Rattle.program_runner.specs.Answered.{IsAskedAnswer, IsCommandAnswer, WritesLineFault, is_run, words_line};
 ghost use Rattle.program_runner.specs.Resume.{WritesHelp};
 ghost use Rattle.program_runner.specs.Version.{version_text};
 
@@ -23,11 +21,11 @@ use crate::restoring::run_input;
 use crate::state_command::run_state;
 use crate::strict::run_keys;
 use crate::version::answer_version;
-use diagnostics::{
-    BatchWord, CommandLine, CommandWord, LineFault, OutputFormat, ProgramOptions, RunReport,
-    asks_json, read_command_line,
+use command_line::{
+    BatchWord, CommandLine, CommandWord, LineFault, OutputFormat, RunReport, Word, asks_json,
+    bare_words, read_command_line,
 };
-use plant_script::{Ending, run_threads};
+use plant_script::Ending;
 use std::alloc::Global;
 use std::io::{BufRead, BufReader, Write};
 use std::rt::Files;
@@ -39,21 +37,21 @@ fn is_run(word: CommandWord<'_>) -> bool
     ensures { result ≡ is_run (asked_of word.entry) }
 {
     match word {
-        CommandWord::Order(BatchWord::Run(RunReport::Outputs)) => true,
+        CommandWord::Order(Word::Batch(BatchWord::Run(RunReport::Outputs))) => true,
         _ => false,
     }
 }
 
 /// Performs a command on a reader, and writes lines or objects. Returns the status.
 #[tactic(auto, using(crate::proofs::RestoreLemmas::as_run, crate::proofs::RestoreLemmas::as_word))]
-fn run_format<R: BufRead, W: Write, E: Write>(
-    command: &Command<'_>,
+fn run_format<H: Threads + Wait + Sync, R: BufRead, W: Write, E: Write>(
+    command: &Command<'_, H>,
     output: OutputFormat,
     reader: &mut R,
     writer: &mut W,
     reasons: &mut E,
 ) -> u8
-    ensures { output ≡ Plain → command.now.unknown_keys ≡ Warn → IsAskedAnswer (asked_of command.now.word)
+    ensures { output ≡ Plain → command.now.unknown_keys ≡ Warn → IsCommandAnswer (asked_of command.now.word) (texts command.now.words.now)
         (R.remaining reader.old) result (W.contents writer.old) (W.contents writer.new) }
 {
     match output {
@@ -63,109 +61,29 @@ fn run_format<R: BufRead, W: Write, E: Write>(
     }
 }
 
-/// Reports why a command on a file failed: where the file cannot be opened or read, for this, else what was kept of its reasons.
-fn report_file<H: Files, E: Write>(
-    alloc: Global,
-    file: &FileInput<'_, H>,
-    status: u8,
-    kept: &[u8],
-    reasons: &mut E,
-) {
-    match file.reason(alloc) {
-        Some(reason) if status == 6 => tell(reasons, reason),
-        _ => pass_on(kept, reasons),
-    }
-}
-
-/// Performs a command other than `threads` on a file. Returns the status.
-fn run_file<H: Files, W: Write, E: Write>(
-    rt: &H,
-    command: &Command<'_>,
+/// Performs a command on a file. Where the file cannot be opened or read, the reason says so. Returns the status.
+fn run_file<H: Files + Threads + Wait + Sync, W: Write, E: Write>(
+    command: &Command<'_, H>,
     output: OutputFormat,
     path: &str,
     writer: &mut W,
     reasons: &mut E,
 ) -> u8 {
-    let alloc = command.alloc;
-    let Ok(mut reader) = BufReader::new(alloc, FileInput::new(rt, path)) else {
+    let file = FileInput::new(command.rt, path);
+    let Ok(mut reader) = BufReader::new(command.alloc, file) else {
         return answer_out_of_memory(writer, reasons);
     };
-    let mut kept = Vec::new(alloc);
-    let status = run_format(command, output, &mut reader, writer, &mut kept);
-    report_file(alloc, reader.get_ref(), status, kept.as_slice(), reasons);
+    let mut message = Vec::new(command.alloc);
+    let status = run_format(command, output, &mut reader, writer, &mut message);
+    match reader.get_ref().reason(command.alloc) {
+        Some(reason) if status == 6 => tell(reasons, reason),
+        _ => pass_on(message.as_slice(), reasons),
+    }
     status
 }
 
-/// Performs a command other than `threads` with its options, and waits for nobody: it has no handle by which it could. Returns the
-/// status.
-#[tactic(auto, using(crate::proofs::WithoutOptions::bare_options))]
-fn run_command<H: Files, R: BufRead, W: Write, E: Write>(
-    rt: &H,
-    host: &HostRuntime,
-    line: CommandLine<'_>,
-    reader: &mut R,
-    writer: &mut W,
-    reasons: &mut E,
-    ending: Ending,
-) -> u8
-    requires { line.word ≢ any.Order batch.Threads }
-    ensures { is_bare (texts_of line.entry.options) ≡ true
-        → IsAskedAnswer (asked_of line.entry.word) (R.remaining reader.old) result
-        (W.contents writer.old) (W.contents writer.new) }
-{
-    let CommandLine { word, options } = line;
-    let command = Command {
-        alloc: host.alloc(),
-        word,
-        unknown_keys: options.unknown_keys,
-        ending,
-    };
-    match (options.state, options.input) {
-        (Some(folder), _) => run_state(rt, host, folder, options, reader, writer, reasons),
-        (None, None) => run_format(&command, options.output, reader, writer, reasons),
-        (None, Some(path)) => run_file(rt, &command, options.output, path, writer, reasons),
-    }
-}
-
-/// Performs the command `threads` on a file. It may wait. Returns the status.
-fn run_threads_file<H: Files + Threads + Wait + Sync, W: Write, E: Write>(
-    rt: &H,
-    alloc: Global,
-    path: &str,
-    writer: &mut W,
-    reasons: &mut E,
-    ending: Ending,
-) -> u8 {
-    let Ok(mut reader) = BufReader::new(alloc, FileInput::new(rt, path)) else {
-        return answer_out_of_memory(writer, reasons);
-    };
-    let mut kept = Vec::new(alloc);
-    let status = run_threads(rt, alloc, &mut reader, writer, &mut kept, ending);
-    report_file(alloc, reader.get_ref(), status, kept.as_slice(), reasons);
-    status
-}
-
-/// Performs the command `threads`, which may wait. Returns the status.
-#[tactic(auto, using(crate::proofs::WithoutOptions::bare_options))]
-fn run_threads_command<H: Files + Threads + Wait + Sync, R: BufRead, W: Write, E: Write>(
-    rt: &H,
-    alloc: Global,
-    options: ProgramOptions<'_>,
-    reader: &mut R,
-    writer: &mut W,
-    reasons: &mut E,
-    ending: Ending,
-) -> u8
-    ensures { is_bare (texts_of options.entry) ≡ true → IsAskedAnswer (order threads) (R.remaining reader.old) result
-        (W.contents writer.old) (W.contents writer.new) }
-{
-    match options.input {
-        None => run_threads(rt, alloc, reader, writer, reasons, ending),
-        Some(path) => run_threads_file(rt, alloc, path, writer, reasons, ending),
-    }
-}
-
-/// Performs a command with its options: `threads`, which may wait, or another one, which returns. Returns the status.
+/// Performs a command with its options. Returns the status.
+#[tactic(auto, using(crate::proofs::WithoutOptions::asked_answered, crate::proofs::WithoutOptions::asked_out_of_memory, crate::proofs::WithoutOptions::bare_options))]
 fn run_line<H: Files + Threads + Wait + Sync, R: BufRead, W: Write, E: Write>(
     rt: &H,
     host: &HostRuntime,
@@ -175,21 +93,27 @@ fn run_line<H: Files + Threads + Wait + Sync, R: BufRead, W: Write, E: Write>(
     reasons: &mut E,
     ending: Ending,
 ) -> u8
-    ensures { is_bare (texts_of line.entry.options) ≡ true
-        → IsAskedAnswer (asked_of line.entry.word) (R.remaining reader.old) result
+    ensures { is_bare (texts_of line.entry.options) ≡ true → IsAskedAnswer (asked_of line.entry.word) (R.remaining reader.old) result
         (W.contents writer.old) (W.contents writer.new) }
 {
-    match line.word {
-        CommandWord::Order(BatchWord::Threads) => run_threads_command(
-            rt,
-            host.alloc(),
-            line.options,
-            reader,
-            writer,
-            reasons,
-            ending,
-        ),
-        _ => run_command(rt, host, line, reader, writer, reasons, ending),
+    let CommandLine { word, options } = line;
+    let alloc = host.alloc();
+    let Ok(words) = bare_words(alloc, word) else {
+        return answer_out_of_memory(writer, reasons);
+    };
+    let command = Command {
+        rt,
+        host,
+        alloc,
+        word,
+        words: words.as_slice(),
+        unknown_keys: options.unknown_keys,
+        ending,
+    };
+    match (options.state, options.input) {
+        (Some(folder), _) => run_state(&command, folder, options, reader, writer, reasons),
+        (None, None) => run_format(&command, options.output, reader, writer, reasons),
+        (None, Some(path)) => run_file(&command, options.output, path, writer, reasons),
     }
 }
 
@@ -201,8 +125,7 @@ fn answer_fault<'a, W: Write, E: Write>(
     writer: &mut W,
     reasons: &mut E,
 ) -> u8
-    ensures { result ≢ 6
-        → WritesLineFault fault (asks_json words.entry.now) result (W.contents writer.old) (W.contents writer.new) }
+    ensures { result ≢ 6 → WritesLineFault fault (asks_json words.entry.now) result (W.contents writer.old) (W.contents writer.new) }
 {
     match fault {
         LineFault::Help { text } => finish(writer, 0, text.as_bytes()),
@@ -220,12 +143,10 @@ fn answer_fault<'a, W: Write, E: Write>(
 ///
 /// With `--input FILE` the file is read in place of the reader. With `--strict`, unknown keys are a fault of the plant file, with
 /// status 3. With `--json`, an object of JSON is written for each line. An invalid command line gives status 2, and a message that
-/// says why; then nothing is read. With `--version` or `-V` alone, the version is written. The commands `serve` and `resume` serve a
-/// plant that begins with a plant file or a snapshot. So does `restore`, which takes a snapshot only. `run` runs its script from a
-/// snapshot too. `snapshot` writes the snapshot after the last line. With `--state FOLDER`, `serve` has its lines in the journal of that
-/// folder before they are answered, and goes on from the journal at the next start.
-///
-/// Only `threads` may wait. All other commands are performed by `run_command`, which returns.
+/// says why; then nothing is read. With `--version` or `-V` alone, the version is written. The command `resume` serves a plant that
+/// begins with a plant file or a snapshot. So does `restore`, which takes a snapshot only, and `run` if its input begins as a
+/// snapshot does. `snapshot` writes the snapshot after the last line. With `--state FOLDER`, `serve` has its lines in the journal of
+/// that folder before they are answered, and goes on from the journal at the next start.
 pub fn run_with_options<'a, H: Files + Threads + Wait + Sync, R: BufRead, W: Write, E: Write>(
     rt: &H,
     host: &HostRuntime,
@@ -235,15 +156,13 @@ pub fn run_with_options<'a, H: Files + Threads + Wait + Sync, R: BufRead, W: Wri
     reasons: &mut E,
     ending: Ending,
 ) -> u8
-    // Without an option it writes what `run_program` writes, and for `run` on a snapshot the same from the saved states.
-    // With options, what it does is only tested, except what `serve --state` guarantees.
-    ensures named { (o : Order) → NamesOrder (texts words.entry.now) o
-        → IsAskedAnswer (order o) (R.remaining reader.old) result
+    // Without an option it writes what `run_program` writes, but where `run` begins with a snapshot. With options, what
+    // it does is only tested, except what `serve --state` guarantees.
+    ensures named { (o : Order) → NamesOrder (texts words.entry.now) o → IsAskedAnswer (order o) (R.remaining reader.old) result
         (W.contents writer.old) (W.contents writer.new) }
-    // `serve`, `resume`, `restore` and `snapshot` write what the definition `resumed_service` says, or the status and the
-    // line of the fault.
-    ensures served { (s : ServiceWord) → NamesService (texts words.entry.now) s
-        → IsAskedAnswer (service s) (R.remaining reader.old) result
+    // `resume`, `restore` and `snapshot` write what `resumed_service` guarantees, or the status and the line of the
+    // fault.
+    ensures served { (s : ServiceWord) → NamesService (texts words.entry.now) s → IsAskedAnswer (service s) (R.remaining reader.old) result
         (W.contents writer.old) (W.contents writer.new) }
     // Nothing is read for words that are wrong or ask for help or for the version.
     ensures unread_if_wrong { AreRefused (texts words.entry.now) → reader.new ≡ reader.old }
@@ -253,8 +172,7 @@ pub fn run_with_options<'a, H: Files + Threads + Wait + Sync, R: BufRead, W: Wri
     ensures refused { AreRefused (texts words.entry.now) → asks_json words.entry.now ≡ false → result ≢ 5 → result ≢ 6
         → (result ≡ 2) × Appends (W.contents writer.old) (W.contents writer.new) words_line }
     // Help is some text with status 0.
-    ensures helped { AsksHelp (texts words.entry.now) → result ≢ 5 → result ≢ 6
-        → WritesHelp result (W.contents writer.old) (W.contents writer.new) }
+    ensures helped { AsksHelp (texts words.entry.now) → result ≢ 5 → result ≢ 6 → WritesHelp result (W.contents writer.old) (W.contents writer.new) }
     // `--version` alone writes the version with status 0.
     ensures version { AsksVersion (texts words.entry.now) → result ≢ 5 → result ≢ 6
         → (result ≡ 0) × Appends (W.contents writer.old) (W.contents writer.new) version_text }

@@ -2,10 +2,10 @@
 
 ghost use Rattle.program_runner.specs.Resume.{IsSnapshotAnswer};
 
-use crate::answering::finish;
+use crate::answering::{finish, tell};
 use crate::fault_count::FaultCount;
-use crate::resuming::{end_with_error, refuse_to_begin};
-use crate::service_reasons::ServiceReasons;
+use crate::refusal_reasons::RefusalReasons;
+use crate::resuming::{answer_io_error, refuse_to_begin};
 use plant::OperatorName;
 use plant_core::RestFault;
 use state_service::{SnapshotEnd, snapshot_after};
@@ -32,7 +32,7 @@ fn unfinished_reason(
     }
 }
 
-/// Performs the command `snapshot`. Returns the status: 4 after the snapshot where a line was refused.
+/// Performs the command `snapshot`. Returns the status.
 pub(crate) fn run_snapshot<R: BufRead, W: Write, E: Write>(
     alloc: Global,
     reader: &mut R,
@@ -42,27 +42,22 @@ pub(crate) fn run_snapshot<R: BufRead, W: Write, E: Write>(
     ensures { IsSnapshotAnswer (R.remaining reader.old) result (W.contents writer.old) (W.contents writer.new) }
 {
     let mut answers = FaultCount::new();
-    let mut observer = ServiceReasons::new(alloc, reasons);
-    let ended = snapshot_after(alloc, reader, &mut answers, writer, &mut observer);
+    let mut notes = RefusalReasons::new(reasons);
+    let ended = snapshot_after(alloc, reader, &mut answers, writer, &mut notes);
     if let Some(reason) = answers.reason(alloc) {
-        observer.report(reason);
+        tell(reasons, reason);
     }
     match ended {
-        Ok(SnapshotEnd::Saved) => answers.status(),
+        Ok(SnapshotEnd::Saved) => 0,
         Ok(SnapshotEnd::Unfinished { why, operator }) => {
-            observer.report(unfinished_reason(alloc, why, operator));
+            tell(reasons, unfinished_reason(alloc, why, operator));
             finish(writer, 3, b"fault: state\n")
         }
         Ok(SnapshotEnd::NoMemory) => {
-            observer.report(Err(AllocError));
+            tell(reasons, Err(AllocError));
             finish(writer, 5, b"fault: memory\n")
         }
-        Ok(SnapshotEnd::NotBegun { fault }) => refuse_to_begin(
-            alloc,
-            &fault,
-            writer,
-            &mut observer,
-        ),
-        Err(error) => end_with_error(alloc, &error, writer, &mut observer),
+        Ok(SnapshotEnd::NotBegun { fault }) => refuse_to_begin(alloc, &fault, writer, reasons),
+        Err(error) => answer_io_error(alloc, &error, writer, reasons),
     }
 }

@@ -8,13 +8,12 @@ ghost use Rattle.journal_file.specs.File.{seen_bytes, calls_made};
 ghost use Rattle.std.specs.IoError.{error_kind};
 
 use crate::answering::{answer_out_of_memory, finish, pass_on, tell};
+use crate::command::Command;
 use crate::file_input::FileInput;
 use crate::front_reader::FrontReader;
-use crate::service_reasons::ServiceReasons;
-use crate::state_reasons::{
-    PERIOD_REASON, opening_reason, plant_reason, state_reason, unfinished_reason,
-};
-use diagnostics::ProgramOptions;
+use crate::refusal_reasons::RefusalReasons;
+use crate::state_reasons::{PERIOD_REASON, opening_reason, plant_reason, state_reason};
+use command_line::ProgramOptions;
 use journal_file::{JournalFile, JournalOpenFault};
 use line_journal::Journal;
 use plant_script::plant_line;
@@ -24,6 +23,8 @@ use std::alloc::Global;
 use std::io;
 use std::io::{BufRead, BufReader, Read, Write};
 use std::rt::Files;
+use std::sync::Wait;
+use std::thread::Threads;
 
 /// After how many lines the state is saved, if the option does not say it.
 const USUAL_PERIOD: u64 = 10_000;
@@ -119,7 +120,6 @@ fn opening_kind(fault: &JournalOpenFault) -> FaultKind
 {
     match fault {
         JournalOpenFault::NoMemory => FaultKind::Memory,
-        JournalOpenFault::Link | JournalOpenFault::Emptied => FaultKind::State,
         JournalOpenFault::NotAFolder | JournalOpenFault::Io { .. } | JournalOpenFault::InUse =>
             FaultKind::Io,
     }
@@ -150,9 +150,7 @@ fn serve_journal<R: Read, W: Write, E: Write>(
     reasons: &mut E,
 ) -> u8
     requires { Only (seen_bytes device) (MayLeave (calls_made device)) }
-    ensures { result ≢ 6
-        → StateServiceEnds (seen_bytes device) (R.remaining reader.old) result (W.contents writer.old)
-        (W.contents writer.new) }
+    ensures { result ≢ 6 → StateServiceEnds (seen_bytes device) (R.remaining reader.old) result (W.contents writer.old) (W.contents writer.new) }
 {
     let mut journal = Journal { device, gate: 0 };
     let mut reader = FrontReader::new(alloc, reader);
@@ -162,22 +160,17 @@ fn serve_journal<R: Read, W: Write, E: Write>(
         folder.period,
         &mut reader,
         writer,
-        &mut ServiceReasons::new(alloc, reasons),
+        &mut RefusalReasons::new(reasons),
     );
     match ended {
-        Ok(unfinished) => {
+        Ok(()) => {
             let file = reader.plant_file(alloc);
             tell(reasons, plant_reason(alloc, file, 0));
-            tell(reasons, unfinished_reason(alloc, unfinished));
             0
         }
         Err(fault) => {
             let file = reader.plant_file(alloc);
-            let failure = journal.device.failure();
-            tell(
-                reasons,
-                state_reason(alloc, folder.path, file, &fault, failure),
-            );
+            tell(reasons, state_reason(alloc, folder.path, file, &fault));
             write_fault(alloc, state_kind(&fault), writer)
         }
     }
@@ -191,8 +184,7 @@ fn serve_folder<R: Read, W: Write, E: Write>(
     writer: &mut W,
     reasons: &mut E,
 ) -> u8
-    ensures { result ≢ 6
-        → StateFolderEnds (R.remaining reader.old) result (W.contents writer.old) (W.contents writer.new) }
+    ensures { result ≢ 6 → StateFolderEnds (R.remaining reader.old) result (W.contents writer.old) (W.contents writer.new) }
 {
     let alloc = host.alloc();
     match JournalFile::open(host, folder.path) {
@@ -227,9 +219,8 @@ fn serve_file<H: Files, W: Write, E: Write>(
 }
 
 /// Performs `serve`, the only command with the option `--state`, which names a folder. Returns the status.
-pub(crate) fn run_state<H: Files, R: BufRead, W: Write, E: Write>(
-    rt: &H,
-    host: &HostRuntime,
+pub(crate) fn run_state<H: Files + Threads + Wait + Sync, R: BufRead, W: Write, E: Write>(
+    command: &Command<'_, H>,
     path: &str,
     options: ProgramOptions<'_>,
     reader: &mut R,
@@ -237,12 +228,12 @@ pub(crate) fn run_state<H: Files, R: BufRead, W: Write, E: Write>(
     reasons: &mut E,
 ) -> u8 {
     let Some(period) = period_of(options.snapshot_every) else {
-        tell(reasons, String::from_str(host.alloc(), PERIOD_REASON));
+        tell(reasons, String::from_str(command.alloc, PERIOD_REASON));
         return finish(writer, 2, b"fault: words\n");
     };
     let folder = StateFolder { path, period };
     match options.input {
-        None => serve_folder(host, folder, reader, writer, reasons),
-        Some(file) => serve_file(rt, host, folder, file, writer, reasons),
+        None => serve_folder(command.host, folder, reader, writer, reasons),
+        Some(file) => serve_file(command.rt, command.host, folder, file, writer, reasons),
     }
 }

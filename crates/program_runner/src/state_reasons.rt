@@ -2,7 +2,8 @@
 
 use crate::begin_reasons::{io_reason, restore_text, wrong_text};
 use crate::refusal_reasons::{change_text, refusal_texts};
-use diagnostics::reason_of_plant_file;
+use command_line::Word;
+use diagnostics::reason_of;
 use journal_file::{JournalOpenFault, JournalPart};
 use plant_restart::{ChangeFault, RefusedState};
 use state_service::{DurableFault, JournalStateFault, LineFailure, StateServiceFault};
@@ -22,26 +23,6 @@ const WHAT_TO_START: &str =
 /// What standard error says of a number of lines that is invalid.
 pub(crate) const PERIOD_REASON: &str =
     "the option --snapshot-every has no number from 1 to 9223372036854775808: write --snapshot-every 10000\n";
-
-/// The most bytes of a line.
-const MOST_LINE: usize = 4096;
-
-/// Returns that the input ended in the middle of a line, with how many bytes of it were read, and what to do. It is empty if the
-/// input ended with a line feed.
-pub(crate) fn unfinished_reason(alloc: Global, unfinished: usize) -> Result<String, AllocError> {
-    if unfinished == 0 {
-        return Ok(String::new(alloc));
-    }
-    let most = unfinished.min(MOST_LINE);
-    let more = if unfinished > MOST_LINE {
-        "more than "
-    } else {
-        ""
-    };
-    format!(in alloc;
-        "the input ended in the middle of a line (bytes of it: {more}{most}), which is not done: send it again, with its line feed\n"
-    )
-}
 
 /// Returns what failed of a folder, and what to do.
 fn part_reason(
@@ -77,12 +58,6 @@ pub(crate) fn opening_reason(
         JournalOpenFault::InUse => format!(in alloc;
             "the folder {folder} is in use by another process: stop that, or name another folder\n"
         ),
-        JournalOpenFault::Link => format!(in alloc;
-            "{folder}/journal is a symbolic link: put the file itself there, or name its folder\n"
-        ),
-        JournalOpenFault::Emptied => format!(in alloc;
-            "{folder}/journal has no byte, and a journal was begun there: put a copy of the journal in its place, or remove the file to begin anew\n"
-        ),
         JournalOpenFault::NoMemory => String::from_str(alloc, NO_MEMORY),
     }
 }
@@ -115,29 +90,8 @@ fn saved_text(alloc: Global, fault: &JournalStateFault) -> Result<String, AllocE
     }
 }
 
-/// Returns that a call on a journal failed, in the words of the system if it had an error, and what to do.
-fn disk_reason(
-    alloc: Global,
-    folder: &str,
-    failure: Option<io::Error>,
-) -> Result<String, AllocError> {
-    match failure {
-        Some(error) => format!(in alloc;
-            "the file {folder}/journal cannot be read or written: {error}; no line that was answered is lost; make room or mend the disk, then start again\n"
-        ),
-        None => format!(in alloc;
-            "the file {folder}/journal cannot be read or written: no line that was answered is lost; check the disk, then start again\n"
-        ),
-    }
-}
-
 /// Returns why a service does not go on from the journal of a folder, and what to do.
-fn journal_reason(
-    alloc: Global,
-    folder: &str,
-    fault: &DurableFault,
-    failure: Option<io::Error>,
-) -> Result<String, AllocError> {
+fn journal_reason(alloc: Global, folder: &str, fault: &DurableFault) -> Result<String, AllocError> {
     match fault {
         DurableFault::NoJournal => format!(in alloc;
             "the file {folder}/journal is not a journal: move the file away to begin anew\n"
@@ -159,7 +113,9 @@ fn journal_reason(
         } => format!(in alloc;
             "2^64 - 1 lines are in the journal in {folder}: name an empty folder to begin anew\n"
         ),
-        DurableFault::Disk => disk_reason(alloc, folder, failure),
+        DurableFault::Disk => format!(in alloc;
+            "the file {folder}/journal cannot be read or written: no line that was answered is lost; check the disk, then start again\n"
+        ),
         DurableFault::Full => format!(in alloc;
             "the file {folder}/journal is as long as a journal may be: name an empty folder to begin anew\n"
         ),
@@ -198,17 +154,15 @@ pub(crate) fn plant_reason(
 ) -> Result<String, AllocError> {
     let file = file.unwrap_or(Vec::new(alloc));
     let text = str::from_utf8(file.as_slice()).unwrap_or("");
-    reason_of_plant_file(alloc, text, status)
+    reason_of(alloc, Word::Serve, text, status)
 }
 
-/// Returns why a service with a journal does not begin, or ends before its input does, and what to do. The error of a call that failed
-/// on the journal is given, if one has.
+/// Returns why a service with a journal does not begin, or ends before its input does, and what to do.
 pub(crate) fn state_reason(
     alloc: Global,
     folder: &str,
     file: Option<Vec<u8>>,
     fault: &StateServiceFault,
-    failure: Option<io::Error>,
 ) -> Result<String, AllocError> {
     match fault {
         StateServiceFault::NotText => String::from_str(
@@ -216,7 +170,7 @@ pub(crate) fn state_reason(
             "the plant file is not UTF-8: save it as UTF-8\n",
         ),
         StateServiceFault::InvalidPlant { fault: _ } => plant_reason(alloc, file, INVALID_PLANT),
-        StateServiceFault::Journal { fault } => journal_reason(alloc, folder, fault, failure),
+        StateServiceFault::Journal { fault } => journal_reason(alloc, folder, fault),
         StateServiceFault::NotRestored { why } => {
             let what = restore_text(alloc, *why)?;
             format!(in alloc;

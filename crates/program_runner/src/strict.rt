@@ -1,16 +1,20 @@
 //! The command `check` with the option `--strict`: what `check` warns of is a fault of the plant file.
 
 ghost use Rattle.std.specs.Prelude.{◌≡◌};
-ghost use Rattle.diagnostics.specs.command_line.Order.{asked_of};
-ghost use Rattle.diagnostics.specs.declared.command_line.options.UnknownKeyHandling.TheVariants.{Warn};
+ghost use Rattle.clap.specs.Walk.{texts};
+ghost use Rattle.command_line.specs.Order.{asked_of};
+ghost use Rattle.command_line.specs.declared.options.UnknownKeyHandling.TheVariants.{Warn};
 ghost use Rattle.program_runner.specs.Answered.{IsWordAnswer};
 
 use crate::answering::{answer_out_of_memory, finish, pass_on, tell};
 use crate::command::Command;
 use crate::recording::RecordingReader;
-use diagnostics::{StrictFault, UnknownKeyHandling, strict_fault_of};
+use command_line::UnknownKeyHandling;
+use diagnostics::{StrictFault, strict_fault_of};
 use std::alloc::{AllocError, Global};
 use std::io::{BufRead, BufReader, Write};
+use std::sync::Wait;
+use std::thread::Threads;
 
 /// Returns what is refused of an input whose plant file is valid otherwise.
 fn strict_fault_in(
@@ -43,8 +47,8 @@ fn refuse_strictly<W: Write, E: Write>(
 
 /// Performs `check`, and answers as it does, except where the plant file is valid and `check` would warn of it: then that is a
 /// fault of it. Returns the status.
-pub(crate) fn check_strictly<R: BufRead, W: Write, E: Write>(
-    command: &Command<'_>,
+pub(crate) fn check_strictly<H: Threads + Wait + Sync, R: BufRead, W: Write, E: Write>(
+    command: &Command<'_, H>,
     reader: &mut R,
     writer: &mut W,
     reasons: &mut E,
@@ -66,13 +70,13 @@ pub(crate) fn check_strictly<R: BufRead, W: Write, E: Write>(
 }
 
 /// Performs a command, `run` as on a plant file, with warnings of the file, or with what is warned of as a fault. Returns the status.
-pub(crate) fn run_keys<R: BufRead, W: Write, E: Write>(
-    command: &Command<'_>,
+pub(crate) fn run_keys<H: Threads + Wait + Sync, R: BufRead, W: Write, E: Write>(
+    command: &Command<'_, H>,
     reader: &mut R,
     writer: &mut W,
     reasons: &mut E,
 ) -> u8
-    ensures answered { command.now.unknown_keys ≡ Warn → IsWordAnswer (asked_of command.now.word)
+    ensures answered { command.now.unknown_keys ≡ Warn → IsWordAnswer (asked_of command.now.word) (texts command.now.words.now)
         (R.remaining reader.old) result (W.contents writer.old) (W.contents writer.new) }
 {
     match command.unknown_keys {

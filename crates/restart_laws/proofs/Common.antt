@@ -16,7 +16,7 @@ pub use Rattle.map_assembly.specs.Gathering.{IsGathering, frame_slices, Gatherin
 pub use Rattle.map_assembly.specs.Part.{quota_of}
 pub use Rattle.map_assembly.specs.Plan.{AreQuotas, AreSlices}
 pub use Rattle.map_assembly.specs.declared.slicing.Reslicing.{Reslicing}
-pub use Rattle.state_judge.specs.Resuming.{IsListedIn, IsStateUnder}
+pub use Rattle.operator_book.specs.Resuming.{IsListedIn, IsStateUnder}
 pub use Rattle.operator_model.proofs.FrameLemmas.{StaysAt, worked_none, arrived_none, run_puts}
 pub use Rattle.operator_model.specs.Frame.{next_at, all_undone, flows_left, frame_grants, all_granted, tick_result}
 pub use Rattle.operator_model.specs.Handle.{StepResult, without_flow, undone, flows_after, carried_out, is_of_cmts, new_unless, transaction_result, acked_if, ack_result, kind_of, tid_of, message_handled, asked_of_flow, bandwidth_request_result, handle}

@@ -24,8 +24,7 @@ use Rattle.operator_model.specs.declared.verdict.Verdict.{Verdict}
 use Rattle.operator_model.specs.declared.verdict.Verdict.TheVariants.{Refused, Put, Deleted}
 use Rattle.operator_model.specs.declared.verdict.Addition.{Addition}
 use Rattle.operator_model.specs.declared.verdict.Change.{Change}
-use Rattle.operator_model.specs.declared.verdict.CheckRefusal.{CheckRefusal}
-use Rattle.operator_model.specs.Asked.{refusal, faulty, transaction, addition_of, change_of, free_flow}
+use Rattle.operator_model.specs.Asked.{refusal, transaction, addition_of, change_of, free_flow}
 use Rattle.operator_model.specs.Verdict.{limit_of, put_within_limit, new_flow, added_reply, added_under, addition_within_limit, changed_flow, changed_reply, changed_with_new, wants_sid, change_within_limit, addition_verdict, change_verdict, deletion_verdict, verdict, encoding_refusal}
 use Rattle.operator_model.specs.Machine.{arrival_result, work_result, own_step, own_run, IsAllowed}
 use Rattle.operator_model.proofs.AskedLemmas.{IsChange, change-IsChange}
@@ -115,7 +114,7 @@ module _ (row : RowFields) where
   -- ---- a verdict
 
   abbrev PutsMine : Verdict → Type 0
-  PutsMine (Refused r) = Unit {0}
+  PutsMine (Refused reply) = Unit {0}
   PutsMine (Put sfid flow reply) = IsMine flow
   PutsMine (Deleted sfid reply) = Unit {0}
 
@@ -146,15 +145,15 @@ module _ (row : RowFields) where
         by None = tt
         by (Some sid) = limited Dsc tid change.sfid (changed_flow change (Some sid) true) (changed_reply tid change.sfid change.sets (Some sid)) mine
 
-    of_addition : (modem : Modem) (tid : ℕ) (r : Result Addition CheckRefusal) → IsListedIn row modem → PutsMine (addition_verdict op modem tid r)
+    of_addition : (modem : Modem) (tid : ℕ) (r : Result Addition ReplyFields) → IsListedIn row modem → PutsMine (addition_verdict op modem tid r)
     of_addition modem tid (Err reply) mine = tt
     of_addition modem tid (Ok addition) mine = addition_mine modem tid addition mine
 
-    of_change : (tid : ℕ) (r : Result Change CheckRefusal) → IfOk r (IsChange op.state.flows) → PutsMine (change_verdict op tid r)
+    of_change : (tid : ℕ) (r : Result Change ReplyFields) → IfOk r (IsChange op.state.flows) → PutsMine (change_verdict op tid r)
     of_change tid (Err reply) is = tt
     of_change tid (Ok change) is = change_mine tid change (subst (λ (o : Option Flow). IfSome o IsMine) is.flow.there (mine_at op.state.flows change.sfid listed))
 
-    of_deletion : (tid sfid : ℕ) (r : Result Flow CheckRefusal) → PutsMine (deletion_verdict tid sfid r)
+    of_deletion : (tid sfid : ℕ) (r : Result Flow ReplyFields) → PutsMine (deletion_verdict tid sfid r)
     of_deletion tid sfid (Err reply) = tt
     of_deletion tid sfid (Ok flow) = tt
 
@@ -200,7 +199,7 @@ module _ (row : RowFields) where
     Leaves ran = IsListedState ran.state
 
     flows_listed : (v : Verdict) → PutsMine v → AreListed (flows_after v op.state.flows)
-    flows_listed (Refused r) mine = is.flows
+    flows_listed (Refused reply) mine = is.flows
     flows_listed (Put sfid flow reply) mine = put_listed op.state.flows sfid flow is.flows mine
     flows_listed (Deleted sfid reply) mine = without_listed op.state.flows sfid is.flows
 
@@ -233,8 +232,8 @@ module _ (row : RowFields) where
     by_message modem (Err faults.Empty) mine = is
     by_message modem (Err (faults.NotOurs mtype)) mine = is
     by_message modem (Err faults.Short) mine = is
-    by_message modem (Err (faults.Tlv tid kind id fault)) mine = transacted modem kind tid (Refused (faulty (encoding_refusal kind tid id fault))) mine tt
-    by_message modem (Err (faults.LeftOut tid kind found)) mine = transacted modem kind tid (Refused (faulty (refusal kind tid codes.RejectUnrecognizedSetting))) mine tt
+    by_message modem (Err (faults.Tlv tid kind id fault)) mine = transacted modem kind tid (Refused (encoding_refusal kind tid id fault)) mine tt
+    by_message modem (Err (faults.LeftOut tid kind found)) mine = transacted modem kind tid (Refused (refusal kind tid codes.RejectUnrecognizedSetting)) mine tt
     by_message modem (Err faults.NoMemory) mine = is
     by_message modem (Ok (messages.Ack kind tid code)) mine = acked modem tid kind code
     by_message modem (Ok (messages.Request request)) mine = transacted modem (kind_of request) (tid_of request) (verdict op modem request) mine (verdict_mine op is.flows modem request mine)

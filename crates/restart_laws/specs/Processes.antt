@@ -37,15 +37,13 @@ pub record EndsAtRest (first : InService) (process : IsProcess first) : Type 0 w
 
 -- where the next process begins that goes on from that snapshot (`snapshot_begins_a_service`)
 abbrev pub next_service : (first : InService) (process : IsProcess first) → EndsAtRest first process → InService
-next_service first process end = resumed_service end.live.plant
-    (snapshot_at (after_answers first process.served.answers).file end.live end.frame)
+next_service first process end = resumed_service end.live.plant (snapshot_at (after_answers first process.served.answers).file end.live end.frame)
 
 -- a process, and after it others with so many restarts: each but the last ends with a core at rest, and the next one goes on from its
 -- snapshot
 abbrev pub AreProcesses : ℕ → InService → Type 0
 AreProcesses zero first = IsProcess first
-AreProcesses (suc restarts) first = (process : IsProcess first) × (end : EndsAtRest first process)
-    × AreProcesses restarts (next_service first process end)
+AreProcesses (suc restarts) first = (process : IsProcess first) × (end : EndsAtRest first process) × AreProcesses restarts (next_service first process end)
 
 -- ---- the periods of all of them
 
@@ -58,8 +56,7 @@ first_of_all (suc restarts) first all = first_period first.run all.0.served.answ
 abbrev pub later_of_all : (restarts : ℕ) (first : InService) → AreProcesses restarts first → List RunSoFar
 later_of_all zero first process = later_periods first.run process.served.answers
 later_of_all (suc restarts) first all =
-    later_periods first.run all.0.served.answers ++ first_of_all restarts (next_service first all.0 all.1) all.2
-    ∷ later_of_all restarts (next_service first all.0 all.1) all.2
+    later_periods first.run all.0.served.answers ++ first_of_all restarts (next_service first all.0 all.1) all.2 ∷ later_of_all restarts (next_service first all.0 all.1) all.2
 
 -- the periods of all processes, in order
 abbrev pub all_periods : (restarts : ℕ) (first : InService) → AreProcesses restarts first → List RunSoFar
@@ -75,26 +72,20 @@ pub record IsBegun (first : InService) : Type 0 where
 
 -- a process that begins with a plant file that is UTF-8, and lines after it, is one
 abbrev pub PlantFileBegins : Type 0
-PlantFileBegins = (input : List ℕ) (plant : PlantFields) (saved : Snapshot) → IsBeginning (front_text input) plant saved
-    → is_snapshot_head (front_text input) ≡ false → lines_after input ≢ []
+PlantFileBegins = (input : List ℕ) (plant : PlantFields) (saved : Snapshot) → IsBeginning (front_text input) plant saved → is_snapshot_head (front_text input) ≡ false → lines_after input ≢ []
     → is_utf8 saved.plant ≡ true → IsBegun (resumed_service plant saved)
 
 -- the periods of all processes are those of one service whose plant is changed
 abbrev pub ProcessesAreChanges : Type 0
-ProcessesAreChanges = (restarts : ℕ) (first : InService) (all : AreProcesses restarts first) → IsBegun first
-    → AreChanges (first_of_all restarts first all) (later_of_all restarts first all)
+ProcessesAreChanges = (restarts : ℕ) (first : InService) (all : AreProcesses restarts first) → IsBegun first → AreChanges (first_of_all restarts first all) (later_of_all restarts first all)
 
 -- so an operator that keeps its row, at these places, goes through them as through one service
 abbrev pub KeptRowsGoThroughAll : Type 0
-KeptRowsGoThroughAll = (restarts : ℕ) (first : InService) (all : AreProcesses restarts first) (row : RowFields) (places : List ℕ)
-    → IsBegun first → KeepsProvisioning first.run.plant.consts row (all_periods restarts first all) places
+KeptRowsGoThroughAll = (restarts : ℕ) (first : InService) (all : AreProcesses restarts first) (row : RowFields) (places : List ℕ) → IsBegun first → KeepsProvisioning first.run.plant.consts row (all_periods restarts first all) places
     → ArePeriodsOf first.run.plant.consts row (first.run.start.state row) (periods (all_periods restarts first all) places)
 
 -- and it notices the same as in any other course of periods in which it starts so and has the same own steps, with or without restarts
 abbrev pub RestartsAreNotNoticed : Type 0
-RestartsAreNotNoticed = (restarts : ℕ) (first : InService) (all : AreProcesses restarts first) (row : RowFields) (places : List ℕ)
-    (others : List Period) → IsBegun first
-    → KeepsProvisioning first.run.plant.consts row (all_periods restarts first all) places
-    → ArePeriodsOf first.run.plant.consts row (first.run.start.state row) others
-    → steps_over row (periods (all_periods restarts first all) places) ≡ steps_over row others
-    → NoticesAlike row (periods (all_periods restarts first all) places) others
+RestartsAreNotNoticed = (restarts : ℕ) (first : InService) (all : AreProcesses restarts first) (row : RowFields) (places : List ℕ) (others : List Period) → IsBegun first
+    → KeepsProvisioning first.run.plant.consts row (all_periods restarts first all) places → ArePeriodsOf first.run.plant.consts row (first.run.start.state row) others
+    → steps_over row (periods (all_periods restarts first all) places) ≡ steps_over row others → NoticesAlike row (periods (all_periods restarts first all) places) others

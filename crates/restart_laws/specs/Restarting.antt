@@ -1,6 +1,5 @@
 -- A service that goes on in another process, from the snapshot that the line `K` was answered (implementation-specific).
-use Rattle.std.specs.Prelude.{◌≡◌, ◌≢◌, ◌<◌, ◌≤◌, ◌^◌, ℕ, ◌+◌, List, [], ◌∷◌, ◌++◌, length, map, count_by, slice_get, true, false, All}
-use Rattle.std.specs.Prelude.{Option, Some, Ok, IfSome, codes}
+use Rattle.std.specs.Prelude.{◌≡◌, ◌≢◌, ◌<◌, ◌≤◌, ◌^◌, ℕ, ◌+◌, List, [], ◌∷◌, ◌++◌, length, map, count_by, slice_get, true, false, All, Option, Some, Ok, IfSome, codes}
 use Rattle.std.specs.List.{AllByRecursion}
 use Rattle.std.specs.Str.{is_utf8}
 use Rattle.toml.specs.Parse.{parse_document}
@@ -16,7 +15,7 @@ use Rattle.operator_model.specs.Frames.{is_tick}
 use Rattle.operator_model.specs.Slices.{MayRun}
 use Rattle.operator_model.specs.Replay.{BookView}
 use Rattle.frame_numbers.specs.Renumbered.{action_moved, IsSameRun}
-use Rattle.state_judge.specs.Resuming.{IsListedIn}
+use Rattle.operator_book.specs.Resuming.{IsListedIn}
 use Rattle.run_model.specs.IsStateAfter.{CoreView}
 use Rattle.run_model.specs.Places.{AtEachOperator}
 use Rattle.run_model.specs.Changing.{RunSoFar, state_now, IsPlantChange}
@@ -31,8 +30,7 @@ use Rattle.plant_restart.specs.Restarted.{names_of, HaveRows, CanRestart}
 use Rattle.state_service.specs.declared.resumed.begin_fault.BeginFault.{BeginFault}
 use Rattle.state_service.specs.declared.resumed.begin_fault.BeginFault.TheVariants.{NoMemory}
 use Rattle.state_service.specs.resumed.Beginning.{front_text, lines_after, is_snapshot_head, IsBeginning, IsBeginFault}
-use Rattle.state_service.specs.resumed.Items.{InService, IsRunSoFarOf, ItemAnswer, core_snapshot, SnapshotIsGiven, IsSnapshotOf}
-use Rattle.state_service.specs.resumed.Items.{IsFrameAnswer, IsItemAnswer, AreItemAnswers, IsServedFrom}
+use Rattle.state_service.specs.resumed.Items.{InService, IsRunSoFarOf, ItemAnswer, core_snapshot, SnapshotIsGiven, IsSnapshotOf, IsFrameAnswer, IsItemAnswer, AreItemAnswers, IsServedFrom}
 use Rattle.state_service.specs.resumed.Resumed.{resumed_service, IsResumedService}
 
 -- ---- the plant file in force
@@ -51,14 +49,12 @@ pub record IsFileInForce (now : InService) : Type 0 where
 -- file that is not read whole: one with a line of three dashes within a string, and no line feed at its end. No clause of a service
 -- that has begun says that the file is UTF-8; one that is not is refused (`NotText`).
 abbrev pub BeginsInForce : Type 0
-BeginsInForce = (input : List ℕ) (plant : PlantFields) (saved : Snapshot) → IsBeginning (front_text input) plant saved
-    → lines_after input ≢ [] → is_utf8 saved.plant ≡ true
+BeginsInForce = (input : List ℕ) (plant : PlantFields) (saved : Snapshot) → IsBeginning (front_text input) plant saved → lines_after input ≢ [] → is_utf8 saved.plant ≡ true
     → (is_snapshot_head (front_text input) ≡ true → IsReadWhole saved.plant) → IsFileInForce (resumed_service plant saved)
 
 -- it is so after each answer
 abbrev pub StaysInForce : Type 0
-StaysInForce = (first : InService) (number : ℕ) (input : List ℕ) (answers : List ItemAnswer) → IsFileInForce first
-    → AreItemAnswers first number (lines_of input) answers
+StaysInForce = (first : InService) (number : ℕ) (input : List ℕ) (answers : List ItemAnswer) → IsFileInForce first → AreItemAnswers first number (lines_of input) answers
     → All (λ answer. IsFileInForce answer.next) answers
 
 -- ---- what types keep
@@ -91,38 +87,32 @@ StartsOfItsModems run = AtEachOperator run.plant (λ i row. IsOfItsModems row (r
 
 -- a service that begins with a plant file starts so
 abbrev pub BeginsOfItsModems : Type 0
-BeginsOfItsModems = (text : List ℕ) (plant : PlantFields) (saved : Snapshot) → is_snapshot_head text ≡ false → IsBeginning text plant saved
-    → StartsOfItsModems (resumed_service plant saved).run
+BeginsOfItsModems = (text : List ℕ) (plant : PlantFields) (saved : Snapshot) → is_snapshot_head text ≡ false → IsBeginning text plant saved → StartsOfItsModems (resumed_service plant saved).run
 
 -- An answer that does not change the plant keeps it. A change that leaves out the modem of a flow is refused, and no clause of a changed
 -- plant says so.
 abbrev pub StaysOfItsModems : Type 0
-StaysOfItsModems = (old : InService) (number : ℕ) (line : List ℕ) (lines : List (List ℕ)) (answer : ItemAnswer)
-    → IsItemAnswer old number line lines answer → answer.changes ≡ false
+StaysOfItsModems = (old : InService) (number : ℕ) (line : List ℕ) (lines : List (List ℕ)) (answer : ItemAnswer) → IsItemAnswer old number line lines answer → answer.changes ≡ false
     → StartsOfItsModems old.run → StartsOfItsModems answer.next.run
 
 -- The line `N` keeps it too.
 abbrev pub NumbersKeepModems : Type 0
-NumbersKeepModems = (old : InService) (line : List ℕ) (answer : ItemAnswer) → IsFrameAnswer old line answer → StartsOfItsModems old.run
-    → StartsOfItsModems answer.next.run
+NumbersKeepModems = (old : InService) (line : List ℕ) (answer : ItemAnswer) → IsFrameAnswer old line answer → StartsOfItsModems old.run → StartsOfItsModems answer.next.run
 
 -- ---- other frame numbers
 
 -- what may be done in the one state, before the frame `from`, may be done in the other one, before the frame `to`, and it is the same
 pub record IsSameUnder (consts : ConstsFields) (row : RowFields) (from to : ℕ) (a b : OperatorState) (actions : List Action) : Type 0 where
   pub may : MayRun (operator consts row b) (map (action_moved from to) actions)
-  pub same : IsSameRun consts.units from to (own_run (operator consts row a) actions)
-      (own_run (operator consts row b) (map (action_moved from to) actions))
+  pub same : IsSameRun consts.units from to (own_run (operator consts row a) actions) (own_run (operator consts row b) (map (action_moved from to) actions))
 
 -- An operator does the same after a line `N` as it would have done without it. What it might have done then it may do now, as long as
 -- there are numbers for its frames: it gives the same outputs, of which only the frame numbers are others.
 abbrev pub NumbersAreNotNoticed : Type 0
-NumbersAreNotNoticed = (old : InService) (line : List ℕ) (answer : ItemAnswer) (is : IsFrameAnswer old line answer) (i : ℕ)
-    (row : RowFields) (actions : List Action)
+NumbersAreNotNoticed = (old : InService) (line : List ℕ) (answer : ItemAnswer) (is : IsFrameAnswer old line answer) (i : ℕ) (row : RowFields) (actions : List Action)
     → slice_get old.run.plant.rows i ≡ Some row → MayRun (operator old.run.plant.consts row (state_now old.run i row)) actions
     → answer.next.run.start.frame + count_by is_tick actions ≤ 4294967295
-    → IsSameUnder old.run.plant.consts row is.changed.from answer.next.run.start.frame (state_now old.run i row)
-    (answer.next.run.start.state row) actions
+    → IsSameUnder old.run.plant.consts row is.changed.from answer.next.run.start.frame (state_now old.run i row) (answer.next.run.start.state row) actions
 
 -- ---- the snapshot of a live core
 
@@ -138,8 +128,7 @@ pub record IsReadyToSave (old : InService) (live : CoreView) (frame : ℕ) : Typ
 
 -- so it is where the line `K` is answered by a snapshot, and the answer is `core_snapshot`
 abbrev pub AnsweredIsReady : Type 0
-AnsweredIsReady = (old : InService) (number : ℕ) (line : List ℕ) (answer : ItemAnswer) (is : IsSnapshotOf old number line answer)
-    (given : SnapshotIsGiven old.file is.live answer.text) → IsFileInForce old
+AnsweredIsReady = (old : InService) (number : ℕ) (line : List ℕ) (answer : ItemAnswer) (is : IsSnapshotOf old number line answer) (given : SnapshotIsGiven old.file is.live answer.text) → IsFileInForce old
     → IsReadyToSave old is.live given.frame × (answer.text ≡ core_snapshot old.file is.live given.frame)
 
 -- what is before the lines of this input is this text, and it says this plant and this snapshot, and no others
@@ -151,11 +140,9 @@ pub record BeginsWith (text lines : List ℕ) (plant : PlantFields) (saved : Sna
 
 -- what the line `K` is answered, and a line of three dashes, begin a service. The format counts bytes and lines in 32 bits.
 abbrev pub SnapshotBeginsService : Type 0
-SnapshotBeginsService = (old : InService) (live : CoreView) (frame : ℕ) (lines : List ℕ) → IsReadyToSave old live frame
-    → HaveTypedStates live
+SnapshotBeginsService = (old : InService) (live : CoreView) (frame : ℕ) (lines : List ℕ) → IsReadyToSave old live frame → HaveTypedStates live
     → length (core_snapshot old.file live frame) < 2 ^ 32
-    → BeginsWith (core_snapshot old.file live frame) lines live.plant (snapshot_at old.file live frame)
-    (core_snapshot old.file live frame ++ (codes "---" ++ 10 ∷ lines))
+    → BeginsWith (core_snapshot old.file live frame) lines live.plant (snapshot_at old.file live frame) (core_snapshot old.file live frame ++ (codes "---" ++ 10 ∷ lines))
 
 -- ---- the states are restored
 
@@ -166,28 +153,23 @@ pub record IsRestorable (plant : PlantFields) (saved : Snapshot) : Type 0 where
 
 -- the states that the line `K` was answered with can be restored
 abbrev pub SavedStatesAreRestored : Type 0
-SavedStatesAreRestored = (old : InService) (live : CoreView) (frame : ℕ) → IsReadyToSave old live frame → HaveTypedStates live
-    → StartsOfItsModems old.run
+SavedStatesAreRestored = (old : InService) (live : CoreView) (frame : ℕ) → IsReadyToSave old live frame → HaveTypedStates live → StartsOfItsModems old.run
     → IsRestorable live.plant (snapshot_at old.file live frame)
 
 -- so a service refuses what the line `K` is answered for one reason alone
 abbrev pub OnlyMemoryRefuses : Type 0
-OnlyMemoryRefuses = (old : InService) (live : CoreView) (frame : ℕ) → IsReadyToSave old live frame → HaveTypedStates live
-    → StartsOfItsModems old.run
-    → length (core_snapshot old.file live frame) < 2 ^ 32 → (fault : BeginFault) → IsBeginFault (core_snapshot old.file live frame) fault
-    → fault ≡ NoMemory
+OnlyMemoryRefuses = (old : InService) (live : CoreView) (frame : ℕ) → IsReadyToSave old live frame → HaveTypedStates live → StartsOfItsModems old.run
+    → length (core_snapshot old.file live frame) < 2 ^ 32 → (fault : BeginFault) → IsBeginFault (core_snapshot old.file live frame) fault → fault ≡ NoMemory
 
 -- ---- the restart is a change of plant
 
 -- to the same plant
 abbrev pub RestartIsChange : Type 0
-RestartIsChange = (old : InService) (live : CoreView) (frame : ℕ) → IsReadyToSave old live frame
-    → IsPlantChange old.run (resumed_service live.plant (snapshot_at old.file live frame)).run
+RestartIsChange = (old : InService) (live : CoreView) (frame : ℕ) → IsReadyToSave old live frame → IsPlantChange old.run (resumed_service live.plant (snapshot_at old.file live frame)).run
 
 -- the same file is in force
 abbrev pub FileGoesOn : Type 0
-FileGoesOn = (old : InService) (live : CoreView) (frame : ℕ) → IsReadyToSave old live frame
-    → IsFileInForce (resumed_service live.plant (snapshot_at old.file live frame))
+FileGoesOn = (old : InService) (live : CoreView) (frame : ℕ) → IsReadyToSave old live frame → IsFileInForce (resumed_service live.plant (snapshot_at old.file live frame))
 
 -- and its states are of their rows' modems again
 abbrev pub ModemsGoOn : Type 0
@@ -196,7 +178,6 @@ ModemsGoOn = (old : InService) (live : CoreView) (frame : ℕ) → IsReadyToSave
 
 -- a service that begins with what the line `K` is answered is served from there
 abbrev pub SnapshotIsServed : Type 0
-SnapshotIsServed = (old : InService) (live : CoreView) (frame : ℕ) (lines : List ℕ) (before after : Option (List ℕ))
-    → IsReadyToSave old live frame → HaveTypedStates live
+SnapshotIsServed = (old : InService) (live : CoreView) (frame : ℕ) (lines : List ℕ) (before after : Option (List ℕ)) → IsReadyToSave old live frame → HaveTypedStates live
     → length (core_snapshot old.file live frame) < 2 ^ 32 → IsResumedService (core_snapshot old.file live frame) lines before after
     → IsServedFrom (resumed_service live.plant (snapshot_at old.file live frame)) lines before after

@@ -44,11 +44,9 @@ pub record IsPlantChange (old new : RunSoFar) : Type 0 where
   pub shared : KeepsConsts old.plant.consts new.plant.consts
   pub starts : IsStart new.plant new.start
   pub slices : IsGathering (gathering_from new.plant new.start)
-  pub go_on : (i j : ℕ) (was row : RowFields) → slice_get old.plant.rows i ≡ Some was → slice_get new.plant.rows j ≡ Some row
-      → was.name ≡ row.name
+  pub go_on : (i j : ℕ) (was row : RowFields) → slice_get old.plant.rows i ≡ Some was → slice_get new.plant.rows j ≡ Some row → was.name ≡ row.name
       → new.start.state row ≡ state_now old i was
-  pub open_anew : AtEachOperator new.plant (λ j row. IsNewRow old.plant row
-      → new.start.state row ≡ opened_before new.start.frame new.plant.consts row)
+  pub open_anew : AtEachOperator new.plant (λ j row. IsNewRow old.plant row → new.start.state row ≡ opened_before new.start.frame new.plant.consts row)
   pub nothing_done : (new.steps ≡ []) × (new.outs ≡ [])
 
 -- one plant after the other, each shown, and each changed from how the one before it ended

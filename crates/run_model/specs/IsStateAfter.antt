@@ -48,11 +48,9 @@ pub record IsBookFrom (plant : PlantFields) (start : Start) (steps : List Step) 
   pub replay : IsReplayFrom plant.consts row (start.state row) book.history book.state
 
 -- an operator's frames after the steps: those collected and in no MAP are gathered, those not collected wait
-pub record AreFramesFrom (plant : PlantFields) (start : Start) (steps : List Step) (made : ℕ) (i : ℕ) (row : RowFields)
-    (waiting : List (ℕ × ElementsFields)) (put : List ElementsFields) : Type 0 where
+pub record AreFramesFrom (plant : PlantFields) (start : Start) (steps : List Step) (made : ℕ) (i : ℕ) (row : RowFields) (waiting : List (ℕ × ElementsFields)) (put : List ElementsFields) : Type 0 where
   pub waiting_are : waiting ≡ drop (collects_of i steps) (frames_of (isolated_run_from plant.consts start row i steps).outputs)
-  pub put_are : put ≡ map (λ frame. frame.1) (drop made
-      (take (collects_of i steps) (frames_of (isolated_run_from plant.consts start row i steps).outputs)))
+  pub put_are : put ≡ map (λ frame. frame.1) (drop made (take (collects_of i steps) (frames_of (isolated_run_from plant.consts start row i steps).outputs)))
 
 -- what is gathered after the run: it is gathered for the plant, the slices of its start and its slice changes, the next MAP is the one
 -- after those that were made, and no more frames of an operator were collected than it output
@@ -63,8 +61,7 @@ pub record IsGatheredFrom (plant : PlantFields) (start : Start) (steps : List St
   pub reslicings_are : gathering.reslicings ≡ start.waiting ++ reslicings_of steps
   pub one_each : length gathering.queues ≡ length plant.rows
   pub next_is : gathering.next ≡ start.frame + length (maps_in outs)
-  pub collected : AtEachOperator plant (λ i row. collects_of i steps ≤ length
-      (frames_of (isolated_run_from plant.consts start row i steps).outputs))
+  pub collected : AtEachOperator plant (λ i row. collects_of i steps ≤ length (frames_of (isolated_run_from plant.consts start row i steps).outputs))
 
 -- what a core is after a run from a start: the run is `IsTraceFrom` and `OrderedFrom` the start, each operator's book is that of its own
 -- machine run alone, its frames that were not collected wait, and the others are in MAPs or gathered
@@ -76,10 +73,8 @@ pub record IsStateAfterFrom (plant : PlantFields) (start : Start) (steps : List 
   pub one_book : length core.books ≡ length plant.rows
   pub one_queue : length core.queues ≡ length plant.rows
   pub books : AtEachPlace plant.rows core.books (IsBookFrom plant start steps)
-  pub frames : (i : ℕ) (row : RowFields) (waiting : List (ℕ × ElementsFields)) (put : List ElementsFields)
-      → slice_get plant.rows i ≡ Some row
-      → slice_get core.queues i ≡ Some waiting → slice_get core.gathering.queues i ≡ Some put
-      → AreFramesFrom plant start steps (length (maps_in outs)) i row waiting put
+  pub frames : (i : ℕ) (row : RowFields) (waiting : List (ℕ × ElementsFields)) (put : List ElementsFields) → slice_get plant.rows i ≡ Some row
+      → slice_get core.queues i ≡ Some waiting → slice_get core.gathering.queues i ≡ Some put → AreFramesFrom plant start steps (length (maps_in outs)) i row waiting put
   pub gathered : IsGatheredFrom plant start steps outs core.gathering
 
 -- ---- a run from the opened plant

@@ -43,8 +43,7 @@ elements_at_frame frame outputs = filter_map (frame_if frame) outputs
 -- these are the operators' parts of a frame, in the plant's order: each the frame of that operator's machine run alone
 pub record ArePartsFrom (plant : PlantFields) (start : Start) (steps : List Step) (frame : ℕ) (parts : List ElementsFields) : Type 0 where
   pub one_each : length parts ≡ length plant.rows
-  pub own : AtEachPlace plant.rows parts (λ i row part. elements_at_frame frame (isolated_run_from plant.consts start row i steps).outputs
-      ≡ part ∷ [])
+  pub own : AtEachPlace plant.rows parts (λ i row part. elements_at_frame frame (isolated_run_from plant.consts start row i steps).outputs ≡ part ∷ [])
 
 -- ---- MAPs
 

@@ -26,8 +26,7 @@ use Rattle.run_model.specs.IsTraceOf.{IsTraceOf, IsTraceFrom}
 
 -- the operator at place i of one run and the one at place j of the other observe the same: its outputs are equal, and so is its part of the
 -- MAP of each frame, whatever else the MAPs say
-pub record NoticeTheSame (p : PlantFields) (i : ℕ) (outs : List Out) (q : PlantFields) (j : ℕ) (others : List Out)
-    (agree : AgreeOn p i q j) : Type 0 where
+pub record NoticeTheSame (p : PlantFields) (i : ℕ) (outs : List Out) (q : PlantFields) (j : ℕ) (others : List Out) (agree : AgreeOn p i q j) : Type 0 where
   pub answers : answers_of i outs ≡ answers_of j others
   pub parts : (a b : MapBytes) (v w : MapView) → Contains (maps_in outs) a → Contains (maps_in others) b → a.frame ≡ b.frame
       → MapReads a.bytes v → MapReads b.bytes w → part_of agree.row.sids v ≡ part_of agree.row.sids w
@@ -41,5 +40,4 @@ NonInterference = (p q : PlantFields) (i j : ℕ) (s t : List Step) (o u : List 
 -- the theorem for two runs that start in any states, of which the operator's is the same
 abbrev pub NonInterferenceFrom : Type 0
 NonInterferenceFrom = (p q : PlantFields) (a b : Start) (i j : ℕ) (s t : List Step) (o u : List Out) (agree : AgreeOn p i q j)
-    → IsTraceFrom p a s o → IsTraceFrom q b t u → a.state agree.row ≡ b.state agree.row → own_steps agree.row i s ≡ own_steps agree.row j t
-    → NoticeTheSame p i o q j u agree
+    → IsTraceFrom p a s o → IsTraceFrom q b t u → a.state agree.row ≡ b.state agree.row → own_steps agree.row i s ≡ own_steps agree.row j t → NoticeTheSame p i o q j u agree

@@ -32,8 +32,7 @@ target plant (steps.Reslice from rows) = None
 pub record AreOwnFrom (plant : PlantFields) (start : Start) (before : List Step) (i : ℕ) (action : Action) (now : List Out) : Type 0 where
   pub row : RowFields
   pub row_is : slice_get plant.rows i ≡ Some row
-  pub outputs : now ≡ outputs_under i (own_step (operator plant.consts row (isolated_run_from plant.consts start row i before).state)
-      action).outputs
+  pub outputs : now ≡ outputs_under i (own_step (operator plant.consts row (isolated_run_from plant.consts start row i before).state) action).outputs
 
 -- a collection gives the MAP where it raises the least number of collections of all operators, else nothing
 abbrev pub IsCollected : PlantFields → List Step → List Step → List Out → Type 0
@@ -52,8 +51,7 @@ IsToldFrom plant start before step None now = ⊥
 abbrev pub AreInOrderFrom : PlantFields → Start → List Step → List Step → List Out → Type 0
 AreInOrderFrom plant start before [] all = all ≡ []
 AreInOrderFrom plant start before (step ∷ later) all =
-    (now : List Out) × (rest : List Out) × (all ≡ now ++ rest) × IsToldFrom plant start before step (target plant step) now
-    × AreInOrderFrom plant start (before ++ step ∷ []) later rest
+    (now : List Out) × (rest : List Out) × (all ≡ now ++ rest) × IsToldFrom plant start before step (target plant step) now × AreInOrderFrom plant start (before ++ step ∷ []) later rest
 
 -- the outputs of a run from a start are one list for each step, joined in the order of the steps
 abbrev pub OrderedFrom : PlantFields → Start → List Step → List Out → Type 0

@@ -10,5 +10,4 @@ use Rattle.run_model.specs.Steps.{Steps}
 abbrev pub IsRun : List Step → CoreView → CoreView → List Out → Type 0
 IsRun [] old new outs = (new ≡ old) × (outs ≡ [])
 IsRun (step ∷ later) old new outs =
-    (mid : CoreView) × (now : List Out) × (rest : List Out) × IsGathering old.gathering × Steps step old mid now × IsRun later mid new rest
-    × (outs ≡ now ++ rest)
+    (mid : CoreView) × (now : List Out) × (rest : List Out) × IsGathering old.gathering × Steps step old mid now × IsRun later mid new rest × (outs ≡ now ++ rest)

@@ -12,8 +12,7 @@ use Rattle.run_model.specs.IsTraceOf.{isolated_run_from, elements_at_frame}
 use Rattle.run_model.specs.Places.{AtEachOperator}
 
 -- an operator's part of a MAP is the frame of that number of its own machine run alone
-pub record IsOwnPartFrom (plant : PlantFields) (start : Start) (steps : List Step) (i : ℕ) (row : RowFields) (made : MapBytes)
-    (view : MapView) : Type 0 where
+pub record IsOwnPartFrom (plant : PlantFields) (start : Start) (steps : List Step) (i : ℕ) (row : RowFields) (made : MapBytes) (view : MapView) : Type 0 where
   pub part : ElementsFields
   pub put : elements_at_frame made.frame (isolated_run_from plant.consts start row i steps).outputs ≡ part ∷ []
   pub part_is : part_of row.sids view ≡ own_part part

@@ -72,8 +72,7 @@ pub record Reslices (from : ℕ) (rows : List SliceRow) (old new : CoreView) (no
 -- what one step makes of a core, and its outputs: an Arrive goes to the operator whose row holds the modem, each other step to the operator
 -- that it names, and a slice change to all
 abbrev pub Steps : Step → CoreView → CoreView → List Out → Type 0
-Steps (steps.Arrive modem heard) old new now = (i : ℕ) × (holder old.plant.rows modem ≡ Some i)
-    × Acts i (actions.Arrive modem heard) old new now
+Steps (steps.Arrive modem heard) old new now = (i : ℕ) × (holder old.plant.rows modem ≡ Some i) × Acts i (actions.Arrive modem heard) old new now
 Steps (steps.Work op) old new now = Acts op actions.Work old new now
 Steps (steps.Tick op) old new now = Acts op actions.Tick old new now
 Steps (steps.Collect op) old new now = Collects op old new now

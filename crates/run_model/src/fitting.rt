@@ -18,8 +18,7 @@ ghost use Rattle.run_model.specs.Steps.{HaveSlicesApart, NoneRefuses};
 /// SIDs, and no more elements than its quota and one.
 pub fn waiting_frames_fit()
     ensures { (plant : PlantFields) (steps : List Step) (outs : List Out) (core : CoreView) (i frame : ℕ)
-        (part : ElementsFields) (waiting : List (ℕ × ElementsFields)) → IsPlant plant
-        → IsStateAfter plant steps outs core
+        (part : ElementsFields) (waiting : List (ℕ × ElementsFields)) → IsPlant plant → IsStateAfter plant steps outs core
         → IsGathering core.gathering
         → slice_get core.queues i ≡ Some ((frame, part) ∷ waiting) → put_fault core.gathering i frame part ≡ None }
 {}
@@ -27,8 +26,7 @@ pub fn waiting_frames_fit()
 /// States the same of a run that starts anywhere, where the operators start in states that are sound
 /// under their rows.
 pub fn waiting_frames_fit_from()
-    ensures { (plant : PlantFields) (start : Start) (steps : List Step) (outs : List Out) (core : CoreView)
-        (i frame : ℕ)
+    ensures { (plant : PlantFields) (start : Start) (steps : List Step) (outs : List Out) (core : CoreView) (i frame : ℕ)
         (part : ElementsFields) (waiting : List (ℕ × ElementsFields)) → IsStart plant start
         → IsStateAfterFrom plant start steps outs core → IsGathering core.gathering
         → slice_get core.queues i ≡ Some ((frame, part) ∷ waiting) → put_fault core.gathering i frame part ≡ None }

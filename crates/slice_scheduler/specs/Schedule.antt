@@ -36,8 +36,7 @@ idle minislots = if minislots == 0 then [] else record { sid = 0; iuc = Long; le
 -- the grants one after the other, from this minislot on
 abbrev pub spans_from : ℕ → List Piece → List Span
 spans_from start [] = []
-spans_from start (piece ∷ pieces) = record { sid = piece.sid; iuc = piece.iuc; start = start; len = piece.len }
-    ∷ spans_from (start + piece.len) pieces
+spans_from start (piece ∷ pieces) = record { sid = piece.sid; iuc = piece.iuc; start = start; len = piece.len } ∷ spans_from (start + piece.len) pieces
 
 -- the minislots of these grants
 abbrev pub minislots_in : List Piece → ℕ
@@ -45,8 +44,7 @@ minislots_in pieces = sum_by (λ piece. piece.len) pieces
 
 -- the whole slice: the grants, then what is left
 abbrev pub spans_of : Policy → AtFields → List Flowing → List Span
-spans_of policy at flows = spans_from at.slice.start
-    (pieces_of policy at flows ++ idle (at.slice.length - minislots_in (pieces_of policy at flows)))
+spans_of policy at flows = spans_from at.slice.start (pieces_of policy at flows ++ idle (at.slice.length - minislots_in (pieces_of policy at flows)))
 
 -- the SIDs of those that asked for more than they are granted, in the order in which they are served
 abbrev pub pending_of : Policy → AtFields → List Flowing → List ℕ

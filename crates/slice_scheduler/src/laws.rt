@@ -53,6 +53,5 @@ pub fn elements_name_flows()
 /// what is left of the slice.
 pub fn elements_are_few()
     ensures { (policy : Policy) (at : AtFields) (flows : List Flowing) → All AsksWhereItMay flows
-        → length (elements_of policy at flows).spans + length (elements_of policy at flows).pending ≤ elements_needed at
-        flows + 1 }
+        → length (elements_of policy at flows).spans + length (elements_of policy at flows).pending ≤ elements_needed at flows + 1 }
 {}

@@ -63,8 +63,7 @@ impl Scheduler {
         requires past { All (IsPast at.now.frame) flows.now }
         requires within { total_need at.now flows.now ≤ at.now.slice.length }
         // Due grants come whole and first, then each flow's base, then the rest by rank and SFID.
-        ensures elements { IfOk result (λ served. served.elements
-            ≡ elements_of (R.policy ranking.now) at.now flows.now) }
+        ensures elements { IfOk result (λ served. served.elements ≡ elements_of (R.policy ranking.now) at.now flows.now) }
         // No minislot is idle while a backlog is not fully granted.
         ensures busy { IfOk result (λ _. All (LeavesNothingIdle (R.policy ranking.now) at.now flows.now) flows.now) }
         // What is granted to backlogs is the defined list, by the policy of what ranks the flows.

@@ -1,6 +1,5 @@
 -- What is asked of all keys of a plant file together, and the first fault (implementation-specific).
-use Rattle.std.specs.Prelude.{ℕ, ◌&&◌, nat_le, nat_lt, Bool, not, List, [], ◌∷◌, ◌++◌, length, count_by, sum_by, find, option_map, Option}
-use Rattle.std.specs.Prelude.{Some, None, if◌then◌else◌, Ok, Err}
+use Rattle.std.specs.Prelude.{ℕ, ◌&&◌, nat_le, nat_lt, Bool, not, List, [], ◌∷◌, ◌++◌, length, count_by, sum_by, find, option_map, Option, Some, None, if◌then◌else◌, Ok, Err}
 use Rattle.std.specs.Option.{option_or}
 use Rattle.dsx_messages.specs.declared.modem.Modem.{Modem}
 use Rattle.slice_table.specs.declared.checks.Apart.{Apart}
@@ -9,8 +8,7 @@ use Rattle.plant.specs.declared.consts.ConstsFields.{ConstsFields}
 use Rattle.plant.specs.declared.operator_row.RowFields.{RowFields}
 use Rattle.plant.specs.declared.provision.Provision.{Provision}
 use Rattle.slice_table.specs.declared.plant_fault.PlantFault.{PlantFault}
-use Rattle.slice_table.specs.declared.plant_fault.PlantFault.TheVariants.{SlicesMeet, SidsMeet, SfidsMeet, ModemTwice, TooManyElements}
-use Rattle.slice_table.specs.declared.plant_fault.PlantFault.TheVariants.{BudgetOverSlice, ProvisionedOver}
+use Rattle.slice_table.specs.declared.plant_fault.PlantFault.TheVariants.{SlicesMeet, SidsMeet, SfidsMeet, ModemTwice, TooManyElements, BudgetOverSlice, ProvisionedOver}
 use Rattle.plant.specs.Provisioned.{sets_of_encoding}
 use Rattle.plant.specs.Row.{is_listed, need_of_provision, admits, count_of}
 use Rattle.plant.specs.Plant.{ranges_overlap, all_modems, most_elements}

@@ -11,8 +11,7 @@ pub record IsLeastPair {A : Type 0} (test : A → A → Bool) (xs : List A) (a b
   pub here : slice_get xs first ≡ Some a
   pub there : slice_get xs second ≡ Some b
   pub joined : test a b ≡ true
-  pub least : (i j : ℕ) (c d : A) → i < j → slice_get xs i ≡ Some c → slice_get xs j ≡ Some d → test c d ≡ true → (first < i)
-      ⊎ ((first ≡ i) × (second ≤ j))
+  pub least : (i j : ℕ) (c d : A) → i < j → slice_get xs i ≡ Some c → slice_get xs j ≡ Some d → test c d ≡ true → (first < i) ⊎ ((first ≡ i) × (second ≤ j))
 
 -- a is at the least place at which the test holds
 pub record IsFirstWhere {A : Type 0} (test : A → Bool) (xs : List A) (a : A) : Type 0 where

@@ -21,8 +21,7 @@ use Rattle.slice_table.specs.declared.plant_key.Place.TheVariants as place
 use Rattle.slice_table.specs.declared.plant_key.Field.TheVariants as field
 use Rattle.plant.specs.Classes.{is_class_named}
 use Rattle.plant.specs.Consts.{IsChannel}
-use Rattle.slice_table.specs.Tree.{PlantResult, each, items_len, required_value, expected_value, checked_value, number_at, number_of_key}
-use Rattle.slice_table.specs.Tree.{text_at, bytes_at, table_of}
+use Rattle.slice_table.specs.Tree.{PlantResult, each, items_len, required_value, expected_value, checked_value, number_at, number_of_key, text_at, bytes_at, table_of}
 
 -- ---- the table `plant`
 
@@ -63,15 +62,7 @@ plant_keys_at ms = do
   timers ← timers_at ms
   first_frame ← number_of_key place.Plant field.FirstFrame ms
   Ok (record {
-    channel = record {
-      frame_minislots = frame_minislots;
-      head = head;
-      id = id;
-      ucd_count = ucd_count;
-      backoffs = backoffs;
-      first_frame =
-          first_frame;
-    };
+    channel = record { frame_minislots = frame_minislots; head = head; id = id; ucd_count = ucd_count; backoffs = backoffs; first_frame = first_frame };
     units = units;
     short_max = short_max;
     timers = timers;

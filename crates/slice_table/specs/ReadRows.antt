@@ -1,6 +1,5 @@
 -- What a plant file says of its operators: the keys of each in their order, and the first fault (implementation-specific).
-use Rattle.std.specs.Prelude.{codes, ℕ, ◌+◌, ◌&&◌, nat_le, Bool, not, List, [], length, All, IsSome, Option, Some, None, is_some}
-use Rattle.std.specs.Prelude.{if◌then◌else◌, Ok, Err}
+use Rattle.std.specs.Prelude.{codes, ℕ, ◌+◌, ◌&&◌, nat_le, Bool, not, List, [], length, All, IsSome, Option, Some, None, is_some, if◌then◌else◌, Ok, Err}
 use Rattle.std.specs.List.{list_any}
 use Rattle.std.specs.Str.{bytes_eq}
 use Rattle.toml.specs.Data.{Data, Members, get_member, as_array}
@@ -24,8 +23,7 @@ use Rattle.plant.specs.Provisioned.{sets_of_encoding}
 use Rattle.plant.specs.Name.{is_operator_name}
 use Rattle.plant.specs.Row.{is_listed}
 use Rattle.slice_table.specs.Ranges.{range_of}
-use Rattle.slice_table.specs.Tree.{PlantResult, each, items_len, required_value, expected_value, checked_value, at_field, number_of_key}
-use Rattle.slice_table.specs.Tree.{pair_at, text_at, bytes_at, array_at, modem_of, modem_at, table_of}
+use Rattle.slice_table.specs.Tree.{PlantResult, each, items_len, required_value, expected_value, checked_value, at_field, number_of_key, pair_at, text_at, bytes_at, array_at, modem_of, modem_at, table_of}
 
 -- ---- an operator's own keys
 
@@ -41,8 +39,7 @@ name_at rows place ms = do
 
 -- minislots after the head and within the frame
 unfoldable pub fits_frame : ConstsFields → ℕ → ℕ → Bool
-fits_frame consts start length = (nat_le consts.channel.head start && nat_le 1 length)
-    && nat_le (start + length) consts.channel.frame_minislots
+fits_frame consts start length = (nat_le consts.channel.head start && nat_le 1 length) && nat_le (start + length) consts.channel.frame_minislots
 
 -- the slice of an operator: its first minislot and how many there are
 unfoldable pub slice_at : ConstsFields → Place → Members → PlantResult Minislots
@@ -112,8 +109,7 @@ unfoldable pub provision_at : ConstsFields → List Modem → Place → Members 
 provision_at consts modems place ms = do
   modem ← own_modem_at modems place ms
   encoding ← bytes_at place field.Encoding ms
-  checked_value (Entry place field.Encoding) (has_sets consts (record { modem = modem; encoding = encoding }))
-      (record { modem = modem; encoding = encoding })
+  checked_value (Entry place field.Encoding) (has_sets consts (record { modem = modem; encoding = encoding })) (record { modem = modem; encoding = encoding })
 
 -- a provisioned flow after those before it
 unfoldable pub provision_read : ConstsFields → ℕ → List Modem → List Provision → Data → PlantResult Provision

@@ -207,8 +207,7 @@ fn classes_in(alloc: Global, value: &Value) -> Result<Vec<Class>, PlantFault>
 
 /// Returns the classes of a document.
 fn classes_of(alloc: Global, document: &Table) -> Result<Classes, PlantFault>
-    ensures { Gives plant_cause (λ classes. classes) result
-        (classes_if (get_member (codes "class") (table_view document.now))) }
+    ensures { Gives plant_cause (λ classes. classes) result (classes_if (get_member (codes "class") (table_view document.now))) }
 {
     match entry(document, "class") {
         Some(value) => Ok(Classes::from_vec(classes_in(alloc, value)?)),

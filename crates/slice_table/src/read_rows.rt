@@ -196,8 +196,7 @@ fn provision_at(
     place: Place,
 ) -> Result<Provision, PlantFault>
     requires { HaveSets consts.now flows.now }
-    ensures { Gives plant_cause (λ provision. provision) result
-        (provision_at consts.now modems.now place (table_view table.now)) }
+    ensures { Gives plant_cause (λ provision. provision) result (provision_at consts.now modems.now place (table_view table.now)) }
 {
     let modem = own_modem_at(modems, table, place)?;
     let encoding = Bytes::from_vec(bytes_at(alloc, table, place, Field::Encoding)?);
@@ -256,8 +255,7 @@ fn provisions_in(
     modems: &Modems,
     value: &Value,
 ) -> Result<Provisions, PlantFault>
-    ensures { Gives plant_cause (λ provisions. provisions) result
-        (provisions_in consts.now operator modems.now (view value.now)) }
+    ensures { Gives plant_cause (λ provisions. provisions) result (provisions_in consts.now operator modems.now (view value.now)) }
 {
     let values = array_of(value, Key::Entry(Place::Operator(operator), Field::Flow))?;
     if values.is_empty() {
@@ -292,8 +290,7 @@ fn row_at(
     rows: &[OperatorRow],
     table: &Table,
 ) -> Result<OperatorRow, PlantFault>
-    ensures { Gives plant_cause (λ row. row) result
-        (row_at consts.now rows.now (length rows.now) (table_view table.now)) }
+    ensures { Gives plant_cause (λ row. row) result (row_at consts.now rows.now (length rows.now) (table_view table.now)) }
 {
     let operator = rows.len();
     let place = Place::Operator(operator);

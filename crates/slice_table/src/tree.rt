@@ -25,8 +25,7 @@ pub(crate) fn entry<'a>(table: &'a Table, name: &str) -> Option<&'a Value>
 
 /// Returns what is under a key that is required.
 fn required_value(table: &Table, place: Place, field: Field) -> Result<&Value, PlantFault>
-    ensures { result_map (λ v. view v.now) result
-        ≡ required_value (Entry place field) (at_field field (table_view table.now)) }
+    ensures { result_map (λ v. view v.now) result ≡ required_value (Entry place field) (at_field field (table_view table.now)) }
 {
     match entry(table, field.text()) {
         Some(value) => Ok(value),

@@ -1,6 +1,5 @@
 -- What a reader takes from the head of a text, and where it stops (implementation-specific).
-use Rattle.std.specs.Prelude.{◌≡◌, ℕ, zero, suc, Bool, true, List, [], ◌∷◌, ◌++◌, length, Option, Some, None, Result, Ok, Err}
-use Rattle.std.specs.Prelude.{if◌then◌else◌}
+use Rattle.std.specs.Prelude.{◌≡◌, ℕ, zero, suc, Bool, true, List, [], ◌∷◌, ◌++◌, length, Option, Some, None, Result, Ok, Err, if◌then◌else◌}
 use Rattle.lists.specs.Results.{◌>>=◌}
 use Rattle.snapshot_format.specs.declared.fault.Wrong.{Wrong}
 use Rattle.snapshot_format.specs.declared.fault.Wrong.TheVariants.{Repeated}
@@ -32,8 +31,7 @@ read_cause (Stopped stop) = Some stop
 abbrev pub take_items : {A : Type 0} → (List ℕ → Taken A) → (List A → A → Bool) → ℕ → List A → List ℕ → Taken (List A)
 take_items item_at may_follow zero before bytes = Ok (before, bytes)
 take_items item_at may_follow (suc n) before bytes =
-    item_at bytes >>= λ item. if may_follow before item.0 then take_items item_at may_follow n (before ++ item.0 ∷ []) item.1
-    else stop_at Repeated bytes
+    item_at bytes >>= λ item. if may_follow before item.0 then take_items item_at may_follow n (before ++ item.0 ∷ []) item.1 else stop_at Repeated bytes
 
 -- each item may follow those before it
 abbrev pub AllFollow : {A : Type 0} → (List A → A → Bool) → List A → List A → Type 0

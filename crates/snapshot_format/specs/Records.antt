@@ -1,6 +1,5 @@
 -- The records of a snapshot, a line each (implementation-specific).
-use Rattle.std.specs.Prelude.{◌==◌, ℕ, ◌+◌, ◌-◌, ◌&&◌, ◌||◌, not, nat_le, nat_lt, Bool, true, List, [], length, take, drop, slice_get}
-use Rattle.std.specs.Prelude.{Option, Some, None, Result, Ok, Err, if◌then◌else◌, codes}
+use Rattle.std.specs.Prelude.{◌==◌, ℕ, ◌+◌, ◌-◌, ◌&&◌, ◌||◌, not, nat_le, nat_lt, Bool, true, List, [], length, take, drop, slice_get, Option, Some, None, Result, Ok, Err, if◌then◌else◌, codes}
 use Rattle.std.specs.List.{list_any}
 use Rattle.std.specs.Str.{bytes_eq}
 use Rattle.lists.specs.Results.{◌>>=◌}
@@ -60,16 +59,7 @@ take_flow bytes = do
   Ok (
     record {
       sfid = sfid.0;
-      flow = record {
-        modem = modem.0;
-        sid = sid.0;
-        sets = sets.0;
-        pending = pending.0;
-        start = start.0;
-        backlog = backlog.0;
-        since =
-            since.0;
-      };
+      flow = record { modem = modem.0; sid = sid.0; sets = sets.0; pending = pending.0; start = start.0; backlog = backlog.0; since = since.0 };
     },
     since.1,
   )
@@ -187,8 +177,7 @@ take_arrivals count bytes = take_items take_arrival arrival_follows count [] byt
 -- a slice and a budget, if the slice is one that a frame can have
 abbrev pub checked_share : ℕ → ℕ → ℕ → Result Share Wrong
 checked_share start length budget =
-    if nat_le 1 length && nat_le (start + length) 4096
-    then Ok (record { slice = record { start = start; length = length }; budget = budget }) else Err Range
+    if nat_le 1 length && nat_le (start + length) 4096 then Ok (record { slice = record { start = start; length = length }; budget = budget }) else Err Range
 
 -- `start length budget`
 unfoldable pub take_share : List ℕ → Taken Share

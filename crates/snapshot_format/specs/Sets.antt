@@ -67,8 +67,7 @@ has_no_grants set = set.grant_size == 0 && set.grant_interval == 0 && set.grant_
 
 -- it has 1 to 127 unsolicited grants of some size, and nothing reserved next to them
 abbrev pub has_grants : ParamFields → Bool
-has_grants set = set.min_reserved_rate == 0 && nat_le 1 set.grant_size && nat_le 1 set.grants_per_interval
-    && nat_le set.grants_per_interval 127
+has_grants set = set.min_reserved_rate == 0 && nat_le 1 set.grant_size && nat_le 1 set.grants_per_interval && nat_le set.grants_per_interval 127
 
 -- what the kind of scheduling does not keep is 0, and its grants are in range
 abbrev pub is_of_kind : Scheduling → ParamFields → Bool

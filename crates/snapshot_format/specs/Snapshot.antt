@@ -1,6 +1,5 @@
 -- The snapshot that a text says (implementation-specific).
-use Rattle.std.specs.Prelude.{◌==◌, ℕ, ◌+◌, ◌-◌, nat_lt, List, [], ◌∷◌, ◌++◌, length, take, drop, Option, Some, None, Result, Ok, Err}
-use Rattle.std.specs.Prelude.{if◌then◌else◌, codes}
+use Rattle.std.specs.Prelude.{◌==◌, ℕ, ◌+◌, ◌-◌, nat_lt, List, [], ◌∷◌, ◌++◌, length, take, drop, Option, Some, None, Result, Ok, Err, if◌then◌else◌, codes}
 use Rattle.std.specs.Str.{bytes_eq}
 use Rattle.lists.specs.Results.{◌>>=◌}
 use Rattle.snapshot_format.specs.declared.fault.Wrong.TheVariants.{Version, Cut, LineCount, Checksum, Surplus}
@@ -17,8 +16,7 @@ use Rattle.snapshot_format.specs.Checksum.{adler_32, line_count}
 
 -- `melfjits-snapshot 1 length`
 unfoldable pub take_version : List ℕ → Taken ℕ
-take_version text = if bytes_eq (take 20 text) (codes "melfjits-snapshot 1 ") then take_number 4294967295 10 (drop 20 text)
-    else stop_at Version text
+take_version text = if bytes_eq (take 20 text) (codes "melfjits-snapshot 1 ") then take_number 4294967295 10 (drop 20 text) else stop_at Version text
 
 -- the text of the plant file, which is so long
 abbrev pub plant_lines : ℕ → List ℕ → Taken (List ℕ)

@@ -37,14 +37,9 @@ bytes_text (b ∷ bytes) = encode_upper (b ∷ bytes)
 -- the twelve parameters, a comma after each but the last
 unfoldable pub params_text : ParamFields → List ℕ
 params_text set =
-    decimal (scheduling_number set.scheduling) ++ (codes ","
-    ++ (decimal set.priority ++ (codes "," ++ (decimal set.max_sustained_rate ++ (codes "," ++ (decimal set.max_burst ++ (codes ","
-    ++ (decimal set.min_reserved_rate ++ (codes ","
-    ++ (decimal set.request_policy ++ (codes ","
-    ++ (decimal set.polling_interval ++ (codes "," ++ (decimal set.poll_jitter ++ (codes ","
-    ++ (decimal set.grant_size
-    ++ (codes "," ++ (decimal set.grant_interval
-    ++ (codes "," ++ (decimal set.grant_jitter ++ (codes "," ++ (decimal set.grants_per_interval ++ codes " "))))))))))))))))))))))
+    decimal (scheduling_number set.scheduling) ++ (codes "," ++ (decimal set.priority ++ (codes "," ++ (decimal set.max_sustained_rate ++ (codes "," ++ (decimal set.max_burst ++ (codes ","
+    ++ (decimal set.min_reserved_rate ++ (codes "," ++ (decimal set.request_policy ++ (codes "," ++ (decimal set.polling_interval ++ (codes "," ++ (decimal set.poll_jitter ++ (codes ","
+    ++ (decimal set.grant_size ++ (codes "," ++ (decimal set.grant_interval ++ (codes "," ++ (decimal set.grant_jitter ++ (codes "," ++ (decimal set.grants_per_interval ++ codes " "))))))))))))))))))))))
 
 -- a parameter set, or `-` for the null set
 unfoldable pub optional_set_text : Option ParamFields → List ℕ
@@ -75,11 +70,8 @@ pending_record (Some pending) = codes "=" ++ (flag_text pending.sid_is_new ++ se
 -- `flow sfid modem sid sets pending start backlog since`
 unfoldable pub flow_text : SavedFlow → List ℕ
 flow_text saved =
-    codes "flow " ++ (decimal saved.sfid ++ (codes " "
-    ++ (address_field saved.flow.modem ++ (codes " "
-    ++ (sid_text saved.flow.sid ++ (sets_text saved.flow.sets ++ (pending_record saved.flow.pending
-    ++ (decimal saved.flow.start
-    ++ (codes " " ++ (decimal saved.flow.backlog ++ (codes " " ++ (decimal saved.flow.since ++ 10 ∷ []))))))))))))
+    codes "flow " ++ (decimal saved.sfid ++ (codes " " ++ (address_field saved.flow.modem ++ (codes " " ++ (sid_text saved.flow.sid ++ (sets_text saved.flow.sets ++ (pending_record saved.flow.pending
+    ++ (decimal saved.flow.start ++ (codes " " ++ (decimal saved.flow.backlog ++ (codes " " ++ (decimal saved.flow.since ++ 10 ∷ []))))))))))))
 
 -- the kind of a transaction: `dsa`, `dsc` or `dsd`
 abbrev pub kind_text : Kind → List ℕ
@@ -95,17 +87,13 @@ state_text Held = codes "held"
 -- `response modem tid kind sfid state ticks resends reply`
 unfoldable pub entry_text : KeptEntry → List ℕ
 entry_text entry =
-    codes "response " ++ (address_field entry.modem
-    ++ (codes " " ++ (decimal entry.tid ++ (codes " "
-    ++ (kind_text entry.kind ++ (codes " " ++ (decimal entry.sfid ++ (codes " " ++ (state_text entry.standing ++ (codes " "
-    ++ (decimal entry.ticks_left
-    ++ (codes " " ++ (decimal entry.resends_left ++ (codes " " ++ (bytes_text entry.reply ++ 10 ∷ [])))))))))))))))
+    codes "response " ++ (address_field entry.modem ++ (codes " " ++ (decimal entry.tid ++ (codes " " ++ (kind_text entry.kind ++ (codes " " ++ (decimal entry.sfid ++ (codes " " ++ (state_text entry.standing ++ (codes " "
+    ++ (decimal entry.ticks_left ++ (codes " " ++ (decimal entry.resends_left ++ (codes " " ++ (bytes_text entry.reply ++ 10 ∷ [])))))))))))))))
 
 -- `message modem bytes`, or `request modem sid minislots`
 abbrev pub heard_text : Modem → Heard → List ℕ
 heard_text modem (Message bytes) = codes "message " ++ (address_field modem ++ (codes " " ++ (bytes_text bytes ++ 10 ∷ [])))
-heard_text modem (Request sid minislots) = codes "request "
-    ++ (address_field modem ++ (codes " " ++ (decimal sid ++ (codes " " ++ (decimal minislots ++ 10 ∷ [])))))
+heard_text modem (Request sid minislots) = codes "request " ++ (address_field modem ++ (codes " " ++ (decimal sid ++ (codes " " ++ (decimal minislots ++ 10 ∷ [])))))
 
 -- an entry of the inbox, on a line
 unfoldable pub arrival_text : Arrival → List ℕ
@@ -113,8 +101,7 @@ arrival_text arrival = heard_text arrival.modem arrival.heard
 
 -- `start length budget`
 unfoldable pub share_text : Share → List ℕ
-share_text share = decimal share.slice.start ++ (codes " "
-    ++ (decimal share.slice.length ++ (codes " " ++ (decimal share.budget ++ 10 ∷ []))))
+share_text share = decimal share.slice.start ++ (codes " " ++ (decimal share.slice.length ++ (codes " " ++ (decimal share.budget ++ 10 ∷ []))))
 
 -- `next =from start length budget`, or `next -`
 unfoldable pub next_text : Option NextShare → List ℕ
@@ -124,26 +111,19 @@ next_text (Some next) = codes "next =" ++ (decimal next.from ++ (codes " " ++ sh
 -- `operator name flows responses arrivals`
 unfoldable pub head_text : SavedOperator → List ℕ
 head_text saved =
-    codes "operator " ++ (saved.name ++ (codes " "
-    ++ (decimal (length saved.flows) ++ (codes " "
-    ++ (decimal (length saved.kept) ++ (codes " " ++ (decimal (length saved.inbox) ++ 10 ∷ [])))))))
+    codes "operator " ++ (saved.name ++ (codes " " ++ (decimal (length saved.flows) ++ (codes " " ++ (decimal (length saved.kept) ++ (codes " " ++ (decimal (length saved.inbox) ++ 10 ∷ [])))))))
 
 -- an operator: its head, its slice, the share that waits, its flows, its cached responses and its inbox
 unfoldable pub operator_text : SavedOperator → List ℕ
 operator_text saved =
-    head_text saved ++ (codes "slice " ++ (share_text saved.share
-    ++ (next_text saved.next ++ (flat_map flow_text saved.flows
-    ++ (flat_map entry_text saved.kept ++ flat_map arrival_text saved.inbox)))))
+    head_text saved ++ (codes "slice " ++ (share_text saved.share ++ (next_text saved.next ++ (flat_map flow_text saved.flows ++ (flat_map entry_text saved.kept ++ flat_map arrival_text saved.inbox)))))
 
 -- ---- the whole
 
 -- the format with its version and the length of the plant file; that file; a line of dashes; the frame, and how many operators there are
 unfoldable pub opening_text : Snapshot → List ℕ
 opening_text saved =
-    codes "melfjits-snapshot 1 " ++ (decimal (length saved.plant)
-    ++ (10 ∷ (saved.plant
-    ++ (codes "---" ++ (10
-    ∷ (codes "frame " ++ (decimal saved.frame ++ (codes " " ++ (decimal (length saved.operators) ++ 10 ∷ [])))))))))
+    codes "melfjits-snapshot 1 " ++ (decimal (length saved.plant) ++ (10 ∷ (saved.plant ++ (codes "---" ++ (10 ∷ (codes "frame " ++ (decimal saved.frame ++ (codes " " ++ (decimal (length saved.operators) ++ 10 ∷ [])))))))))
 
 -- all lines but the last
 unfoldable pub body_text : Snapshot → List ℕ

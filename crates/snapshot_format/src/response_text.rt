@@ -81,12 +81,12 @@ fn put_heard(
     alloc: Global,
     text: &mut String,
     modem: Modem,
-    received: &Heard,
+    heard: &Heard,
 ) -> Result<(), AllocError>
-    ensures { OnOk result (string_bytes text.new ≡ string_bytes text.old ++ heard_text modem received.now) }
+    ensures { OnOk result (string_bytes text.new ≡ string_bytes text.old ++ heard_text modem heard.now) }
 {
     let address_field = encode_upper(alloc, modem.0.as_slice())?;
-    match received {
+    match heard {
         Heard::Message(bytes) => {
             write!(text, "message {address_field} ")?;
             put_bytes(alloc, text, bytes)?;

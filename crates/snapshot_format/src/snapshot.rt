@@ -198,8 +198,7 @@ pub fn read_snapshot(alloc: Global, text: &[u8]) -> Result<Snapshot, SnapshotFau
     // What the text says, or its first invalid line with the reason. Memory is the fault only if an allocation fails.
     ensures exact { Gives snapshot_cause (λ saved. saved) result (snapshot_of text.now) }
     // The text of a snapshot is read as it, if its values fit their types and keep what these keep.
-    ensures read_back { (saved : Snapshot) → IsSnapshot saved → text.now ≡ text_of_snapshot saved
-        → Gives snapshot_cause (λ saved. saved) result (Ok saved) }
+    ensures read_back { (saved : Snapshot) → IsSnapshot saved → text.now ≡ text_of_snapshot saved → Gives snapshot_cause (λ saved. saved) result (Ok saved) }
     // This is of any text. No clause says that the states are sound under the plant file: `restore` checks that.
     ensures kept { IfOk result (λ saved. IsKeptSnapshot saved) }
 {

@@ -2,7 +2,7 @@
 use Rattle.std.proofs.Common.{◌≡◌, ◌≢◌, ◌⊎◌, inl, inr, ⊎_elim, ℕ, ◌+◌, List, [], ◌∷◌, length, Option, Some, None, IfSome, Result, Ok, Err, OnOk, refl, sym, ap, subst, ◌∙◌, arith}
 use Rattle.std.specs.Prelude.{◌==◌, if◌then◌else◌}
 use Rattle.std.specs.declared.io.buffered.BufReader.{BufReader}
-use Rattle.state_service.proofs.Common.{reader_buffer, reader_capacity, reader_inner, reader_remaining, Appends, prepend_known, Appends-nil, CoreView, plant_text, script_text, WhereKnown, PlantFields, Snapshot, states_of, IsRestarted, LeavesOnly, JournalContent, journal_content, SaysState, LeadsTo, PeriodEnd, Ended, Open, AreTaken, IsServing, LeadsHere, HasLines, HasNoFewer, LosesNoLine, IsRestFrame, greeting, IsAfterPeriod, LeadsAtEnd, ServiceOrigin, IsJournalOf, IsLeftFrom, IsLeftBy, HoldsTakenLines, IsFoundIn, IsSavedWith, IsChangedTo, IsUnderFile, IsFirstCore, IsRestoredFrom, IsServiceSoFar, IsServiceOn, IsStateService, IsUnharmed, IsLeftUnder, IsLeftByService, IsLeftByOpening, IsLeftAt}
+use Rattle.state_service.proofs.Common.{reader_buffer, reader_capacity, reader_inner, reader_remaining, Appends, prepend_known, Appends-nil, CoreView, plant_text, script_text, WhereKnown, PlantFields, Snapshot, states_of, IsRestarted, LeavesOnly, JournalContent, journal_content, SaysState, LeadsTo, PeriodEnd, Ended, Open, AreTakenSoFar, IsServing, LeadsHere, HasLines, HasNoFewer, LosesNoLine, IsRestFrame, greeting, IsAfterPeriod, LeadsAtEnd, ServiceOrigin, IsJournalOf, IsLeftFrom, IsLeftBy, HoldsTakenLines, IsFoundIn, IsSavedWith, IsChangedTo, IsUnderFile, IsFirstCore, IsRestoredFrom, IsServiceSoFar, IsServiceOn, IsStateService, IsUnharmed, IsLeftUnder, IsLeftByService, IsLeftByOpening, IsLeftAt}
 use Rattle.line_service.specs.script.Lines.{parts_of}
 use Rattle.state_service.proofs.ReadLemmas.{take_nil}
 use Rattle.state_service.proofs.KeepLemmas.{weaker, joined, begun_loses_none}
@@ -19,13 +19,13 @@ none_read file first count input part written none = record {
   events = [];
   lead = refl;
   count_is = omega arith;
-  taken = record { whole = []; begun = []; lines_are = refl; taken_are = refl; part_is = none ∙ sym (take_nil 4097) };
+  taken = inl (record { whole = []; begun = []; lines_are = refl; taken_are = refl; part_is = none ∙ sym (take_nil 4097) });
   written = Appends-nil written;
 }
 
-pub nothing_taken : (input part : List ℕ) → part ≡ [] → AreTaken input input [] part
+pub nothing_taken : (input part : List ℕ) → part ≡ [] → AreTakenSoFar input input [] part
 unfolding parts_of
-nothing_taken input part none = record { whole = []; begun = []; lines_are = refl; taken_are = refl; part_is = none ∙ sym (take_nil 4097) }
+nothing_taken input part none = inl (record { whole = []; begun = []; lines_are = refl; taken_are = refl; part_is = none ∙ sym (take_nil 4097) })
 
 pub none_read_where : (file : List ℕ) (first : CoreView) (count : ℕ) (part : List ℕ) (known written : Option (List ℕ)) → part ≡ []
     → WhereKnown known known (λ input rest. IsServing file first count input rest part first count written written)
@@ -79,12 +79,12 @@ more_served found before_put put content file part next old_end end mid live bef
     }
 
 -- up to the end of the input
-pub all_served : (found content : Option JournalContent) (file part : List ℕ) (end : PeriodEnd) (live : CoreView) (now : ℕ) (known rest old new : Option (List ℕ)) (unfinished : ℕ) → end ≡ Ended unfinished
+pub all_served : (found content : Option JournalContent) (file part : List ℕ) (end : PeriodEnd) (live : CoreView) (now : ℕ) (known rest old new : Option (List ℕ)) → end ≡ Ended
     → LeadsHere content live now → WhereKnown known rest (λ input left. IsServiceSoFar found file end content input left part live now old new)
-    → IfSome known (λ input. IsServiceOn found file input unfinished content old new)
-all_served found content file part end live now None rest old new unfinished is leads so_far = tt
-all_served found content file part end live now (Some input) None old new unfinished is leads so_far = absurd so_far
-all_served found content file part end live now (Some input) (Some left) old new unfinished is leads so_far =
+    → IfSome known (λ input. IsServiceOn found file input content old new)
+all_served found content file part end live now None rest old new is leads so_far = tt
+all_served found content file part end live now (Some input) None old new is leads so_far = absurd so_far
+all_served found content file part end live now (Some input) (Some left) old new is leads so_far =
     let here = subst (λ (e : PeriodEnd). IsServiceSoFar found file e content input left part live now old new) is so_far in
     record {
       live = live;
@@ -113,8 +113,8 @@ restored_leads content file count lines first live now restored leads =
     let stored : JournalContent = record { snapshot = stands.snapshot; lines = lines } in
     (restored.plant, record { stored = stored; stands_for = stands.stands_for; leads = leads stored restored.plant restored.saved stands.says refl restored.restored })
 
-pub ended_leads : (end : PeriodEnd) (content : Option JournalContent) (live : CoreView) (count unfinished : ℕ) → end ≡ Ended unfinished → LeadsAtEnd end content live count → LeadsHere content live count
-ended_leads end content live count unfinished is leads = subst (λ (e : PeriodEnd). LeadsAtEnd e content live count) is leads
+pub ended_leads : (end : PeriodEnd) (content : Option JournalContent) (live : CoreView) (count : ℕ) → end ≡ Ended → LeadsAtEnd end content live count → LeadsHere content live count
+ended_leads end content live count is leads = subst (λ (e : PeriodEnd). LeadsAtEnd e content live count) is leads
 
 -- ---- under which plant file
 
@@ -152,16 +152,16 @@ unread_same remaining reader empty room =
 
 -- ---- the plant file of the input
 
-pub given_serves : (known rest : Option (List ℕ)) (file bytes : List ℕ) (found content : Option JournalContent) (old new : Option (List ℕ)) (unfinished : ℕ) → IfSome known (λ input. file ≡ plant_text input)
-    → IfSome known (λ input. rest ≡ Some (script_text input)) → IsFoundIn bytes file found → IfSome rest (λ input. IsServiceOn found file input unfinished content old new)
-    → IfSome known (λ input. IsStateService bytes (plant_text input) (script_text input) unfinished content old new)
-given_serves None rest file bytes found content old new unfinished file_is rest_is is_found serves = tt
-given_serves (Some input) rest file bytes found content old new unfinished file_is rest_is is_found serves =
-    let here : IsServiceOn found file (script_text input) unfinished content old new = subst (λ (r : Option (List ℕ)). IfSome r (λ i. IsServiceOn found file i unfinished content old new)) rest_is serves in
+pub given_serves : (known rest : Option (List ℕ)) (file bytes : List ℕ) (found content : Option JournalContent) (old new : Option (List ℕ)) → IfSome known (λ input. file ≡ plant_text input)
+    → IfSome known (λ input. rest ≡ Some (script_text input)) → IsFoundIn bytes file found → IfSome rest (λ input. IsServiceOn found file input content old new)
+    → IfSome known (λ input. IsStateService bytes (plant_text input) (script_text input) content old new)
+given_serves None rest file bytes found content old new file_is rest_is is_found serves = tt
+given_serves (Some input) rest file bytes found content old new file_is rest_is is_found serves =
+    let here : IsServiceOn found file (script_text input) content old new = subst (λ (r : Option (List ℕ)). IfSome r (λ i. IsServiceOn found file i content old new)) rest_is serves in
     record {
       found = found;
       is_found = subst (λ (f : List ℕ). IsFoundIn bytes f found) file_is is_found;
-      serves = subst (λ (f : List ℕ). IsServiceOn found f (script_text input) unfinished content old new) file_is here;
+      serves = subst (λ (f : List ℕ). IsServiceOn found f (script_text input) content old new) file_is here;
     }
 
 pub unharmed_from : (bytes file : List ℕ) (mid content : Option JournalContent) → IsFoundIn bytes file mid → LosesNoLine mid content → IsUnharmed bytes content

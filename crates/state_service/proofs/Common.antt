@@ -21,7 +21,7 @@ pub use Rattle.state_service.specs.Crashes.{ServiceOrigin, IsJournalOf, IsLeftFr
 pub use Rattle.state_service.specs.Faults.{IsDiskFault, IsServingFault, IsFaultOfChange, IsStartRefused, IsStartFault, IsJournalFault, IsRefusedAt, IsServiceFault}
 pub use Rattle.state_service.specs.Periods.{IsAfterPeriod, LeadsAtEnd, SaysDue, IsAfterLines, GoesOnAfterSave, IsKeptOf, IsInPeriod, LeadsUnlessDue}
 pub use Rattle.state_service.specs.Serving.{IsServing, LeadsHere, HasLines, HasNoFewer, LosesNoLine, IsRestFrame, greeting, Event, lines_done, LeadOn, text_told, AreDoneNext, IsAtLine, GoesOnFromState, GoesOnUnderNumber}
-pub use Rattle.state_service.specs.Taking.{kept_line, AreTaken, AreAllTaken, IsAfterBatch, line_if_any}
+pub use Rattle.state_service.specs.Taking.{AreTakenSoFar, kept_line, line_at_end, AreTaken, AreAllTaken, IsAfterBatch, AreTakenToEnd, line_if_any}
 pub use Rattle.state_service.specs.declared.period_end.DueState.{DueState}
 pub use Rattle.state_service.specs.declared.period_end.PeriodEnd.{PeriodEnd}
 pub use Rattle.state_service.specs.declared.period_end.PeriodEnd.TheVariants.{Ended, Due}

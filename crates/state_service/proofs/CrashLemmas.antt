@@ -1,6 +1,6 @@
 -- Which lines of the input a journal has at any moment.
-use Rattle.std.proofs.Common.{◌≡◌, ◌⊎◌, inl, inr, ⊎_elim, ℕ, ◌+◌, ◌==◌, Bool, true, false, List, [], ◌∷◌, ◌++◌, length, map, Option, Some, None, Vec, IfSome, refl, sym, ap, subst, ◌∙◌, arith, append_assoc, append-nil}
-use Rattle.state_service.proofs.Common.{Global, Appends, append_known, map-append, PlantFields, CoreView, lines_of, parts_from, states_of, IsRestarted, WhereKnown, LeavesOnly, JournalContent, journal_content, with_lines, fresh, LeadsTo, IsLeading, leads_anew, DueState, Due, BatchEnd, kept_line, AreTaken, AreAllTaken, IsAfterBatch, Event, lines_done, LeadOn, LeadsHere, HasLines, HasNoFewer, SaysDue, AreFirstLines, HoldsLines, IsLeftBy, HoldsTakenLines, ServiceOrigin, IsJournalOf, IsLeftFrom, IsFirstCore, IsServiceSoFar, IsServedUpTo, IsLeftByService, IsLeftUnder}
+use Rattle.std.proofs.Common.{◌≡◌, ◌⊎◌, inl, inr, ⊎_elim, ℕ, ◌+◌, List, [], ◌∷◌, ◌++◌, length, map, Option, Some, None, Vec, IfSome, refl, sym, ap, subst, ◌∙◌, arith, append_assoc, append-nil}
+use Rattle.state_service.proofs.Common.{Global, Appends, append_known, map-append, PlantFields, CoreView, lines_of, parts_from, states_of, IsRestarted, WhereKnown, LeavesOnly, JournalContent, journal_content, with_lines, fresh, LeadsTo, IsLeading, leads_anew, DueState, Due, BatchEnd, kept_line, line_at_end, AreTaken, AreAllTaken, AreTakenSoFar, IsAfterBatch, Event, lines_done, LeadOn, LeadsHere, HasLines, HasNoFewer, SaysDue, AreFirstLines, HoldsLines, IsLeftBy, HoldsTakenLines, ServiceOrigin, IsJournalOf, IsLeftFrom, IsFirstCore, IsServiceSoFar, IsServedUpTo, IsLeftByService, IsLeftUnder}
 use Rattle.state_service.specs.declared.reading.BatchEnd.TheVariants as batch
 use Rattle.state_service.proofs.KeepLemmas.{lines_added, state_put, weaker}
 use Rattle.state_service.proofs.ServeLemmas.{Reads}
@@ -9,46 +9,40 @@ use Rattle.state_service.proofs.ServeLemmas.{Reads}
 
 -- first lines of first lines
 fewer_first : (input : List ℕ) (xs ys : List (List ℕ)) → AreFirstLines input (xs ++ ys) → AreFirstLines input xs
-fewer_first input xs [] are = record { next = are.next; rest = are.rest; lines_are = are.lines_are ∙ ap (λ (ls : List (List ℕ)). ls ++ are.next ∷ are.rest) (append-nil xs) }
-fewer_first input xs (y ∷ ys) are = record { next = y; rest = ys ++ are.next ∷ are.rest; lines_are = are.lines_are ∙ append_assoc xs (y ∷ ys) (are.next ∷ are.rest) }
-
--- bytes have a first part
-pub record HasFirst (lines : List (List ℕ)) : Type 0 where
-  pub first : List ℕ
-  pub more : List (List ℕ)
-  pub are : lines ≡ first ∷ more
-
-first_part : (part bytes : List ℕ) → HasFirst (parts_from 10 part bytes)
-first_part part [] = record { first = part; more = []; are = refl }
-first_part part (b ∷ bytes) = by (b == 10) (first_part (part ++ b ∷ []) bytes)
-  where
-    by : (t : Bool) → HasFirst (parts_from 10 (part ++ b ∷ []) bytes) → HasFirst (elim t [ true ↦ part ∷ parts_from 10 [] bytes | false ↦ parts_from 10 (part ++ b ∷ []) bytes ])
-    by true later = record { first = part; more = parts_from 10 [] bytes; are = refl }
-    by false later = later
+fewer_first input xs ys are = record { rest = ys ++ are.rest; lines_are = are.lines_are ∙ append_assoc xs ys are.rest }
 
 taken_first : (input rest : List ℕ) (done : List (List ℕ)) (part : List ℕ) → AreTaken input rest done part → AreFirstLines input done
 taken_first input rest done part taken =
-    let left = first_part taken.begun rest in
+    let left = map kept_line (parts_from 10 taken.begun rest) in
     record {
-      next = kept_line left.first;
-      rest = map kept_line left.more;
+      rest = left;
       lines_are = ap (λ (ls : List (List ℕ)). map kept_line ls) taken.lines_are ∙ (map-append kept_line taken.whole (parts_from 10 taken.begun rest)
-          ∙ (ap (λ (ls : List (List ℕ)). map kept_line taken.whole ++ map kept_line ls) left.are
-          ∙ ap (λ (ls : List (List ℕ)). ls ++ kept_line left.first ∷ map kept_line left.more) (sym taken.taken_are)));
+          ∙ ap (λ (ls : List (List ℕ)). ls ++ left) (sym taken.taken_are));
     }
 
-all_first : (input : List ℕ) (done : List (List ℕ)) (unfinished : ℕ) → AreAllTaken input done unfinished → AreFirstLines input done
-all_first input done unfinished all = record {
-  next = kept_line all.last;
+all_of : (input : List ℕ) (done whole : List (List ℕ)) (last : List ℕ) → lines_of input ≡ whole ++ last ∷ [] → done ≡ map kept_line (whole ++ line_at_end last) → AreFirstLines input done
+all_of input done whole [] lines_are taken_are =
+    let left = map kept_line ([] ∷ []) in
+    record {
+      rest = left;
+      lines_are = ap (λ (ls : List (List ℕ)). map kept_line ls) lines_are ∙ (map-append kept_line whole ([] ∷ [])
+          ∙ ap (λ (ls : List (List ℕ)). ls ++ left) (sym (taken_are ∙ ap (λ (ls : List (List ℕ)). map kept_line ls) (append-nil whole))));
+    }
+all_of input done whole (b ∷ bytes) lines_are taken_are = record {
   rest = [];
-  lines_are = ap (λ (ls : List (List ℕ)). map kept_line ls) all.lines_are ∙ (map-append kept_line all.whole (all.last ∷ [])
-      ∙ ap (λ (ls : List (List ℕ)). ls ++ kept_line all.last ∷ []) (sym all.taken_are));
+  lines_are = ap (λ (ls : List (List ℕ)). map kept_line ls) lines_are ∙ (sym taken_are ∙ sym (append-nil done));
 }
 
+all_first : (input : List ℕ) (done : List (List ℕ)) → AreAllTaken input done → AreFirstLines input done
+all_first input done all = all_of input done all.whole all.last all.lines_are all.taken_are
+
+so_far_first : (input rest : List ℕ) (done : List (List ℕ)) (part : List ℕ) → AreTakenSoFar input rest done part → AreFirstLines input done
+so_far_first input rest done part taken = ⊎_elim (λ some. taken_first input rest done part some) (λ end. all_first input done end.all) taken
+
 batch_first : (end : BatchEnd) (input rest : List ℕ) (done : List (List ℕ)) (part : List ℕ) → IsAfterBatch end input rest done part → AreFirstLines input done
-batch_first batch.Open input rest done part taken = taken_first input rest done part taken
-batch_first (batch.Command line) input rest done part taken = fewer_first input done (line.items ∷ []) (taken_first input rest (done ++ line.items ∷ []) part taken)
-batch_first (batch.Ended unfinished) input rest done part taken = all_first input done unfinished taken
+batch_first batch.Open input rest done part taken = so_far_first input rest done part taken
+batch_first (batch.Command line) input rest done part taken = fewer_first input done (line.items ∷ []) (so_far_first input rest (done ++ line.items ∷ []) part taken)
+batch_first batch.Ended input rest done part taken = all_first input done taken
 
 -- ---- the lines of a journal
 
@@ -143,7 +137,7 @@ module _ (file : List ℕ) (first : CoreView) (count : ℕ) where
         → HoldsTakenLines found file first count (batch.Command line) content input rest part → HoldsTakenLines found file first count batch.Open later input rest part
     command_holds line content later lines input rest part alone is here = record {
       done = here.done ++ lines;
-      taken = subst (λ (ls : List (List ℕ)). AreTaken input rest (here.done ++ ls) part) (sym alone) here.taken;
+      taken = subst (λ (ls : List (List ℕ)). AreTakenSoFar input rest (here.done ++ ls) part) (sym alone) here.taken;
       holds = more_held here.done lines content later here.holds is;
     }
 
@@ -212,7 +206,7 @@ module _ (found : Option JournalContent) (file : List ℕ) (first : CoreView) (c
   }
 
   -- nothing is read yet, and the journal leads to the first core
-  pub none_taken : (known : Option (List ℕ)) (part : List ℕ) (taken : (input : List ℕ) → AreTaken input input [] part) → LeadsHere found first count → HasNoFewer least found
+  pub none_taken : (known : Option (List ℕ)) (part : List ℕ) (taken : (input : List ℕ) → AreTakenSoFar input input [] part) → LeadsHere found first count → HasNoFewer least found
       → IsJournalOf (origin_of known) batch.Open found known part
   none_taken None part taken leads has = record { no_fewer = has; holds = tt }
   none_taken (Some input) part taken leads has = record { no_fewer = has; holds = record { done = []; taken = taken input; holds = found_holds file first count found leads } }

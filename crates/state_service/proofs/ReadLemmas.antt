@@ -1,6 +1,6 @@
 -- Lines that are taken of an input, a byte at a time.
-use Rattle.std.proofs.Common.{◌≡◌, ◌≢◌, ◌<◌, ◌≤◌, ℕ, zero, suc, ◌==◌, Bool, true, false, List, [], ◌∷◌, ◌++◌, length, take, drop, map, Vec, Option, Some, None, IfSome, refl, sym, ap, subst, ◌∙◌, arith, append_assoc, append-nil, take-append-drop}
-use Rattle.state_service.proofs.Common.{Global, Keeps, DropsConsumable, map-append, drop-append-le, parts_from, WhereKnown, texts, BatchEnd, kept_line, AreTaken, AreAllTaken, IsAfterBatch}
+use Rattle.std.proofs.Common.{◌≡◌, ◌≢◌, ◌<◌, ◌≤◌, ℕ, zero, suc, ◌==◌, Bool, true, false, List, [], ◌∷◌, ◌++◌, length, take, drop, map, Vec, Option, Some, None, IfSome, ⊎_elim, refl, sym, ap, subst, ◌∙◌, arith, append_assoc, take-append-drop}
+use Rattle.state_service.proofs.Common.{Global, Keeps, DropsConsumable, map-append, drop-append-le, parts_from, WhereKnown, texts, BatchEnd, kept_line, line_at_end, AreTaken, AreAllTaken, AreTakenToEnd, AreTakenSoFar, IsAfterBatch}
 use Rattle.std.specs.Io.{StartsWith}
 use Rattle.std.proofs.lemmas.Bool.Decides.{nat_tests}
 
@@ -63,36 +63,58 @@ module _ (input rest : List ℕ) (byte : ℕ) (taken : List (List ℕ)) (part : 
 
 -- ---- the end of an input
 
--- what follows the last line feed is no line
-pub ended : (input part : List ℕ) (before lines : List (List ℕ)) (unfinished : ℕ) → lines ≡ [] → unfinished ≡ length part → AreTaken input [] before part
-    → AreAllTaken input (before ++ lines) unfinished
-ended input part before lines unfinished none is taken = record {
-  whole = taken.whole;
-  last = taken.begun;
-  lines_are = taken.lines_are;
-  taken_are = ap (λ (ls : List (List ℕ)). before ++ ls) none ∙ append-nil before ∙ taken.taken_are;
-  unfinished_is = is ∙ ap (λ (l : List ℕ). length l) taken.part_is;
-}
+taken_none : (n : ℕ) (line : List ℕ) → 0 < n → take n line ≡ [] → line ≡ []
+taken_none zero line some none = absurd (omega (arith, some))
+taken_none (suc n) [] some none = refl
+taken_none (suc n) (x ∷ line) some none = absurd (omega (arith, ap (λ (l : List ℕ). length l) none))
+
+-- a line that is not empty is the one at the end
+whole_at_end : (line : List ℕ) → line ≢ [] → line_at_end line ≡ line ∷ []
+whole_at_end [] some = absurd (some refl)
+whole_at_end (b ∷ line) some = refl
+
+module _ (input part : List ℕ) (before : List (List ℕ)) where
+  -- what follows it is a line
+  pub ended_line : AreTakenSoFar input [] before part → part ≢ [] → AreAllTaken input (before ++ part ∷ [])
+  ended_line so_far some = ⊎_elim by (λ (end : AreTakenToEnd input [] before part). absurd (some end.no_part)) so_far
+    where
+      by : AreTaken input [] before part → AreAllTaken input (before ++ part ∷ [])
+      by taken =
+          let there : taken.begun ≢ [] = λ none. some (taken.part_is ∙ (ap kept_line none ∙ take_nil 4097)) in
+          record {
+            whole = taken.whole;
+            last = taken.begun;
+            lines_are = taken.lines_are;
+            taken_are =
+                ap (λ (ls : List (List ℕ)). ls ++ part ∷ []) taken.taken_are ∙ ap (λ (l : List ℕ). map kept_line taken.whole ++ l ∷ []) taken.part_is
+                ∙ sym (map-append kept_line taken.whole (taken.begun ∷ [])) ∙ ap (λ (ls : List (List ℕ)). map kept_line (taken.whole ++ ls)) (sym (whole_at_end taken.begun there));
+          }
 
 -- ---- a read
 
 -- bytes that a reader shows, of which so many are taken
-module _ (part next : List ℕ) (before more : List (List ℕ)) (shown : List ℕ) (n : ℕ) (within : n ≤ length shown)
+module _ (part next : List ℕ) (before more : List (List ℕ)) (shown : List ℕ) (n : ℕ) (within : n ≤ length shown) (some : shown ≢ [])
     (takes : (input rest : List ℕ) → AreTaken input (shown ++ rest) before part → AreTaken input (drop n shown ++ rest) (before ++ more) next) where
   split : (bytes : List ℕ) → StartsWith bytes shown → shown ++ drop (length shown) bytes ≡ bytes
   split bytes front = ap (λ (l : List ℕ). l ++ drop (length shown) bytes) (sym front) ∙ take-append-drop (length shown) bytes
 
+  there : (input bytes : List ℕ) → StartsWith bytes shown → AreTakenSoFar input bytes before part → AreTaken input bytes before part
+  there input bytes front so_far = ⊎_elim (λ (taken : AreTaken input bytes before part). taken) (λ (end : AreTakenToEnd input bytes before part). absurd (none (sym front ∙ ap (take (length shown)) end.none_left))) so_far
+    where
+      none : shown ≡ take (length shown) [] → ⊥
+      none is = some (is ∙ take_nil (length shown))
+
   left : (bytes : List ℕ) → StartsWith bytes shown → drop n shown ++ drop (length shown) bytes ≡ drop n bytes
   left bytes front = sym (drop-append-le n shown (drop (length shown) bytes) within) ∙ ap (λ (l : List ℕ). drop n l) (split bytes front)
 
-  taken_of : (input bytes : List ℕ) → StartsWith bytes shown → AreTaken input bytes before part → AreTaken input (drop n bytes) (before ++ more) next
+  taken_of : (input bytes : List ℕ) → StartsWith bytes shown → AreTakenSoFar input bytes before part → AreTaken input (drop n bytes) (before ++ more) next
   taken_of input bytes front so_far =
       subst (λ (l : List ℕ). AreTaken input l (before ++ more) next) (left bytes front)
-      (takes input (drop (length shown) bytes) (subst (λ (l : List ℕ). AreTaken input l before part) (sym (split bytes front)) so_far))
+      (takes input (drop (length shown) bytes) (subst (λ (l : List ℕ). AreTaken input l before part) (sym (split bytes front)) (there input bytes front so_far)))
 
   pub batch_taken : (known a b c : Option (List ℕ)) (buffered : Option ℕ) → IfSome a (λ bytes. StartsWith bytes shown) → Keeps a b
       → IfSome a (λ _. IfSome buffered (λ most. length shown ≤ most)) → DropsConsumable b c buffered n
-      → WhereKnown known a (λ input rest. AreTaken input rest before part) → WhereKnown known c (λ input rest. AreTaken input rest (before ++ more) next)
+      → WhereKnown known a (λ input rest. AreTakenSoFar input rest before part) → WhereKnown known c (λ input rest. AreTaken input rest (before ++ more) next)
   batch_taken None a b c buffered front keeps fits drops so_far = tt
   batch_taken (Some input) None b c buffered front keeps fits drops so_far = absurd so_far
   batch_taken (Some input) (Some bytes) None c buffered front keeps fits drops so_far = absurd keeps
@@ -106,14 +128,14 @@ module _ (part next : List ℕ) (before more : List (List ℕ)) (shown : List �
 
 -- a read at the end
 pub end_read : (part next : List ℕ) (before lines : List (List ℕ)) (end : BatchEnd) (known a b : Option (List ℕ)) → IfSome a (λ bytes. bytes ≡ []) → Keeps a b
-    → ((input : List ℕ) → AreTaken input [] before part → IsAfterBatch end input [] (before ++ lines) next)
-    → WhereKnown known a (λ input rest. AreTaken input rest before part) → WhereKnown known b (λ input rest. IsAfterBatch end input rest (before ++ lines) next)
+    → ((input : List ℕ) → AreTakenSoFar input [] before part → IsAfterBatch end input [] (before ++ lines) next)
+    → WhereKnown known a (λ input rest. AreTakenSoFar input rest before part) → WhereKnown known b (λ input rest. IsAfterBatch end input rest (before ++ lines) next)
 end_read part next before lines end None a b none keeps takes so_far = tt
 end_read part next before lines end (Some input) None b none keeps takes so_far = absurd so_far
 end_read part next before lines end (Some input) (Some bytes) None none keeps takes so_far = absurd keeps
 end_read part next before lines end (Some input) (Some bytes) (Some kept) none keeps takes so_far =
     subst (λ (l : List ℕ). IsAfterBatch end input l (before ++ lines) next) (sym (keeps ∙ none))
-    (takes input (subst (λ (l : List ℕ). AreTaken input l before part) none so_far))
+    (takes input (subst (λ (l : List ℕ). AreTakenSoFar input l before part) none so_far))
 
 pub known_turned : (known a : Option (List ℕ)) (P Q : List ℕ → List ℕ → Type 0) → ((input rest : List ℕ) → P input rest → Q input rest) → WhereKnown known a P → WhereKnown known a Q
 known_turned None a P Q on h = tt

@@ -1,6 +1,5 @@
 pub mod Common
 pub mod BeginLemmas
-pub mod BegunLemmas
 pub mod ItemLemmas
 pub mod PeriodLemmas
 pub mod PlantFileLemmas

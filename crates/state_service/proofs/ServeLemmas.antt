@@ -1,6 +1,6 @@
 -- Lines that are done, one batch after the other, and commands.
 use Rattle.std.proofs.Common.{◌≡◌, ℕ, ◌+◌, List, [], ◌∷◌, ◌++◌, length, Option, Some, None, inl, inr, ⊎_elim, refl, ap, subst, sym, ◌∙◌, arith, append-nil, length-append}
-use Rattle.state_service.proofs.Common.{Appends, Appends-trans, CoreView, WhereKnown, states_of, IsRestarted, IsKeptState, frame_text, DueState, BatchEnd, AreNoCommands, IsRefusedCommand, IsCommandRefusedFor, IsSnapshotDue, IsNumberDue, IsCommandDue, AreTaken, IsAfterBatch, Event, lines_done, text_told, LeadOn, AreDoneNext, IsServing, IsAtLine, GoesOnFromState, GoesOnUnderNumber, IsAfterLines, GoesOnAfterSave}
+use Rattle.state_service.proofs.Common.{Appends, Appends-trans, CoreView, WhereKnown, states_of, IsRestarted, IsKeptState, frame_text, DueState, BatchEnd, AreNoCommands, IsRefusedCommand, IsCommandRefusedFor, IsSnapshotDue, IsNumberDue, IsCommandDue, AreTakenSoFar, IsAfterBatch, Event, lines_done, text_told, LeadOn, AreDoneNext, IsServing, IsAtLine, GoesOnFromState, GoesOnUnderNumber, IsAfterLines, GoesOnAfterSave}
 use Rattle.state_service.proofs.ResumedLemmas.ServedLemmas.{known_map}
 use Rattle.state_service.specs.declared.reading.BatchEnd.TheVariants.{Open, Command, Ended}
 use Rattle.state_service.specs.declared.performing.CommandRefusal.{CommandRefusal}
@@ -13,7 +13,7 @@ none_if (Some some) other = absurd (other some refl)
 
 -- what a batch that was read is
 abbrev pub Reads : BatchEnd → List (List ℕ) → List ℕ → List ℕ → Option (List ℕ) → Option (List ℕ) → Type 0
-Reads end lines old_part new_part a b = (known : Option (List ℕ)) (before : List (List ℕ)) → WhereKnown known a (λ input rest. AreTaken input rest before old_part)
+Reads end lines old_part new_part a b = (known : Option (List ℕ)) (before : List (List ℕ)) → WhereKnown known a (λ input rest. AreTakenSoFar input rest before old_part)
     → WhereKnown known b (λ input rest. IsAfterBatch end input rest (before ++ lines) new_part)
 
 module _ (file : List ℕ) (first : CoreView) (count : ℕ) (input rest part : List ℕ) (live : CoreView) (now : ℕ) (old new : Option (List ℕ)) where
@@ -22,7 +22,7 @@ module _ (file : List ℕ) (first : CoreView) (count : ℕ) (input rest part : L
       → IsAfterBatch end input rest (lines_done events) part → Appends old new (text_told events) → IsAfterLines end file first count input rest part live now old new
   after_events Open events lead counted taken written = record { events = events; lead = lead; count_is = counted; taken = taken; written = written }
   after_events (Command line) events lead counted taken written = record { events = events; lead = lead; count_is = counted; taken = taken; written = written }
-  after_events (Ended unfinished) events lead counted taken written = record { events = events; lead = lead; count_is = counted; taken = taken; written = written }
+  after_events Ended events lead counted taken written = record { events = events; lead = lead; count_is = counted; taken = taken; written = written }
 
 module _ (file : List ℕ) (first : CoreView) (count : ℕ) (end : BatchEnd) (old_part new_part : List ℕ) where
   -- no line has ended

@@ -42,8 +42,7 @@ IsUnderFile saved given led first = (given ≡ saved → first ≡ led) × (give
 
 -- a core is restored from the state of a journal, which was saved with this plant file, before which so many lines were done, and these
 -- lines are since
-pub record IsRestoredFrom (content : Option JournalContent) (file : List ℕ) (count : ℕ) (lines : List (List ℕ))
-    (live : CoreView) : Type 0 where
+pub record IsRestoredFrom (content : Option JournalContent) (file : List ℕ) (count : ℕ) (lines : List (List ℕ)) (live : CoreView) : Type 0 where
   pub plant : PlantFields
   pub saved : Snapshot
   pub stands : StandsForState content count plant saved lines
@@ -60,8 +59,7 @@ pub record IsFirstCore (found : Option JournalContent) (file : List ℕ) (first 
 
 -- a service from the core to which a journal leads, under the plant file: after the greeting, lines are done up to the end of the input or
 -- until a state is to be saved, and the journal is still the one that was found, or has the first lines of the input
-pub record IsServiceSoFar (found : Option JournalContent) (file : List ℕ) (end : PeriodEnd) (content : Option JournalContent)
-    (input rest part : List ℕ) (live : CoreView) (now : ℕ) (old new : Option (List ℕ)) : Type 0 where
+pub record IsServiceSoFar (found : Option JournalContent) (file : List ℕ) (end : PeriodEnd) (content : Option JournalContent) (input rest part : List ℕ) (live : CoreView) (now : ℕ) (old new : Option (List ℕ)) : Type 0 where
   pub first : CoreView
   pub count : ℕ
   pub is_first : IsFirstCore found file first count
@@ -74,8 +72,7 @@ pub record IsServiceSoFar (found : Option JournalContent) (file : List ℕ) (end
 
 -- such a service up to the end of a period, of a core that is not kept: a state that is due is that of the core with the plant file, and
 -- otherwise the journal leads to the core
-pub record IsServedUpTo (found content : Option JournalContent) (given file : List ℕ) (count : ℕ) (end : PeriodEnd) (part : List ℕ)
-    (known rest old new : Option (List ℕ)) : Type 0 where
+pub record IsServedUpTo (found content : Option JournalContent) (given file : List ℕ) (count : ℕ) (end : PeriodEnd) (part : List ℕ) (known rest old new : Option (List ℕ)) : Type 0 where
   pub live : CoreView
   pub same_file : file ≡ given
   pub due : SaysAtEnd count end
@@ -84,22 +81,19 @@ pub record IsServedUpTo (found content : Option JournalContent) (given file : Li
   pub loses_none : LosesNoLine found content
   pub enough : loses_none.least ≤ count
 
--- a service of all lines of an input that a line feed ends, at whose end the journal leads to the core that has done them; of what follows
--- the last line feed so many bytes are kept, and it is not done
-pub record IsServiceOn (found : Option JournalContent) (file input : List ℕ) (unfinished : ℕ) (content : Option JournalContent)
-    (old new : Option (List ℕ)) : Type 0 where
+-- a service of all lines of an input, at whose end the journal leads to the core that has done them
+pub record IsServiceOn (found : Option JournalContent) (file input : List ℕ) (content : Option JournalContent) (old new : Option (List ℕ)) : Type 0 where
   pub live : CoreView
   pub now : ℕ
-  pub serves : IsServiceSoFar found file (Ended unfinished) content input [] [] live now old new
+  pub serves : IsServiceSoFar found file Ended content input [] [] live now old new
   pub leads : LeadsHere content live now
 
 -- a service that begins with a file of these bytes: a journal is found in it, which leads to a core, which is then under the plant of the
 -- plant file, and the service goes on from there
-pub record IsStateService (bytes file input : List ℕ) (unfinished : ℕ) (content : Option JournalContent)
-    (old new : Option (List ℕ)) : Type 0 where
+pub record IsStateService (bytes file input : List ℕ) (content : Option JournalContent) (old new : Option (List ℕ)) : Type 0 where
   pub found : Option JournalContent
   pub is_found : IsFoundIn bytes file found
-  pub serves : IsServiceOn found file input unfinished content old new
+  pub serves : IsServiceOn found file input content old new
 
 -- ---- what a crash leaves
 
@@ -115,8 +109,7 @@ pub record IsLeftByService (found : Option JournalContent) (file input : List �
   pub left : IsLeftBy found file first count input content
 
 -- it has no fewer lines, and it is the one that was found or, if the bytes of the input are known, has its first lines
-pub record IsLeftUnder (found : Option JournalContent) (file : List ℕ) (known : Option (List ℕ))
-    (content : Option JournalContent) : Type 0 where
+pub record IsLeftUnder (found : Option JournalContent) (file : List ℕ) (known : Option (List ℕ)) (content : Option JournalContent) : Type 0 where
   pub loses_none : LosesNoLine found content
   pub named : IfSome known (λ input. (content ≡ found) ⊎ IsLeftByService found file input content)
 

@@ -15,8 +15,7 @@ use Rattle.line_journal.specs.Journal.{JournalContent, journal_content}
 use Rattle.state_service.specs.declared.durable.fault.DurableFault.{DurableFault}
 use Rattle.state_service.specs.declared.durable.fault.DurableFault.TheVariants as durable
 use Rattle.state_service.specs.declared.fault.StateServiceFault.{StateServiceFault}
-use Rattle.state_service.specs.declared.fault.StateServiceFault.TheVariants.{NotText, InvalidPlant, Journal, NotRestored, NotChanged}
-use Rattle.state_service.specs.declared.fault.StateServiceFault.TheVariants.{Stream, NoMemory}
+use Rattle.state_service.specs.declared.fault.StateServiceFault.TheVariants.{NotText, InvalidPlant, Journal, NotRestored, NotChanged, Stream, NoMemory}
 use Rattle.state_service.specs.Serving.{LeadsHere}
 use Rattle.state_service.specs.Beginning.{IsFoundIn, IsSavedWith}
 
@@ -118,11 +117,9 @@ IsRefusedAt bytes file why refused = (found : Option JournalContent) × IsFoundI
 -- what each fault says of the input, of the file of these bytes and of the disk, which has failed so often before and now
 abbrev pub IsServiceFault : Option (List ℕ) → List ℕ → ℕ → ℕ → StateServiceFault → Type 0
 IsServiceFault known bytes before now NotText = IfSome known (λ input. IsUtf8 (plant_text input) → ⊥)
-IsServiceFault known bytes before now (InvalidPlant fault) =
-    IfSome known (λ input. text_plant (parse_document (plant_text input)) ≡ Err fault)
+IsServiceFault known bytes before now (InvalidPlant fault) = IfSome known (λ input. text_plant (parse_document (plant_text input)) ≡ Err fault)
 IsServiceFault known bytes before now (Journal fault) = IsJournalFault bytes before now fault
 IsServiceFault known bytes before now (NotRestored why) = ⊤
-IsServiceFault known bytes before now (NotChanged why refused) =
-    IfSome known (λ input. IsRefusedAt bytes (plant_text input) why refused.items)
+IsServiceFault known bytes before now (NotChanged why refused) = IfSome known (λ input. IsRefusedAt bytes (plant_text input) why refused.items)
 IsServiceFault known bytes before now (Stream error) = ⊤
 IsServiceFault known bytes before now NoMemory = ⊤

@@ -14,7 +14,7 @@ use Rattle.state_service.specs.durable.Durable.{AreLinesDone, IsKeptSnapshot, Is
 use Rattle.state_service.specs.resumed.Items.{asks_snapshot, SnapshotIsGiven}
 use Rattle.state_service.specs.resumed.NewFrames.{asks_frame, NamesFrame, IsCoreRenumbered, frame_text}
 use Rattle.state_service.specs.Commands.{AreNoCommands, IsRefusedCommand}
-use Rattle.state_service.specs.Taking.{AreTaken, AreAllTaken}
+use Rattle.state_service.specs.Taking.{AreTakenSoFar, AreAllTaken}
 
 -- ---- what a service has done
 
@@ -71,8 +71,7 @@ pub record GoesOnUnderNumber (file : List ℕ) (count : ℕ) (line : List ℕ) (
 
 -- after whatever run led to a core, these lines are done next, after so many lines, and lead to another one; this text answers them
 abbrev pub AreDoneNext : CoreView → ℕ → List (List ℕ) → CoreView → List ℕ → Type 0
-AreDoneNext old count lines live text = BehindEachRun old
-    (λ plant start steps shown. AreLinesDone plant start steps shown (count + 1) lines live text)
+AreDoneNext old count lines live text = BehindEachRun old (λ plant start steps shown. AreLinesDone plant start steps shown (count + 1) lines live text)
 
 -- under this plant file, after so many lines, and these events, the first core has become this one
 abbrev pub LeadOn : List ℕ → CoreView → ℕ → List Event → CoreView → Type 0
@@ -91,30 +90,27 @@ LeadOn file first count (CommandRefused line text ∷ before) live = (old : Core
 -- ---- a service that goes on from a core
 
 -- these lines of the input are done and answered, and of the next one this part is read
-pub record IsServing (file : List ℕ) (first : CoreView) (count : ℕ) (input rest part : List ℕ) (live : CoreView) (now : ℕ)
-    (old new : Option (List ℕ)) : Type 0 where
+pub record IsServing (file : List ℕ) (first : CoreView) (count : ℕ) (input rest part : List ℕ) (live : CoreView) (now : ℕ) (old new : Option (List ℕ)) : Type 0 where
   pub events : List Event
   pub lead : LeadOn file first count events live
   pub count_is : now ≡ count + length (lines_done events)
-  pub taken : AreTaken input rest (lines_done events) part
+  pub taken : AreTakenSoFar input rest (lines_done events) part
   pub written : Appends old new (text_told events)
 
 -- and the line after them is read too
-pub record IsAtLine (line : List ℕ) (file : List ℕ) (first : CoreView) (count : ℕ) (input rest part : List ℕ) (live : CoreView) (now : ℕ)
-    (old new : Option (List ℕ)) : Type 0 where
+pub record IsAtLine (line : List ℕ) (file : List ℕ) (first : CoreView) (count : ℕ) (input rest part : List ℕ) (live : CoreView) (now : ℕ) (old new : Option (List ℕ)) : Type 0 where
   pub events : List Event
   pub lead : LeadOn file first count events live
   pub count_is : now ≡ count + length (lines_done events)
-  pub taken : AreTaken input rest (lines_done events ++ line ∷ []) part
+  pub taken : AreTakenSoFar input rest (lines_done events ++ line ∷ []) part
   pub written : Appends old new (text_told events)
 
--- the lines of the events are all lines of the input that a line feed ends, and what is written is their answers; so many bytes follow
-pub record HasServed (file : List ℕ) (first : CoreView) (count : ℕ) (input : List ℕ) (live : CoreView) (now : ℕ) (old new : Option (List ℕ))
-    (unfinished : ℕ) : Type 0 where
+-- the lines of the events are all lines of the input, and what is written is their answers
+pub record HasServed (file : List ℕ) (first : CoreView) (count : ℕ) (input : List ℕ) (live : CoreView) (now : ℕ) (old new : Option (List ℕ)) : Type 0 where
   pub events : List Event
   pub lead : LeadOn file first count events live
   pub count_is : now ≡ count + length (lines_done events)
-  pub taken : AreAllTaken input (lines_done events) unfinished
+  pub taken : AreAllTaken input (lines_done events)
   pub written : Appends old new (text_told events)
 
 -- ---- what the journal has

@@ -1,5 +1,4 @@
 pub mod Beginning
-pub mod BegunCores
 pub mod Items
 pub mod LastStates
 pub mod NewFrames

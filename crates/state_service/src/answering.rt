@@ -20,22 +20,19 @@ use crate::durable::{DurableState, LineFailure, do_batch};
 use crate::fault::StateServiceFault;
 use crate::performing::{CommandOutcome, CommandRefusal, command_outcome};
 use crate::period_end::PeriodEnd;
-use crate::resumed::{NewFrameFault, ServiceObserver};
-use crate::unsaved_state::UnsavedState;
+use crate::resumed::RefusalNotes;
 use line_journal::{Device, Journal};
-use line_service::{NoNotes, Observer};
 use plant_core::LiveCore;
 use std::alloc::Global;
 use std::io::Write;
 
 /// Puts lines in the journal, does them, and then writes their answers.
-pub(crate) fn answer_lines<D: Device, W: Write, O: Observer<Vec<u8>>>(
+pub(crate) fn answer_lines<D: Device, W: Write>(
     alloc: Global,
     journal: &mut Journal<D>,
     service: &mut DurableState,
     lines: &[Vec<u8>],
     writer: &mut W,
-    observer: &mut O,
 ) -> Result<(), StateServiceFault>
     requires settled { IsJournalSettled D.seen D.may_leave journal.old.device journal.old.gate }
     requires reached { IsReachableFromStart (live_view service.old.core) }
@@ -43,43 +40,38 @@ pub(crate) fn answer_lines<D: Device, W: Write, O: Observer<Vec<u8>>>(
     ensures reached { OnOk result (IsReachableFromStart (live_view service.new.core)) }
     ensures count { OnOk result (service.new.count ≡ service.old.count + length (texts lines.now)) }
     ensures same_file { service.new.file ≡ service.old.file }
-    ensures leads { OnOk result (LeadsHere (journal_content (D.seen journal.old.device)) (live_view service.old.core)
-        service.old.count
+    ensures leads { OnOk result (LeadsHere (journal_content (D.seen journal.old.device)) (live_view service.old.core) service.old.count
         → LeadsHere (journal_content (D.seen journal.new.device)) (live_view service.new.core) service.new.count) }
-    ensures answered { OnOk result ((text : List ℕ)
-        × AreDoneNext (live_view service.old.core) service.old.count (texts lines.now)
+    ensures answered { OnOk result ((text : List ℕ) × AreDoneNext (live_view service.old.core) service.old.count (texts lines.now)
         (live_view service.new.core) text × Appends (W.contents writer.old) (W.contents writer.new) text) }
-    ensures added { OnOk result (journal_content (D.seen journal.new.device)
-        ≡ with_lines (texts lines.now) (journal_content (D.seen journal.old.device))) }
+    ensures added { OnOk result (journal_content (D.seen journal.new.device) ≡ with_lines (texts lines.now) (journal_content (D.seen journal.old.device))) }
     ensures any_moment { LeavesOnly D.moment D.left_since journal.old.device journal.new.device
-        (IsBeforeOrAfter (journal_content (D.seen journal.old.device))
-        (with_lines (texts lines.now) (journal_content (D.seen journal.old.device)))) }
+        (IsBeforeOrAfter (journal_content (D.seen journal.old.device)) (with_lines (texts lines.now) (journal_content (D.seen journal.old.device)))) }
     ensures fault { IfErr result (IsServingFault (D.faults journal.old.device) (D.faults journal.new.device)) }
     ensures counted { D.faults journal.old.device ≤ D.faults journal.new.device }
 {
-    let text = do_batch(alloc, journal, service, lines, observer)?;
+    let text = do_batch(alloc, journal, service, lines)?;
     writer.write_all(text.as_slice())?;
     writer.flush()?;
     Ok(())
 }
 
-/// Notes why the command with this line number is refused.
-fn note_refusal<O: ServiceObserver<Vec<u8>>>(
+/// Notes why the command with this line number is refused, unless it requests a snapshot.
+fn note_refusal<N: RefusalNotes>(
     alloc: Global,
     core: &LiveCore,
     number: u64,
     refusal: &CommandRefusal,
-    observer: &mut O,
+    notes: &mut N,
 ) {
-    let unsaved = UnsavedState::Command { number };
     match refusal {
-        CommandRefusal::NoSnapshot => observer.note_unsaved(alloc, core, unsaved),
-        CommandRefusal::NoNumber { why } => {
-            observer.note_frame_refused(alloc, number, core.plant(), why);
-            if let NewFrameFault::Unfinished { why: _ } = why {
-                observer.note_unsaved(alloc, core, unsaved);
-            }
-        }
+        CommandRefusal::NoSnapshot => {}
+        CommandRefusal::NoNumber { why } => notes.note_frame_refused(
+            alloc,
+            number,
+            core.plant(),
+            why,
+        ),
     }
 }
 
@@ -95,13 +87,13 @@ fn number_after(count: u64) -> Result<u64, LineFailure>
 
 /// Answers a command that is refused, as a line of a script. Otherwise the period ends, with the state that is to be saved before the
 /// command is answered. The command is counted in both cases.
-pub(crate) fn serve_command<D: Device, W: Write, O: ServiceObserver<Vec<u8>>>(
+pub(crate) fn serve_command<D: Device, W: Write, N: RefusalNotes>(
     alloc: Global,
     journal: &mut Journal<D>,
     service: &mut DurableState,
     line: Vec<u8>,
     writer: &mut W,
-    observer: &mut O,
+    notes: &mut N,
 ) -> Result<Option<PeriodEnd>, StateServiceFault>
     requires settled { IsJournalSettled D.seen D.may_leave journal.old.device journal.old.gate }
     requires reached { IsReachableFromStart (live_view service.old.core) }
@@ -110,15 +102,11 @@ pub(crate) fn serve_command<D: Device, W: Write, O: ServiceObserver<Vec<u8>>>(
     ensures reached { OnOk result (IsReachableFromStart (live_view service.new.core)) }
     ensures count { OnOk result (service.new.count ≡ service.old.count + 1) }
     ensures same_file { service.new.file ≡ service.old.file }
-    ensures leads { IfOk result (λ end. LeadsHere (journal_content (D.seen journal.old.device))
-        (live_view service.old.core) service.old.count
-        → LeadsUnlessDue end (journal_content (D.seen journal.new.device)) (live_view service.new.core)
-        service.new.count) }
+    ensures leads { IfOk result (λ end. LeadsHere (journal_content (D.seen journal.old.device)) (live_view service.old.core) service.old.count
+        → LeadsUnlessDue end (journal_content (D.seen journal.new.device)) (live_view service.new.core) service.new.count) }
     ensures says { IfOk result (SaysAtEndIfAny service.new.count) }
-    ensures on { IfOk result (λ end. (file : List ℕ) (first : CoreView) (count : ℕ)
-        (known rest written : Option (List ℕ)) (part : List ℕ)
-        → service.old.file ≡ file
-        → WhereKnown known rest (λ input left. IsAtLine line.items file first count input left part
+    ensures on { IfOk result (λ end. (file : List ℕ) (first : CoreView) (count : ℕ) (known rest written : Option (List ℕ)) (part : List ℕ)
+        → service.old.file ≡ file → WhereKnown known rest (λ input left. IsAtLine line.items file first count input left part
         (live_view service.old.core) service.old.count written (W.contents writer.old))
         → WhereKnown known rest (λ input left. IsInPeriod end file first count input left part
         (live_view service.new.core) service.new.count written (W.contents writer.new))) }
@@ -127,8 +115,7 @@ pub(crate) fn serve_command<D: Device, W: Write, O: ServiceObserver<Vec<u8>>>(
         → IsJournalInPeriod end origin (journal_content (D.seen journal.new.device)) rest part) }
     ensures any_moment { (origin : ServiceOrigin) (rest : Option (List ℕ)) (part : List ℕ)
         → IsJournalOf origin (Command line) (journal_content (D.seen journal.old.device)) rest part
-        → LeavesOnly D.moment D.left_since journal.old.device journal.new.device
-        (λ c. IsLeftFrom origin (journal_content c)) }
+        → LeavesOnly D.moment D.left_since journal.old.device journal.new.device (λ c. IsLeftFrom origin (journal_content c)) }
     ensures fault { IfErr result (IsServingFault (D.faults journal.old.device) (D.faults journal.new.device)) }
     ensures counted { D.faults journal.old.device ≤ D.faults journal.new.device }
 {
@@ -141,9 +128,7 @@ pub(crate) fn serve_command<D: Device, W: Write, O: ServiceObserver<Vec<u8>>>(
         CommandOutcome::Refused { refusal } => refusal,
     };
     let lines = vec![in alloc; line]?;
-    note_refusal(alloc, &service.core, number, &refusal, observer);
-    // Why it is refused was noted. As a line of a script it is merely invalid.
-    let silent = &mut NoNotes;
-    answer_lines(alloc, journal, service, lines.as_slice(), writer, silent)?;
+    note_refusal(alloc, &service.core, number, &refusal, notes);
+    answer_lines(alloc, journal, service, lines.as_slice(), writer)?;
     Ok(None)
 }

@@ -17,7 +17,6 @@ mod reading;
 mod resumed;
 mod serving;
 mod starting;
-mod unsaved_state;
 
 pub use beginning::serve_state;
 pub use durable::{
@@ -26,8 +25,7 @@ pub use durable::{
 };
 pub use fault::StateServiceFault;
 pub use resumed::{
-    BeginFault, NewFrameFault, NewPlantFault, Renumbered, ServiceEnd, ServiceObserver, SnapshotEnd,
-    begun_core, is_snapshot_head, renumbered_core, resume, saved_core, service_is_of_changes,
+    BeginFault, NewFrameFault, NewPlantFault, RefusalNotes, Renumbered, ServiceEnd, SnapshotEnd,
+    is_snapshot_head, renumbered_core, resume, saved_core, service_is_of_changes,
     service_is_of_runs, snapshot_after,
 };
-pub use unsaved_state::UnsavedState;

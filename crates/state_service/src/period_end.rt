@@ -13,8 +13,8 @@ pub(crate) struct DueState {
 /// How lines ended that were done one batch after the other.
 #[derive(Drop)]
 pub(crate) enum PeriodEnd {
-    /// By the end of the input. So many bytes are kept of what follows its last line feed, which is not done.
-    Ended { unfinished: usize },
+    /// By the end of the input.
+    Ended,
     /// This state is to be saved.
     Due { due: DueState },
 }

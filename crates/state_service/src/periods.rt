@@ -19,31 +19,20 @@ use crate::durable::{DurableState, JournalStateFault, KeptState, state_to_keep};
 use crate::fault::StateServiceFault;
 use crate::period_end::{DueState, PeriodEnd};
 use crate::reading::{BatchEnd, LineBatch, read_batch};
-use crate::resumed::ServiceObserver;
-use crate::unsaved_state::UnsavedState;
+use crate::resumed::RefusalNotes;
 use line_journal::{Device, Journal};
 use std::alloc::Global;
 use std::io;
 use std::io::{BufRead, Write};
 
-/// How lines are taken from an input.
-#[derive(Drop)]
-pub(crate) struct Intake {
-    /// The bytes after the last line feed that was read.
-    pub(crate) part: Vec<u8>,
-    /// After how many lines the state is saved.
-    pub(crate) period: u64,
-}
-
 /// Reads a batch of lines, and answers them once they are in the journal.
-fn serve_batch<D: Device, B: BufRead, W: Write, O: ServiceObserver<Vec<u8>>>(
+fn serve_batch<D: Device, B: BufRead, W: Write>(
     alloc: Global,
     journal: &mut Journal<D>,
     service: &mut DurableState,
     part: &mut Vec<u8>,
     reader: &mut B,
     writer: &mut W,
-    observer: &mut O,
 ) -> Result<BatchEnd, StateServiceFault>
     requires settled { IsJournalSettled D.seen D.may_leave journal.old.device journal.old.gate }
     requires reached { IsReachableFromStart (live_view service.old.core) }
@@ -51,24 +40,20 @@ fn serve_batch<D: Device, B: BufRead, W: Write, O: ServiceObserver<Vec<u8>>>(
     ensures reached { OnOk result (IsReachableFromStart (live_view service.new.core)) }
     ensures count { OnOk result (service.old.count ≤ service.new.count) }
     ensures same_file { service.new.file ≡ service.old.file }
-    ensures leads { OnOk result (LeadsHere (journal_content (D.seen journal.old.device)) (live_view service.old.core)
-        service.old.count
+    ensures leads { OnOk result (LeadsHere (journal_content (D.seen journal.old.device)) (live_view service.old.core) service.old.count
         → LeadsHere (journal_content (D.seen journal.new.device)) (live_view service.new.core) service.new.count) }
     ensures on { IfOk result (λ end. (file : List ℕ) (first : CoreView) (count : ℕ) (known written : Option (List ℕ))
         → WhereKnown known (B.remaining reader.old) (λ input rest. IsServing file first count input rest part.old.items
         (live_view service.old.core) service.old.count written (W.contents writer.old))
-        → WhereKnown known (B.remaining reader.new)
-        (λ input rest. IsAfterLines end file first count input rest part.new.items
+        → WhereKnown known (B.remaining reader.new) (λ input rest. IsAfterLines end file first count input rest part.new.items
         (live_view service.new.core) service.new.count written (W.contents writer.new))) }
     ensures command { IfOk result HasCommand }
     ensures holds { IfOk result (λ end. (origin : ServiceOrigin)
         → IsJournalOf origin Open (journal_content (D.seen journal.old.device)) (B.remaining reader.old) part.old.items
-        → IsJournalOf origin end (journal_content (D.seen journal.new.device)) (B.remaining reader.new)
-        part.new.items) }
+        → IsJournalOf origin end (journal_content (D.seen journal.new.device)) (B.remaining reader.new) part.new.items) }
     ensures any_moment { (origin : ServiceOrigin)
         → IsJournalOf origin Open (journal_content (D.seen journal.old.device)) (B.remaining reader.old) part.old.items
-        → LeavesOnly D.moment D.left_since journal.old.device journal.new.device
-        (λ c. IsLeftFrom origin (journal_content c)) }
+        → LeavesOnly D.moment D.left_since journal.old.device journal.new.device (λ c. IsLeftFrom origin (journal_content c)) }
     ensures fault { IfErr result (IsServingFault (D.faults journal.old.device) (D.faults journal.new.device)) }
     ensures counted { D.faults journal.old.device ≤ D.faults journal.new.device }
 {
@@ -76,7 +61,7 @@ fn serve_batch<D: Device, B: BufRead, W: Write, O: ServiceObserver<Vec<u8>>>(
     if lines.is_empty() {
         return Ok(end);
     }
-    answer_lines(alloc, journal, service, lines.as_slice(), writer, observer)?;
+    answer_lines(alloc, journal, service, lines.as_slice(), writer)?;
     Ok(end)
 }
 
@@ -96,14 +81,14 @@ fn state_if_resting(
 }
 
 /// Reads a batch of lines, and answers them and the command after them, if there is one. Returns how the period ends, if it does.
-fn serve_lines<D: Device, B: BufRead, W: Write, O: ServiceObserver<Vec<u8>>>(
+fn serve_lines<D: Device, B: BufRead, W: Write, N: RefusalNotes>(
     alloc: Global,
     journal: &mut Journal<D>,
     service: &mut DurableState,
     part: &mut Vec<u8>,
     reader: &mut B,
     writer: &mut W,
-    observer: &mut O,
+    notes: &mut N,
 ) -> Result<Option<PeriodEnd>, StateServiceFault>
     requires settled { IsJournalSettled D.seen D.may_leave journal.old.device journal.old.gate }
     requires reached { IsReachableFromStart (live_view service.old.core) }
@@ -111,35 +96,27 @@ fn serve_lines<D: Device, B: BufRead, W: Write, O: ServiceObserver<Vec<u8>>>(
     ensures reached { OnOk result (IsReachableFromStart (live_view service.new.core)) }
     ensures count { OnOk result (service.old.count ≤ service.new.count) }
     ensures same_file { service.new.file ≡ service.old.file }
-    ensures leads { IfOk result (λ end. LeadsHere (journal_content (D.seen journal.old.device))
-        (live_view service.old.core) service.old.count
-        → LeadsUnlessDue end (journal_content (D.seen journal.new.device)) (live_view service.new.core)
-        service.new.count) }
+    ensures leads { IfOk result (λ end. LeadsHere (journal_content (D.seen journal.old.device)) (live_view service.old.core) service.old.count
+        → LeadsUnlessDue end (journal_content (D.seen journal.new.device)) (live_view service.new.core) service.new.count) }
     ensures on { IfOk result (λ end. (file : List ℕ) (first : CoreView) (count : ℕ) (known written : Option (List ℕ))
-        → service.old.file ≡ file
-        → WhereKnown known (B.remaining reader.old) (λ input rest. IsServing file first count input rest part.old.items
+        → service.old.file ≡ file → WhereKnown known (B.remaining reader.old) (λ input rest. IsServing file first count input rest part.old.items
         (live_view service.old.core) service.old.count written (W.contents writer.old))
-        → WhereKnown known (B.remaining reader.new)
-        (λ input rest. IsInPeriod end file first count input rest part.new.items
+        → WhereKnown known (B.remaining reader.new) (λ input rest. IsInPeriod end file first count input rest part.new.items
         (live_view service.new.core) service.new.count written (W.contents writer.new))) }
     ensures says { IfOk result (SaysAtEndIfAny service.new.count) }
     ensures holds { IfOk result (λ end. (origin : ServiceOrigin)
         → IsJournalOf origin Open (journal_content (D.seen journal.old.device)) (B.remaining reader.old) part.old.items
-        → IsJournalInPeriod end origin (journal_content (D.seen journal.new.device)) (B.remaining reader.new)
-        part.new.items) }
+        → IsJournalInPeriod end origin (journal_content (D.seen journal.new.device)) (B.remaining reader.new) part.new.items) }
     ensures any_moment { (origin : ServiceOrigin)
         → IsJournalOf origin Open (journal_content (D.seen journal.old.device)) (B.remaining reader.old) part.old.items
-        → LeavesOnly D.moment D.left_since journal.old.device journal.new.device
-        (λ c. IsLeftFrom origin (journal_content c)) }
+        → LeavesOnly D.moment D.left_since journal.old.device journal.new.device (λ c. IsLeftFrom origin (journal_content c)) }
     ensures fault { IfErr result (IsServingFault (D.faults journal.old.device) (D.faults journal.new.device)) }
     ensures counted { D.faults journal.old.device ≤ D.faults journal.new.device }
 {
-    match serve_batch(alloc, journal, service, part, reader, writer, observer)? {
+    match serve_batch(alloc, journal, service, part, reader, writer)? {
         BatchEnd::Open => Ok(None),
-        BatchEnd::Command { line } => serve_command(
-            alloc, journal, service, line, writer, observer,
-        ),
-        BatchEnd::Ended { unfinished } => Ok(Some(PeriodEnd::Ended { unfinished })),
+        BatchEnd::Command { line } => serve_command(alloc, journal, service, line, writer, notes),
+        BatchEnd::Ended => Ok(Some(PeriodEnd::Ended)),
     }
 }
 
@@ -148,11 +125,9 @@ fn end_if_resting(
     alloc: Global,
     service: &DurableState,
 ) -> Result<Option<PeriodEnd>, StateServiceFault>
-    ensures leads { IfOk result (λ end. (content : Option JournalContent)
-        → LeadsHere content (live_view service.now.core) service.now.count
+    ensures leads { IfOk result (λ end. (content : Option JournalContent) → LeadsHere content (live_view service.now.core) service.now.count
         → LeadsUnlessDue end content (live_view service.now.core) service.now.count) }
-    ensures on { IfOk result (λ end. (file : List ℕ) (first : CoreView) (count : ℕ)
-        (known rest written now : Option (List ℕ)) (part : List ℕ)
+    ensures on { IfOk result (λ end. (file : List ℕ) (first : CoreView) (count : ℕ) (known rest written now : Option (List ℕ)) (part : List ℕ)
         → service.now.file ≡ file → WhereKnown known rest (λ input left. IsServing file first count input left part
         (live_view service.now.core) service.now.count written now)
         → WhereKnown known rest (λ input left. IsInPeriod end file first count input left part
@@ -171,33 +146,17 @@ fn end_if_resting(
     }))
 }
 
-/// Notes that the state is due and is not saved, unless that is noted or the core rests.
-fn note_due_once<O: ServiceObserver<Vec<u8>>>(
-    alloc: Global,
-    service: &DurableState,
-    is_noted: &mut bool,
-    observer: &mut O,
-) {
-    if *is_noted || service.core.resting_frame().is_ok() {
-        return;
-    }
-    *is_noted = true;
-    let unsaved = UnsavedState::Due {
-        count: service.count,
-    };
-    observer.note_unsaved(alloc, &service.core, unsaved);
-}
-
 /// Reads lines and answers them, up to the end of the input or until the state is to be saved: for a command, or after so many lines as
 /// soon as the core rests.
-pub(crate) fn serve_period<D: Device, B: BufRead, W: Write, O: ServiceObserver<Vec<u8>>>(
+pub(crate) fn serve_period<D: Device, B: BufRead, W: Write, N: RefusalNotes>(
     alloc: Global,
     journal: &mut Journal<D>,
     service: &mut DurableState,
-    intake: &mut Intake,
+    part: &mut Vec<u8>,
+    period: u64,
     reader: &mut B,
     writer: &mut W,
-    observer: &mut O,
+    notes: &mut N,
 ) -> Result<PeriodEnd, StateServiceFault>
     requires settled { IsJournalSettled D.seen D.may_leave journal.old.device journal.old.gate }
     requires reached { IsReachableFromStart (live_view service.old.core) }
@@ -205,42 +164,26 @@ pub(crate) fn serve_period<D: Device, B: BufRead, W: Write, O: ServiceObserver<V
     ensures reached { OnOk result (IsReachableFromStart (live_view service.new.core)) }
     ensures count { OnOk result (service.old.count ≤ service.new.count) }
     ensures same_file { service.new.file ≡ service.old.file }
-    ensures leads { IfOk result (λ end. LeadsHere (journal_content (D.seen journal.old.device))
-        (live_view service.old.core) service.old.count
+    ensures leads { IfOk result (λ end. LeadsHere (journal_content (D.seen journal.old.device)) (live_view service.old.core) service.old.count
         → LeadsAtEnd end (journal_content (D.seen journal.new.device)) (live_view service.new.core) service.new.count) }
     ensures on { IfOk result (λ end. (file : List ℕ) (first : CoreView) (count : ℕ) (known written : Option (List ℕ))
-        → service.old.file ≡ file
-        → WhereKnown known (B.remaining reader.old) (λ input rest. IsServing file first count input rest
-        intake.old.part.items (live_view service.old.core) service.old.count written (W.contents writer.old))
-        → WhereKnown known (B.remaining reader.new)
-        (λ input rest. IsAfterPeriod end file first count input rest intake.new.part.items
+        → service.old.file ≡ file → WhereKnown known (B.remaining reader.old) (λ input rest. IsServing file first count input rest part.old.items
+        (live_view service.old.core) service.old.count written (W.contents writer.old))
+        → WhereKnown known (B.remaining reader.new) (λ input rest. IsAfterPeriod end file first count input rest part.new.items
         (live_view service.new.core) service.new.count written (W.contents writer.new))) }
     ensures says { IfOk result (SaysAtEnd service.new.count) }
     ensures left { OnOk result ((origin : ServiceOrigin)
-        → IsJournalOf origin Open (journal_content (D.seen journal.old.device)) (B.remaining reader.old)
-        intake.old.part.items
+        → IsJournalOf origin Open (journal_content (D.seen journal.old.device)) (B.remaining reader.old) part.old.items
         → IsLeftFrom origin (journal_content (D.seen journal.new.device))) }
     ensures any_moment { (origin : ServiceOrigin)
-        → IsJournalOf origin Open (journal_content (D.seen journal.old.device)) (B.remaining reader.old)
-        intake.old.part.items
-        → LeavesOnly D.moment D.left_since journal.old.device journal.new.device
-        (λ c. IsLeftFrom origin (journal_content c)) }
+        → IsJournalOf origin Open (journal_content (D.seen journal.old.device)) (B.remaining reader.old) part.old.items
+        → LeavesOnly D.moment D.left_since journal.old.device journal.new.device (λ c. IsLeftFrom origin (journal_content c)) }
     ensures fault { IfErr result (IsServingFault (D.faults journal.old.device) (D.faults journal.new.device)) }
     ensures counted { D.faults journal.old.device ≤ D.faults journal.new.device }
 {
-    let period = intake.period;
     let saved_at = service.count;
-    let mut is_noted = false;
     for _ in 0..u64::MAX {
-        if let Some(end) = serve_lines(
-            alloc,
-            journal,
-            service,
-            &mut intake.part,
-            reader,
-            writer,
-            observer,
-        )? {
+        if let Some(end) = serve_lines(alloc, journal, service, part, reader, writer, notes)? {
             return Ok(end);
         }
         if service.count.saturating_sub(saved_at) < period {
@@ -249,7 +192,6 @@ pub(crate) fn serve_period<D: Device, B: BufRead, W: Write, O: ServiceObserver<V
         if let Some(end) = end_if_resting(alloc, service)? {
             return Ok(end);
         }
-        note_due_once(alloc, service, &mut is_noted, observer);
     }
     Err(StateServiceFault::from(io::Error::from(io::ErrorKind::Other)))
 }

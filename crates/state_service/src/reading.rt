@@ -1,10 +1,10 @@
 //! Lines of an input, read in batches.
 
-ghost use Rattle.std.specs.Prelude.{◌≡◌, ◌≢◌, ◌≤◌, ◌<◌, ◌+◌, ◌++◌, ◌∷◌, drop, length, [], List, ℕ, Option, IfOk, OnOk};
+ghost use Rattle.std.specs.Prelude.{◌≡◌, ◌≢◌, ◌≤◌, ◌++◌, ◌∷◌, drop, length, [], List, ℕ, Option, IfOk, OnOk};
 ghost use Rattle.line_service.specs.Bytes.{WhereKnown};
 ghost use Rattle.line_journal.specs.Found.{texts};
 ghost use Rattle.state_service.specs.Commands.{AreNoCommands};
-ghost use Rattle.state_service.specs.Taking.{AreTaken, IsAfterBatch, HasCommand, line_if_any, IsCommandIfAny};
+ghost use Rattle.state_service.specs.Taking.{AreTaken, AreTakenSoFar, IsAfterBatch, HasCommand, line_if_any, IsCommandIfAny};
 
 use crate::commands::is_command;
 use std::alloc::{AllocError, Global};
@@ -15,9 +15,6 @@ use std::mem::replace;
 /// The most bytes of a line that are kept: one more than a line may have, so that a line that is too long stays too long.
 const MOST_KEPT: usize = 4097;
 
-/// The most lines of a batch: their answers are held until all of them are done.
-const MOST_LINES: usize = 256;
-
 /// What follows a batch of lines.
 #[derive(Drop)]
 pub(crate) enum BatchEnd {
@@ -25,8 +22,8 @@ pub(crate) enum BatchEnd {
     Open,
     /// This line is a command. More bytes may follow it.
     Command { line: Vec<u8> },
-    /// The input has ended. So many bytes are kept of what follows its last line feed.
-    Ended { unfinished: usize },
+    /// The input has ended.
+    Ended,
 }
 
 /// Holds lines that were read, none of which is a command, and what follows them.
@@ -36,7 +33,7 @@ pub(crate) struct LineBatch {
     pub(crate) end: BatchEnd,
 }
 
-/// Holds how many bytes were taken: all, or those up to the end of a command or of the last line of a batch that is full.
+/// Holds how many bytes were taken: all, or those up to the end of a command.
 #[derive(Drop)]
 struct TakenBytes {
     count: usize,
@@ -46,8 +43,7 @@ struct TakenBytes {
 /// Adds a byte to the line that is being read, unless enough of it is kept.
 fn add_byte(part: &mut Vec<u8>, byte: u8) -> Result<(), AllocError>
     requires { byte ≢ 10 }
-    ensures { OnOk result ((input rest : List ℕ) (taken : List (List ℕ))
-        → AreTaken input (byte ∷ rest) taken part.old.items
+    ensures { OnOk result ((input rest : List ℕ) (taken : List (List ℕ)) → AreTaken input (byte ∷ rest) taken part.old.items
         → AreTaken input rest taken part.new.items) }
 {
     if part.len() < MOST_KEPT {
@@ -69,7 +65,6 @@ fn take_byte(
         → AreTaken input rest (before ++ (texts lines.new.items ++ line_if_any command)) part.new.items) }
     ensures plain { OnOk result (AreNoCommands (texts lines.old.items) → AreNoCommands (texts lines.new.items)) }
     ensures command { IfOk result IsCommandIfAny }
-    ensures one { OnOk result (length lines.new.items ≤ length lines.old.items + 1) }
 {
     if byte != b'\n' {
         add_byte(part, byte)?;
@@ -83,20 +78,17 @@ fn take_byte(
     Ok(None)
 }
 
-/// Takes bytes of an input, up to the end of the first command, or of the line with which a batch is full.
+/// Takes bytes of an input, up to the end of the first command.
 fn take_bytes(
     alloc: Global,
     lines: &mut Vec<Vec<u8>>,
     part: &mut Vec<u8>,
     bytes: &[u8],
 ) -> Result<TakenBytes, AllocError>
-    requires room { length lines.old.items < 256 }
     ensures count { IfOk result (λ taken. taken.count ≤ length bytes.now) }
-    ensures few { OnOk result (length lines.new.items ≤ 256) }
     ensures taken { IfOk result (λ taken. (input rest : List ℕ) (before : List (List ℕ))
         → AreTaken input (bytes.now ++ rest) (before ++ texts lines.old.items) part.old.items
-        → AreTaken input (drop taken.count bytes.now ++ rest)
-        (before ++ (texts lines.new.items ++ line_if_any taken.command)) part.new.items) }
+        → AreTaken input (drop taken.count bytes.now ++ rest) (before ++ (texts lines.new.items ++ line_if_any taken.command)) part.new.items) }
     ensures plain { OnOk result (AreNoCommands (texts lines.old.items) → AreNoCommands (texts lines.new.items)) }
     ensures command { IfOk result (λ taken. IsCommandIfAny taken.command) }
 {
@@ -110,12 +102,6 @@ fn take_bytes(
                 });
             }
         }
-        if lines.len() >= MOST_LINES {
-            return Ok(TakenBytes {
-                count: place + 1,
-                command: None,
-            });
-        }
     }
     Ok(TakenBytes {
         count: bytes.len(),
@@ -123,27 +109,38 @@ fn take_bytes(
     })
 }
 
-/// Takes the end of an input. What follows its last line feed is not a line.
-fn take_end(alloc: Global, part: &[u8]) -> LineBatch
-    ensures taken { (input : List ℕ) (before : List (List ℕ)) → AreTaken input [] before part.now
-        → IsAfterBatch result.end input [] (before ++ texts result.lines.items) part.now }
-    ensures plain { AreNoCommands (texts result.lines.items) }
-    ensures command { HasCommand result.end }
-    ensures none { result.lines.items ≡ [] }
+/// Takes the end of an input. What follows its last line feed is a line, unless that is nothing.
+fn take_end(alloc: Global, part: &mut Vec<u8>) -> Result<LineBatch, AllocError>
+    ensures taken { IfOk result (λ batch. (input : List ℕ) (before : List (List ℕ)) → AreTakenSoFar input [] before part.old.items
+        → IsAfterBatch batch.end input [] (before ++ texts batch.lines.items) part.new.items) }
+    ensures plain { IfOk result (λ batch. AreNoCommands (texts batch.lines.items)) }
+    ensures command { IfOk result (λ batch. HasCommand batch.end) }
 {
-    LineBatch {
-        lines: Vec::new(alloc),
-        end: BatchEnd::Ended {
-            unfinished: part.len(),
-        },
+    let mut lines = Vec::new(alloc);
+    if part.is_empty() {
+        return Ok(LineBatch {
+            lines,
+            end: BatchEnd::Ended,
+        });
     }
+    let line = replace(part, Vec::new(alloc));
+    if is_command(line.as_slice()) {
+        return Ok(LineBatch {
+            lines,
+            end: BatchEnd::Command { line },
+        });
+    }
+    lines.push(line)?;
+    Ok(LineBatch {
+        lines,
+        end: BatchEnd::Ended,
+    })
 }
 
 /// Returns what follows a batch of lines, in the input.
 fn end_after(command: Option<Vec<u8>>) -> BatchEnd
     ensures taken { (input rest : List ℕ) (before lines : List (List ℕ)) (part : List ℕ)
-        → AreTaken input rest (before ++ (lines ++ line_if_any command)) part
-        → IsAfterBatch result input rest (before ++ lines) part }
+        → AreTaken input rest (before ++ (lines ++ line_if_any command)) part → IsAfterBatch result input rest (before ++ lines) part }
     ensures command { IsCommandIfAny command → HasCommand result }
 {
     match command {
@@ -152,25 +149,22 @@ fn end_after(command: Option<Vec<u8>>) -> BatchEnd
     }
 }
 
-/// Reads once, and returns the lines that have ended then, up to the first command, and at most 256. What follows them is left in the
-/// reader. `part` is what was read of the line that has not ended. At the end of the input it is not a line.
+/// Reads once, and returns the lines that have ended then, up to the first command. What follows the command is left in the reader.
+/// `part` is what was read of the line that has not ended. At the end of the input, what is left of it is a line too.
 pub(crate) fn read_batch<B: BufRead>(
     alloc: Global,
     reader: &mut B,
     part: &mut Vec<u8>,
 ) -> io::Result<LineBatch>
     ensures taken { IfOk result (λ batch. (known : Option (List ℕ)) (before : List (List ℕ))
-        → WhereKnown known (B.remaining reader.old) (λ input rest. AreTaken input rest before part.old.items)
-        → WhereKnown known (B.remaining reader.new)
-        (λ input rest. IsAfterBatch batch.end input rest (before ++ texts batch.lines.items) part.new.items)) }
+        → WhereKnown known (B.remaining reader.old) (λ input rest. AreTakenSoFar input rest before part.old.items)
+        → WhereKnown known (B.remaining reader.new) (λ input rest. IsAfterBatch batch.end input rest (before ++ texts batch.lines.items) part.new.items)) }
     ensures plain { IfOk result (λ batch. AreNoCommands (texts batch.lines.items)) }
     ensures command { IfOk result (λ batch. HasCommand batch.end) }
-    // So their answers are written after each 256 lines.
-    ensures few { IfOk result (λ batch. length batch.lines.items ≤ 256) }
 {
     let bytes = reader.fill_buf()?;
     if bytes.is_empty() {
-        return Ok(take_end(alloc, part.as_slice()));
+        return Ok(take_end(alloc, part)?);
     }
     let mut lines = Vec::new(alloc);
     let taken = take_bytes(alloc, &mut lines, part, bytes)?;

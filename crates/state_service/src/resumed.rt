@@ -4,7 +4,6 @@
 
 mod begin_fault;
 mod beginning;
-mod beginning_core;
 mod changing;
 mod holding;
 mod items;
@@ -15,21 +14,20 @@ mod new_frame;
 mod new_frame_fault;
 mod new_plant;
 mod new_plant_fault;
+mod notes;
 mod plant_file;
 mod reading;
 mod saving;
 mod service;
 mod serving;
-mod watching;
 
 pub use begin_fault::BeginFault;
 pub use beginning::is_snapshot_head;
-pub use beginning_core::begun_core;
 pub use items::saved_core;
 pub use laws::{service_is_of_changes, service_is_of_runs};
 pub use new_frame::{Renumbered, renumbered_core};
 pub use new_frame_fault::NewFrameFault;
 pub use new_plant_fault::NewPlantFault;
+pub use notes::RefusalNotes;
 pub use saving::{SnapshotEnd, snapshot_after};
 pub use serving::{ServiceEnd, resume};
-pub use watching::ServiceObserver;

@@ -15,9 +15,9 @@ ghost use Rattle.state_service.specs.Periods.{SaysDue};
 use crate::durable::{DurableState, KeptState, SavedState, StartState, put_snapshot};
 use crate::fault::StateServiceFault;
 use crate::period_end::{DueState, PeriodEnd};
-use crate::periods::{Intake, serve_period};
-use crate::resumed::ServiceObserver;
-use crate::starting::{GivenPlant, RestoredService, StartedService, start_service};
+use crate::periods::serve_period;
+use crate::resumed::RefusalNotes;
+use crate::starting::{GivenPlant, StartedService, start_service};
 use line_journal::{Device, Journal};
 use plant_restart::restore;
 use std::alloc::Global;
@@ -33,51 +33,35 @@ struct ServedPeriod {
     end: PeriodEnd,
 }
 
-/// Holds a service whose state is to be saved: its plant file, and the number of lines that are done.
-#[derive(Drop)]
-struct DueService {
+/// Puts a state that is due in the place of the lines since the last one, writes the answer that waits for it, and serves lines with a
+/// core in that state until another one is due.
+fn serve_kept<D: Device, B: BufRead, W: Write, N: RefusalNotes>(
+    alloc: Global,
+    journal: &mut Journal<D>,
     due: DueState,
     file: Bytes,
     count: u64,
-}
-
-/// Holds what a journal has, and the plant file that is given.
-#[derive(Drop)]
-pub(crate) struct OpenedState {
-    pub(crate) state: SavedState,
-    pub(crate) given: GivenPlant,
-}
-
-/// Puts a state that is due in the place of the lines since the last one, writes the answer that waits for it, and serves lines with a
-/// core in that state until another one is due.
-fn serve_kept<D: Device, B: BufRead, W: Write, O: ServiceObserver<Vec<u8>>>(
-    alloc: Global,
-    journal: &mut Journal<D>,
-    next: DueService,
-    intake: &mut Intake,
+    part: &mut Vec<u8>,
+    period: u64,
     reader: &mut B,
     writer: &mut W,
-    observer: &mut O,
+    notes: &mut N,
 ) -> Result<ServedPeriod, StateServiceFault>
     requires settled { IsJournalSettled D.seen D.may_leave journal.old.device journal.old.gate }
-    requires says { SaysDue next.count next.due }
+    requires says { SaysDue count due }
     ensures settled { OnOk result (IsJournalSettled D.seen D.may_leave journal.new.device journal.new.gate) }
-    ensures on { IfOk result (λ served. (found : Option JournalContent) (given : List ℕ)
-        (known written : Option (List ℕ))
-        → IsServedUpTo found (journal_content (D.seen journal.old.device)) given next.file next.count
-        (Due next.due) intake.old.part.items known (B.remaining reader.old) written (W.contents writer.old)
-        → IsServedUpTo found (journal_content (D.seen journal.new.device)) given served.file served.count served.end
-        intake.new.part.items
+    ensures on { IfOk result (λ served. (found : Option JournalContent) (given : List ℕ) (known written : Option (List ℕ))
+        → IsServedUpTo found (journal_content (D.seen journal.old.device)) given file count (Due due) part.old.items
+        known (B.remaining reader.old) written (W.contents writer.old)
+        → IsServedUpTo found (journal_content (D.seen journal.new.device)) given served.file served.count served.end part.new.items
         known (B.remaining reader.new) written (W.contents writer.new)) }
     ensures any_moment { (found : Option JournalContent) (given : List ℕ) (known written : Option (List ℕ))
-        → IsServedUpTo found (journal_content (D.seen journal.old.device)) given next.file next.count
-        (Due next.due) intake.old.part.items known (B.remaining reader.old) written (W.contents writer.old)
-        → LeavesOnly D.moment D.left_since journal.old.device journal.new.device
-        (λ c. IsLeftUnder found given known (journal_content c)) }
+        → IsServedUpTo found (journal_content (D.seen journal.old.device)) given file count (Due due) part.old.items
+        known (B.remaining reader.old) written (W.contents writer.old)
+        → LeavesOnly D.moment D.left_since journal.old.device journal.new.device (λ c. IsLeftUnder found given known (journal_content c)) }
     ensures fault { IfErr result (IsServingFault (D.faults journal.old.device) (D.faults journal.new.device)) }
     ensures counted { D.faults journal.old.device ≤ D.faults journal.new.device }
 {
-    let DueService { due, file, count } = next;
     let DueState { kept, answer } = due;
     let KeptState { start, snapshot } = kept;
     let StartState {
@@ -97,10 +81,11 @@ fn serve_kept<D: Device, B: BufRead, W: Write, O: ServiceObserver<Vec<u8>>>(
         alloc,
         journal,
         &mut service,
-        intake,
+        part,
+        period,
         reader,
         writer,
-        observer,
+        notes,
     )?;
     Ok(ServedPeriod {
         file: service.file,
@@ -111,35 +96,32 @@ fn serve_kept<D: Device, B: BufRead, W: Write, O: ServiceObserver<Vec<u8>>>(
 
 /// Restores the state of a journal, does its lines again, and serves the first lines of the input under the plant file, until a state is
 /// due.
-fn serve_first<D: Device, B: BufRead, W: Write, O: ServiceObserver<Vec<u8>>>(
+fn serve_first<D: Device, B: BufRead, W: Write, N: RefusalNotes>(
     alloc: Global,
     journal: &mut Journal<D>,
-    opened: OpenedState,
-    intake: &mut Intake,
+    state: SavedState,
+    given: GivenPlant,
+    part: &mut Vec<u8>,
+    period: u64,
     reader: &mut B,
     writer: &mut W,
-    observer: &mut O,
+    notes: &mut N,
 ) -> Result<ServedPeriod, StateServiceFault>
-    requires found { StandsForState (journal_content (D.seen journal.old.device)) opened.state.start.count
-        opened.state.start.plant opened.state.start.saved (texts opened.state.lines.items) }
-    requires settled { IsJournalSettled D.seen D.may_leave journal.old.device opened.state.gate }
-    requires given { text_plant (parse_document opened.given.file.items) ≡ Ok opened.given.plant }
-    requires part { intake.old.part.items ≡ [] }
+    requires found { StandsForState (journal_content (D.seen journal.old.device)) state.start.count state.start.plant state.start.saved
+        (texts state.lines.items) }
+    requires settled { IsJournalSettled D.seen D.may_leave journal.old.device state.gate }
+    requires given { text_plant (parse_document given.file.items) ≡ Ok given.plant }
+    requires part { part.old.items ≡ [] }
     ensures settled { OnOk result (IsJournalSettled D.seen D.may_leave journal.new.device journal.new.gate) }
-    ensures on { IfOk result (λ served. IsServedUpTo (journal_content (D.seen journal.old.device))
-        (journal_content (D.seen journal.new.device))
-        opened.given.file.items served.file served.count served.end intake.new.part.items
+    ensures on { IfOk result (λ served. IsServedUpTo (journal_content (D.seen journal.old.device)) (journal_content (D.seen journal.new.device))
+        given.file.items served.file served.count served.end part.new.items
         (B.remaining reader.old) (B.remaining reader.new) (W.contents writer.old) (W.contents writer.new)) }
     ensures any_moment { LeavesOnly D.moment D.left_since journal.old.device journal.new.device
-        (λ c. IsLeftUnder (journal_content (D.seen journal.old.device)) opened.given.file.items
-        (B.remaining reader.old)
-        (journal_content c)) }
-    ensures fault { IfErr result (IsStartFault (journal_content (D.seen journal.old.device)) opened.given.file.items
-        (D.faults journal.old.device)
+        (λ c. IsLeftUnder (journal_content (D.seen journal.old.device)) given.file.items (B.remaining reader.old) (journal_content c)) }
+    ensures fault { IfErr result (IsStartFault (journal_content (D.seen journal.old.device)) given.file.items (D.faults journal.old.device)
         (D.faults journal.new.device)) }
     ensures counted { D.faults journal.old.device ≤ D.faults journal.new.device }
 {
-    let OpenedState { state, given } = opened;
     let SavedState { start, lines, gate } = state;
     journal.gate = gate;
     let StartState {
@@ -151,18 +133,22 @@ fn serve_first<D: Device, B: BufRead, W: Write, O: ServiceObserver<Vec<u8>>>(
         Ok(core) => core,
         Err(why) => return Err(StateServiceFault::NotRestored { why }),
     };
-    let service = DurableState {
+    let restored = DurableState {
         core,
         file: saved.plant,
         count,
     };
-    let restored = RestoredService {
-        service,
-        lines: lines.as_slice(),
-        given,
-    };
     let StartedService { service, end } = start_service(
-        alloc, journal, restored, intake, reader, writer, observer,
+        alloc,
+        journal,
+        restored,
+        lines.as_slice(),
+        given,
+        part,
+        period,
+        reader,
+        writer,
+        notes,
     )?;
     Ok(ServedPeriod {
         file: service.file,
@@ -172,55 +158,43 @@ fn serve_first<D: Device, B: BufRead, W: Write, O: ServiceObserver<Vec<u8>>>(
 }
 
 /// Serves the lines of an input from the state of a journal, under a plant file. A state that is due takes the place of the lines since the
-/// last one. Returns how many bytes are kept of what follows the last line feed of the input, which is not done.
-pub(crate) fn serve_restored<D: Device, B: BufRead, W: Write, O: ServiceObserver<Vec<u8>>>(
+/// last one.
+pub(crate) fn serve_restored<D: Device, B: BufRead, W: Write, N: RefusalNotes>(
     alloc: Global,
     journal: &mut Journal<D>,
-    opened: OpenedState,
+    state: SavedState,
+    given: GivenPlant,
     period: u64,
     reader: &mut B,
     writer: &mut W,
-    observer: &mut O,
-) -> Result<usize, StateServiceFault>
-    requires found { StandsForState (journal_content (D.seen journal.old.device)) opened.state.start.count
-        opened.state.start.plant opened.state.start.saved (texts opened.state.lines.items) }
-    requires settled { IsJournalSettled D.seen D.may_leave journal.old.device opened.state.gate }
-    requires given { text_plant (parse_document opened.given.file.items) ≡ Ok opened.given.plant }
-    ensures served { IfOk result (λ unfinished. IfSome (B.remaining reader.old)
-        (λ input. IsServiceOn (journal_content (D.seen journal.old.device))
-        opened.given.file.items input unfinished (journal_content (D.seen journal.new.device)) (W.contents writer.old)
-        (W.contents writer.new))) }
+    notes: &mut N,
+) -> Result<(), StateServiceFault>
+    requires found { StandsForState (journal_content (D.seen journal.old.device)) state.start.count state.start.plant state.start.saved
+        (texts state.lines.items) }
+    requires settled { IsJournalSettled D.seen D.may_leave journal.old.device state.gate }
+    requires given { text_plant (parse_document given.file.items) ≡ Ok given.plant }
+    ensures served { OnOk result (IfSome (B.remaining reader.old) (λ input. IsServiceOn (journal_content (D.seen journal.old.device))
+        given.file.items input (journal_content (D.seen journal.new.device)) (W.contents writer.old) (W.contents writer.new))) }
     ensures settled { OnOk result (IsJournalSettled D.seen D.may_leave journal.new.device journal.new.gate) }
     ensures any_moment { LeavesOnly D.moment D.left_since journal.old.device journal.new.device
-        (λ c. IsLeftUnder (journal_content (D.seen journal.old.device)) opened.given.file.items
-        (B.remaining reader.old)
-        (journal_content c)) }
-    ensures fault { IfErr result (IsStartFault (journal_content (D.seen journal.old.device)) opened.given.file.items
-        (D.faults journal.old.device)
+        (λ c. IsLeftUnder (journal_content (D.seen journal.old.device)) given.file.items (B.remaining reader.old) (journal_content c)) }
+    ensures fault { IfErr result (IsStartFault (journal_content (D.seen journal.old.device)) given.file.items (D.faults journal.old.device)
         (D.faults journal.new.device)) }
     ensures counted { D.faults journal.old.device ≤ D.faults journal.new.device }
 {
-    let mut intake = Intake {
-        part: Vec::new(alloc),
-        period,
-    };
+    let mut part = Vec::new(alloc);
     let mut served = serve_first(
-        alloc,
-        journal,
-        opened,
-        &mut intake,
-        reader,
-        writer,
-        observer,
+        alloc, journal, state, given, &mut part, period, reader, writer, notes,
     )?;
     for _ in 0..u64::MAX {
         let ServedPeriod { file, count, end } = served;
         let due = match end {
-            PeriodEnd::Ended { unfinished } => return Ok(unfinished),
+            PeriodEnd::Ended => return Ok(()),
             PeriodEnd::Due { due } => due,
         };
-        let next = DueService { due, file, count };
-        served = serve_kept(alloc, journal, next, &mut intake, reader, writer, observer)?;
+        served = serve_kept(
+            alloc, journal, due, file, count, &mut part, period, reader, writer, notes,
+        )?;
     }
     Err(StateServiceFault::from(io::Error::from(io::ErrorKind::Other)))
 }

@@ -18,8 +18,8 @@ use crate::durable::{DurableState, redo_lines, state_to_keep};
 use crate::fault::StateServiceFault;
 use crate::greeting::{resting_frame, write_greeting};
 use crate::period_end::{DueState, PeriodEnd};
-use crate::periods::{Intake, serve_period};
-use crate::resumed::ServiceObserver;
+use crate::periods::serve_period;
+use crate::resumed::RefusalNotes;
 use line_journal::{Device, Journal};
 use plant::Plant;
 use plant_restart::{change, refused_states};
@@ -32,13 +32,6 @@ use tlv24::Bytes;
 pub(crate) struct GivenPlant {
     pub(crate) file: Vec<u8>,
     pub(crate) plant: Plant,
-}
-
-/// Holds a service with a restored core, the lines of its journal that are to be done again, and the plant file that is given.
-pub(crate) struct RestoredService<'a> {
-    pub(crate) service: DurableState,
-    pub(crate) lines: &'a [Vec<u8>],
-    pub(crate) given: GivenPlant,
 }
 
 /// Holds a service that has started, and how its first lines ended.
@@ -64,8 +57,7 @@ fn change_service<W: Write>(
     ensures says { IfOk result (λ started. SaysAtEnd started.service.count started.end) }
     ensures leads { IfOk result (λ started. (content : Option JournalContent)
         → LeadsAtEnd started.end content (live_view started.service.core) started.service.count) }
-    ensures on { IfOk result (λ started. (found : Option JournalContent) (input : List ℕ)
-        → LeadsHere found (live_view service.core) service.count
+    ensures on { IfOk result (λ started. (found : Option JournalContent) (input : List ℕ) → LeadsHere found (live_view service.core) service.count
         → IsSavedWith found service.file → IsServiceSoFar found given.file.items started.end found input input []
         (live_view started.service.core) started.service.count (W.contents writer.old) (W.contents writer.new)) }
     ensures fault { IfErr result (IsFaultOfChange (live_view service.core) given.plant) }
@@ -94,51 +86,40 @@ fn change_service<W: Write>(
 
 /// Does the lines of a journal again with a restored core, writes where the service goes on, and serves the first lines of the input. If
 /// the plant file is not the one that was saved, the plant is changed to it instead, before any line.
-pub(crate) fn start_service<D: Device, B: BufRead, W: Write, O: ServiceObserver<Vec<u8>>>(
+pub(crate) fn start_service<D: Device, B: BufRead, W: Write, N: RefusalNotes>(
     alloc: Global,
     journal: &mut Journal<D>,
-    restored: RestoredService<'_>,
-    intake: &mut Intake,
+    mut service: DurableState,
+    lines: &[Vec<u8>],
+    given: GivenPlant,
+    part: &mut Vec<u8>,
+    period: u64,
     reader: &mut B,
     writer: &mut W,
-    observer: &mut O,
+    notes: &mut N,
 ) -> Result<StartedService, StateServiceFault>
     requires settled { IsJournalSettled D.seen D.may_leave journal.old.device journal.old.gate }
-    requires restored { IsRestoredFrom (journal_content (D.seen journal.old.device)) restored.service.file
-        restored.service.count (texts restored.lines.now)
-        (live_view restored.service.core) }
-    requires given { text_plant (parse_document restored.given.file.items) ≡ Ok restored.given.plant }
-    requires part { intake.old.part.items ≡ [] }
+    requires restored { IsRestoredFrom (journal_content (D.seen journal.old.device)) service.file service.count (texts lines.now)
+        (live_view service.core) }
+    requires given { text_plant (parse_document given.file.items) ≡ Ok given.plant }
+    requires part { part.old.items ≡ [] }
     ensures settled { OnOk result (IsJournalSettled D.seen D.may_leave journal.new.device journal.new.gate) }
     ensures reached { IfOk result (λ started. IsReachableFromStart (live_view started.service.core)) }
-    ensures count { IfOk result (λ started.
-        restored.entry.service.count + length restored.entry.lines.now ≤ started.service.count) }
-    ensures same_file { IfOk result (λ started. started.service.file ≡ restored.entry.given.file.items) }
+    ensures count { IfOk result (λ started. service.count + length lines.now ≤ started.service.count) }
+    ensures same_file { IfOk result (λ started. started.service.file ≡ given.file.items) }
     ensures says { IfOk result (λ started. SaysAtEnd started.service.count started.end) }
     ensures leads { IfOk result (λ started. LeadsAtEnd started.end (journal_content (D.seen journal.new.device))
         (live_view started.service.core) started.service.count) }
-    ensures on { IfOk result (λ started. WhereKnown (B.remaining reader.old) (B.remaining reader.new)
-        (λ input rest. IsServiceSoFar
-        (journal_content (D.seen journal.old.device)) restored.entry.given.file.items started.end
-        (journal_content (D.seen journal.new.device)) input rest
-        intake.new.part.items (live_view started.service.core) started.service.count (W.contents writer.old)
-        (W.contents writer.new))) }
-    ensures no_fewer { OnOk result (HasNoFewer
-        (restored.entry.service.count + length restored.entry.lines.now) (journal_content (D.seen journal.new.device))) }
+    ensures on { IfOk result (λ started. WhereKnown (B.remaining reader.old) (B.remaining reader.new) (λ input rest. IsServiceSoFar
+        (journal_content (D.seen journal.old.device)) given.file.items started.end (journal_content (D.seen journal.new.device)) input rest
+        part.new.items (live_view started.service.core) started.service.count (W.contents writer.old) (W.contents writer.new))) }
+    ensures no_fewer { OnOk result (HasNoFewer (service.count + length lines.now) (journal_content (D.seen journal.new.device))) }
     ensures any_moment { LeavesOnly D.moment D.left_since journal.old.device journal.new.device
-        (λ c. IsLeftUnder (journal_content (D.seen journal.old.device)) restored.entry.given.file.items
-        (B.remaining reader.old)
-        (journal_content c)) }
-    ensures fault { IfErr result (IsStartFault (journal_content (D.seen journal.old.device)) restored.entry.given.file.items
-        (D.faults journal.old.device)
+        (λ c. IsLeftUnder (journal_content (D.seen journal.old.device)) given.file.items (B.remaining reader.old) (journal_content c)) }
+    ensures fault { IfErr result (IsStartFault (journal_content (D.seen journal.old.device)) given.file.items (D.faults journal.old.device)
         (D.faults journal.new.device)) }
     ensures counted { D.faults journal.old.device ≤ D.faults journal.new.device }
 {
-    let RestoredService {
-        mut service,
-        lines,
-        given,
-    } = restored;
     redo_lines(alloc, &mut service, lines)?;
     if service.file.as_slice() != given.file.as_slice() {
         return change_service(alloc, service, given, writer);
@@ -148,10 +129,11 @@ pub(crate) fn start_service<D: Device, B: BufRead, W: Write, O: ServiceObserver<
         alloc,
         journal,
         &mut service,
-        intake,
+        part,
+        period,
         reader,
         writer,
-        observer,
+        notes,
     )?;
     Ok(StartedService { service, end })
 }

@@ -2,14 +2,13 @@
 
 use crate::fixtures::{ADDITION, MODEM_OF_A, REPLY};
 use crate::step_calls::{StepCall, step_of};
-use operator_book::Output;
+use operator_book::{Output, StateFault};
 use plant::{Op, OperatorName};
 use plant_core::{LiveCore, RestFault, ResumeFault};
 use plant_restart::{ChangeFault, RestartFault, RestoreFault, SaveFault, change, restore, save};
 use run_model::Out;
 use slice_table::read_plant;
 use snapshot_format::{Snapshot, read_snapshot, write_snapshot};
-use state_judge::StateFault;
 use std::alloc::{AllocError, Global};
 use std::process::Abort;
 use std::test::Fail;

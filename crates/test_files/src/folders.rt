@@ -3,7 +3,6 @@
 use journal_file::{JournalFile, JournalOpenFault};
 use line_journal::{Batch, Device, Journal, SnapshotLines, begin, recover};
 use std::fs;
-use std::os::unix::fs::symlink;
 use std::test::Fail;
 
 /// Returns an empty folder of this name.
@@ -106,45 +105,5 @@ fn a_replacement_keeps_the_name(rt: HostRuntime) -> Result<(), Fail> {
     );
     assert!(rt; !fs::exists(&rt, "journal_file_replace/journal.new")?);
     fs::remove_dir_all(&rt, "journal_file_replace")?;
-    Ok(())
-}
-
-#[test]
-fn an_emptied_file_is_not_opened(rt: HostRuntime) -> Result<(), Fail> {
-    make_folder(&rt, "journal_file_emptied")?;
-    // No journal is begun yet, so that an empty file is one that may be begun.
-    fs::write(&rt, "journal_file_emptied/journal", b"".as_slice())?;
-    write_lines(&rt, "journal_file_emptied")?;
-    fs::write(&rt, "journal_file_emptied/journal", b"".as_slice())?;
-    assert!(rt;
-        matches!(
-            JournalFile::open(&rt, "journal_file_emptied"),
-            Err(JournalOpenFault::Emptied)
-        )
-    );
-    // Once the file is removed, a journal may be begun anew, also if the first start begins none.
-    fs::remove_file(&rt, "journal_file_emptied/journal")?;
-    drop(JournalFile::open(&rt, "journal_file_emptied")?);
-    write_lines(&rt, "journal_file_emptied")?;
-    fs::remove_dir_all(&rt, "journal_file_emptied")?;
-    Ok(())
-}
-
-#[test]
-fn a_link_is_not_opened(rt: HostRuntime) -> Result<(), Fail> {
-    make_folder(&rt, "journal_file_link")?;
-    fs::write(&rt, "journal_file_link/other", b"=frame 7\n\n-".as_slice())?;
-    symlink(&rt, "other", "journal_file_link/journal")?;
-    assert!(rt;
-        matches!(
-            JournalFile::open(&rt, "journal_file_link"),
-            Err(JournalOpenFault::Link)
-        )
-    );
-    assert_eq!(rt;
-        fs::read(&rt, "journal_file_link/other")?.as_slice(),
-        b"=frame 7\n\n-".as_slice()
-    );
-    fs::remove_dir_all(&rt, "journal_file_link")?;
     Ok(())
 }

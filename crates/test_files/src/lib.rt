@@ -1,8 +1,6 @@
-//! Tests of services, of those whose lines are in a journal, and of a journal's file.
+//! Tests of a journal's file, and of services whose lines are in a journal.
 #![tactic(auto)]
 
-#[cfg(test)]
-mod flushing;
 #[cfg(test)]
 mod folders;
 #[cfg(test)]

@@ -1,17 +1,13 @@
 //! Services that go on from a journal.
 
 use line_journal::{Journal, Memory};
-use line_service::{FieldError, Observer};
 use plant::Plant;
-use plant_core::{CoreFault, LiveCore};
+use plant_core::LiveCore;
 use plant_restart::{ChangeFault, RestartFault};
-use run_model::{Out, Step};
 use state_service::{
-    BeginFault, DurableFault, NewFrameFault, NewPlantFault, ServiceObserver, StateServiceFault,
-    UnsavedState, serve_state,
+    DurableFault, NewFrameFault, NewPlantFault, RefusalNotes, StateServiceFault, serve_state,
 };
 use std::alloc::{AllocError, Global};
-use std::io;
 use std::test::Fail;
 use test_plants::{PLANT, replace_first};
 
@@ -31,79 +27,14 @@ struct ServiceCase<'a> {
     greeting: &'a str,
 }
 
-/// Holds the number of the last line `N` that was refused, and how often a state was not saved, by why it was to be.
+/// Holds the number of the last line `N` that was refused.
 #[derive(Drop)]
 struct NotedNumber {
     line: u64,
-    due: usize,
-    commands: usize,
 }
 
-/// Returns that nothing is noted.
-fn none_noted() -> NotedNumber {
-    NotedNumber {
-        line: 0,
-        due: 0,
-        commands: 0,
-    }
-}
-
-impl Observer<Vec<u8>> for NotedNumber {
-    fn note_line(&mut self, _number: u64, _writer: &mut Vec<u8>) {}
-
-    fn note_step(
-        &mut self,
-        _alloc: Global,
-        _core: &LiveCore,
-        _number: u64,
-        _step: &Step,
-        _writer: &mut Vec<u8>,
-    ) -> Result<(), AllocError> {
-        Ok(())
-    }
-
-    fn note_outputs(
-        &mut self,
-        _plant: &Plant,
-        _outs: &[Out],
-        _writer: &mut Vec<u8>,
-    ) -> io::Result<()> {
-        Ok(())
-    }
-
-    fn note_accepted(&mut self, _number: u64, _writer: &mut Vec<u8>) -> io::Result<()> {
-        Ok(())
-    }
-
-    fn note_invalid(
-        &mut self,
-        _alloc: Global,
-        _plant: &Plant,
-        _number: u64,
-        _line: &[u8],
-        _error: FieldError,
-    ) {}
-
-    fn note_refused_step(
-        &mut self,
-        _alloc: Global,
-        _core: &LiveCore,
-        _number: u64,
-        _fault: CoreFault,
-    ) {}
-}
-
-impl ServiceObserver<Vec<u8>> for NotedNumber {
-    fn note_plant_file(&mut self, _alloc: Global, _file: &[u8], _fault: Option<&BeginFault>) {}
-
-    fn note_unsaved(&mut self, _alloc: Global, _core: &LiveCore, unsaved: UnsavedState) {
-        match unsaved {
-            UnsavedState::Due { count: _ } => self.due = self.due.saturating_add(1),
-            UnsavedState::Command { number: _ } => self.commands = self.commands.saturating_add(1),
-        }
-    }
-
-    fn note_plant_refused(
+impl RefusalNotes for NotedNumber {
+    fn note_refused(
         &mut self,
         _alloc: Global,
         _core: &LiveCore,
@@ -135,7 +66,7 @@ fn serve_bytes(
     period: u64,
     input: &str,
 ) -> Result<(Vec<u8>, Vec<u8>), StateServiceFault> {
-    serve_noted(alloc, bytes, period, input, &mut none_noted())
+    serve_noted(alloc, bytes, period, input, &mut NotedNumber { line: 0 })
 }
 
 /// Does the same, and notes the last line `N` that is refused.
@@ -146,26 +77,14 @@ fn serve_noted(
     input: &str,
     noted: &mut NotedNumber,
 ) -> Result<(Vec<u8>, Vec<u8>), StateServiceFault> {
-    let (left, output, _unfinished) = serve_counted(alloc, bytes, period, input, noted)?;
-    Ok((left, output))
-}
-
-/// Does the same, and returns how many bytes followed the last line feed, too.
-fn serve_counted(
-    alloc: Global,
-    bytes: &[u8],
-    period: u64,
-    input: &str,
-    noted: &mut NotedNumber,
-) -> Result<(Vec<u8>, Vec<u8>, usize), StateServiceFault> {
     let mut journal = Journal {
         device: Memory::new(alloc, bytes.to_vec(alloc)?),
         gate: 0,
     };
     let mut reader = input.as_bytes();
     let mut output = Vec::new(alloc);
-    let unfinished = serve_state(alloc, &mut journal, period, &mut reader, &mut output, noted)?;
-    Ok((journal.device.bytes().to_vec(alloc)?, output, unfinished))
+    serve_state(alloc, &mut journal, period, &mut reader, &mut output, noted)?;
+    Ok((journal.device.bytes().to_vec(alloc)?, output))
 }
 
 #[test]
@@ -210,7 +129,7 @@ fn a_service_goes_on_in_the_next_process(rt: HostRuntime) -> Result<(), Fail> {
 #[test]
 fn a_frame_number_is_given_or_noted(rt: HostRuntime) -> Result<(), Fail> {
     let alloc = rt.alloc();
-    let mut noted = none_noted();
+    let mut noted = NotedNumber { line: 0 };
     // 72 minislots are 8 times 9, so numbers that fit are 2^29 apart.
     let input = input_of(alloc, PLANT, "X\nN 5\nN 536870912\nX\n")?;
     let (bytes, output) = serve_noted(alloc, b"", 100, input.as_str(), &mut noted)?;
@@ -222,40 +141,6 @@ fn a_frame_number_is_given_or_noted(rt: HostRuntime) -> Result<(), Fail> {
     let input = input_of(alloc, PLANT, "")?;
     let (_bytes, output) = serve_bytes(alloc, bytes.as_slice(), 100, input.as_str())?;
     assert!(rt; output.as_slice() == b"S line 5 frame 536870912\n".as_slice());
-    Ok(())
-}
-
-#[test]
-fn operators_apart_are_noted_once(rt: HostRuntime) -> Result<(), Fail> {
-    let alloc = rt.alloc();
-    let mut noted = none_noted();
-    let input = input_of(alloc, PLANT, "T A\nK\nN 536870912\nK\nT B\n")?;
-    let (_bytes, _output) = serve_noted(alloc, b"", 1, input.as_str(), &mut noted)?;
-    assert!(rt; noted.line == 3);
-    assert!(rt; noted.commands == 3);
-    assert!(rt; noted.due == 1);
-    Ok(())
-}
-
-#[test]
-fn an_unfinished_line_is_not_done(rt: HostRuntime) -> Result<(), Fail> {
-    let alloc = rt.alloc();
-    let mut noted = none_noted();
-    let input = input_of(alloc, PLANT, "X\nN 536870912")?;
-    let (bytes, output, unfinished) = serve_counted(alloc, b"", 100, input.as_str(), &mut noted)?;
-    assert!(rt; output.as_slice() == b"S line 1 frame 0\nfault: line 1\n".as_slice());
-    assert!(rt; unfinished == 11);
-    let input = input_of(alloc, PLANT, "X\n")?;
-    let bytes = bytes.as_slice();
-    let (_bytes, output, unfinished) = serve_counted(
-        alloc,
-        bytes,
-        100,
-        input.as_str(),
-        &mut noted,
-    )?;
-    assert!(rt; output.as_slice() == b"S line 2 frame 0\nfault: line 2\n".as_slice());
-    assert!(rt; unfinished == 0);
     Ok(())
 }
 
@@ -278,7 +163,7 @@ fn a_refused_start_leaves_the_journal(rt: HostRuntime) -> Result<(), Fail> {
             })
         )
     );
-    let input = input_of(alloc, PLANT, "X\n")?;
+    let input = input_of(alloc, PLANT, "X")?;
     let (_bytes, output) = serve_bytes(alloc, bytes.as_slice(), 1, input.as_str())?;
     assert!(rt; output.as_slice() == b"S line 2 frame 0\nfault: line 2\n".as_slice());
     assert!(rt;

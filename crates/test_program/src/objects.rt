@@ -1,6 +1,6 @@
 //! What objects say of lines.
 
-use program_runner::{JsonLines, LineSource};
+use json_lines::{JsonLines, LineSource};
 use std::io::Write;
 use std::test::Fail;
 

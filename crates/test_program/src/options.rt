@@ -1,7 +1,8 @@
 //! What is read of options, and what is said of those that are refused.
 
-use diagnostics::{
-    BatchWord, CommandWord, OutputFormat, UnknownKeyHandling, read_command_line, text_of_wrong,
+use command_line::{
+    BatchWord, CommandWord, OutputFormat, UnknownKeyHandling, Word, read_command_line,
+    text_of_wrong,
 };
 use std::test::Fail;
 
@@ -9,7 +10,7 @@ use std::test::Fail;
 fn options_are_read_at_both_places(rt: HostRuntime) -> Result<(), Fail> {
     let words = ["--json", "check", "--input", "a", "--strict", "--"];
     let line = read_command_line(rt.alloc(), words.as_slice()).expect(&rt, "a command");
-    assert!(rt; line.word == CommandWord::Order(BatchWord::Check));
+    assert!(rt; line.word == CommandWord::Order(Word::Batch(BatchWord::Check)));
     assert!(rt; line.options.input == Some("a"));
     assert!(rt; line.options.output == OutputFormat::JsonLines);
     assert!(rt; line.options.unknown_keys == UnknownKeyHandling::Refuse);

@@ -255,7 +255,7 @@ fn wrong_in_first(read: &SavedOperator) -> Option<&'static str> {
         _ => return Some("the flows"),
     }
     match read.kept.as_slice() {
-        [waiting, retained] if is_waiting_response(waiting) && is_held_response(retained) => {}
+        [waiting, held] if is_waiting_response(waiting) && is_held_response(held) => {}
         _ => return Some("the responses"),
     }
     match read.inbox.as_slice() {

@@ -1,7 +1,5 @@
 -- Upstream service flow encodings: what a list of TLVs under type 24 says (CM-SP-MULPIv3.1, Annex C, type 24).
-use Rattle.std.specs.Prelude.{◌≡◌, ◌==◌, ℕ, ◌-◌, ◌%◌, ◌<◌, ◌≤◌, Bool, true, not, ◌&&◌, ◌||◌, List, [], ◌∷◌, ◌++◌, length, map, filter, take}
-use Rattle.std.specs.Prelude.{slice_get, slice_index, slice_index_or, Option, Some, None, Result, Ok, Err, is_some, nat_le, nat_lt}
-use Rattle.std.specs.Prelude.{if◌then◌else◌}
+use Rattle.std.specs.Prelude.{◌≡◌, ◌==◌, ℕ, ◌-◌, ◌%◌, ◌<◌, ◌≤◌, Bool, true, not, ◌&&◌, ◌||◌, List, [], ◌∷◌, ◌++◌, length, map, filter, take, slice_get, slice_index, slice_index_or, Option, Some, None, Result, Ok, Err, is_some, nat_le, nat_lt, if◌then◌else◌}
 use Rattle.std.specs.Option.{option_map}
 use Rattle.std.specs.List.{list_all, find}
 use Rattle.std.specs.Int.{w16, w32, from_be_bytes}
@@ -11,11 +9,7 @@ use Rattle.tlv24.specs.declared.tlv.TlvFault.TheVariants.{Cut, WrongLength, Twic
 use Rattle.tlv24.specs.declared.fields.ErrorEncodings.{ErrorEncodings}
 use Rattle.tlv24.specs.declared.fields.FlowFields.{FlowFields}
 use Rattle.tlv24.specs.declared.fault.FlowFault.{FlowFault}
-use Rattle.tlv24.specs.Subtype.{reference_subtype, sfid_subtype, sid_subtype, class_name_subtype, errored_subtype, set_type_subtype}
-use Rattle.tlv24.specs.Subtype.{traffic_priority_subtype, max_sustained_rate_subtype, max_burst_subtype, min_reserved_rate_subtype}
-use Rattle.tlv24.specs.Subtype.{scheduling_type_subtype, request_policy_subtype, polling_interval_subtype, poll_jitter_subtype}
-use Rattle.tlv24.specs.Subtype.{grant_size_subtype, grant_interval_subtype, grant_jitter_subtype, grants_per_interval_subtype}
-use Rattle.tlv24.specs.Subtype.{errored_parameter_subtype, error_code_subtype}
+use Rattle.tlv24.specs.Subtype.{reference_subtype, sfid_subtype, sid_subtype, class_name_subtype, errored_subtype, set_type_subtype, traffic_priority_subtype, max_sustained_rate_subtype, max_burst_subtype, min_reserved_rate_subtype, scheduling_type_subtype, request_policy_subtype, polling_interval_subtype, poll_jitter_subtype, grant_size_subtype, grant_interval_subtype, grant_jitter_subtype, grants_per_interval_subtype, errored_parameter_subtype, error_code_subtype}
 use Rattle.tlv24.specs.Tlv.{IsTlvList, IsFront, Begins, NoTlvBegins, spelled, front_of}
 
 -- Numbers in a value, the most significant byte first.
@@ -77,8 +71,7 @@ is_terminated value = (slice_index_or value (length value - 1) 1 == 0) && list_a
 -- the value is 01 01 p 02 01 c
 abbrev pub is_error_pair : List ℕ → Bool
 is_error_pair value =
-    (slice_index value 0 == errored_parameter_subtype) && (slice_index value 1 == 1) && (slice_index value 3 == error_code_subtype)
-    && (slice_index value 4 == 1)
+    (slice_index value 0 == errored_parameter_subtype) && (slice_index value 1 == 1) && (slice_index value 3 == error_code_subtype) && (slice_index value 4 == 1)
 
 -- Which values a subtype takes, of those that have its length; where none is named, it takes all.
 abbrev pub in_range : ℕ → List ℕ → Bool
@@ -135,8 +128,7 @@ IsOnceAtMost subtype lengths (value ∷ again ∷ values) = ⊥
 
 -- so it is for each known subtype
 abbrev pub EachIsOnceAtMost : List Tlv → Type 0
-EachIsOnceAtMost tlvs = (subtype : ℕ) (lengths : ℕ × ℕ) → lengths_of subtype ≡ Some lengths
-    → IsOnceAtMost subtype lengths (values_of subtype tlvs)
+EachIsOnceAtMost tlvs = (subtype : ℕ) (lengths : ℕ × ℕ) → lengths_of subtype ≡ Some lengths → IsOnceAtMost subtype lengths (values_of subtype tlvs)
 
 -- The bytes are a flow encoding and say these fields: they are a list of TLVs in which each known subtype is at
 -- most once, with its length and in its range, and the fields are what is there.

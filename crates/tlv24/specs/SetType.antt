@@ -1,8 +1,7 @@
 -- The numbers of the Quality of Service Parameter Set Types (CM-SP-MULPIv3.1, Annex C, type 24, subtype 6).
 use Rattle.std.specs.Prelude.{◌==◌, ℕ, List, [], ◌∷◌, find, Option}
 use Rattle.tlv24.specs.declared.set_type.SetType.{SetType}
-use Rattle.tlv24.specs.declared.set_type.SetType.TheVariants.{Null, Provisioned, Admitted, ProvisionedAndAdmitted, Active}
-use Rattle.tlv24.specs.declared.set_type.SetType.TheVariants.{AdmittedAndActive, AllSets}
+use Rattle.tlv24.specs.declared.set_type.SetType.TheVariants.{Null, Provisioned, Admitted, ProvisionedAndAdmitted, Active, AdmittedAndActive, AllSets}
 
 -- the value of subtype 6 for each set type that has a meaning here, as bits: 1 for the provisioned set, 2 for the admitted set, 4 for the
 -- active set

@@ -5,11 +5,7 @@ use Rattle.std.specs.Int.{w16, w32, to_be_bytes}
 use Rattle.tlv24.specs.declared.tlv.Tlv.{Tlv}
 use Rattle.tlv24.specs.declared.fields.ErrorEncodings.{ErrorEncodings}
 use Rattle.tlv24.specs.declared.fields.FlowFields.{FlowFields}
-use Rattle.tlv24.specs.Subtype.{reference_subtype, sfid_subtype, sid_subtype, class_name_subtype, errored_subtype, set_type_subtype}
-use Rattle.tlv24.specs.Subtype.{traffic_priority_subtype, max_sustained_rate_subtype, max_burst_subtype, min_reserved_rate_subtype}
-use Rattle.tlv24.specs.Subtype.{scheduling_type_subtype, request_policy_subtype, polling_interval_subtype, poll_jitter_subtype}
-use Rattle.tlv24.specs.Subtype.{grant_size_subtype, grant_interval_subtype, grant_jitter_subtype, grants_per_interval_subtype}
-use Rattle.tlv24.specs.Subtype.{errored_parameter_subtype, error_code_subtype}
+use Rattle.tlv24.specs.Subtype.{reference_subtype, sfid_subtype, sid_subtype, class_name_subtype, errored_subtype, set_type_subtype, traffic_priority_subtype, max_sustained_rate_subtype, max_burst_subtype, min_reserved_rate_subtype, scheduling_type_subtype, request_policy_subtype, polling_interval_subtype, poll_jitter_subtype, grant_size_subtype, grant_interval_subtype, grant_jitter_subtype, grants_per_interval_subtype, errored_parameter_subtype, error_code_subtype}
 use Rattle.tlv24.specs.Tlv.{tlv}
 
 -- a number of one byte

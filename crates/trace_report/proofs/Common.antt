@@ -17,9 +17,9 @@ pub use Rattle.std.specs.Io.KnownBytes.{Appends}
 pub use Rattle.std.specs.List.{AllByRecursion, list_all}
 pub use Rattle.std.specs.Prelude.{slice_get, slice_index, slice_index_or, nat_lt, filter, map}
 pub use Rattle.std.specs.Vec.Iter.{into_iter_items, into_iter_len}
-pub use Rattle.trace_report.specs.Decision.{AtHand, IsDecision, IsDecisionOf, message_heard, first_message, message_of_step, message_at_hand}
+pub use Rattle.trace_report.specs.Decision.{AtHand, IsDecision, IsDecisionOf, first_message, message_of_step, message_at_hand}
 pub use Rattle.trace_report.specs.Quotes.{line_at, IsRestAfter, quote, quote_after}
 pub use Rattle.trace_report.specs.Remarks.{HasNoCheckLine, is_check_line, IsOtherLine, with_ends, check_lines, indented_line, AreWords, no_words_line}
 pub use Rattle.trace_report.specs.Told.{HasQuoted, HasWorded, HasToldStep}
 pub use Rattle.trace_report.specs.Trace.{check_line, IsDecisionText, IsTraceText, last_quoted, IsReportText, IsDecisionAfter, AreDecided, HasNoWords, HasTraced}
-pub use Rattle.operator_model.specs.declared.check.Decision.{Decision}
+pub use Rattle.trace_report.specs.declared.decision.Decision.{Decision}

@@ -1,31 +1,12 @@
 -- What decides a message, by what it was read as, and a step, by whose message it handles.
-use Rattle.std.proofs.Common.{◌≡◌, ℕ, List, [], ◌∷◌, Option, Some, None, option_map, Result, IfOk, refl, sym, ap, ◌∙◌, subst}
-use Rattle.trace_report.proofs.Common.{slice_get, slice_get-map, Step, CoreView, Decision, AtHand, IsDecision, IsDecisionOf, message_heard, first_message, message_of_step, message_at_hand}
+use Rattle.std.proofs.Common.{◌≡◌, ℕ, List, Option, Some, None, option_map, Result, IfOk, refl, sym, ap, ◌∙◌, subst}
+use Rattle.trace_report.proofs.Common.{slice_get, slice_get-map, Step, CoreView, Decision, AtHand, IsDecision, IsDecisionOf, first_message, message_of_step, message_at_hand}
 use Rattle.std.specs.declared.alloc.AllocError.{AllocError}
-use Rattle.dsx_messages.specs.Reading.{message_of}
-use Rattle.operator_model.specs.declared.heard.Heard.{Heard}
-use Rattle.operator_model.specs.declared.heard.Heard.TheVariants as heards
-use Rattle.operator_model.specs.declared.heard.Arrival.{Arrival}
-use Rattle.operator_model.specs.Deciding.{heard_decision, first_decision}
 use Rattle.operator_model.specs.Replay.{BookView}
-use Rattle.operator_model.specs.Sound.{IsSound}
 use Rattle.operator_model.specs.State.{Operator, operator}
 use Rattle.run_model.specs.declared.step.Step.TheVariants as steps
 use Rattle.plant_core.specs.live.Performing.{forgotten, IsOf}
-use Rattle.trace_report.specs.Decision.{DecidesReading}
 use Rattle.trace_report.specs.declared.seen.StepReport.{StepReport}
-use Rattle.trace_report.proofs.TableLemmas.DecidingLemmas.{message-named}
-
--- ---- what was received first
-
--- what the machine names for the first of its inbox decides it
-pub first_decides : (op : Operator) (inbox : List Arrival) (decision : Option Decision) → IsSound op → decision ≡ first_decision op inbox → IsDecisionOf (first_message op inbox) decision
-first_decides op [] decision sound is = is
-first_decides op (first ∷ others) decision sound is = by first.heard is
-  where
-    by : (heard : Heard) → decision ≡ heard_decision op first.modem heard → IsDecisionOf (message_heard op first.modem heard) decision
-    by (heards.Message bytes) named = subst (DecidesReading op first.modem (message_of bytes)) (sym named) (message-named op first.modem bytes sound)
-    by (heards.Request sid minislots) named = named
 
 -- ---- a step
 

@@ -1,4 +1,5 @@
 pub mod TableLemmas
+pub mod ChecksLemmas
 mod Common
 pub mod DecisionLemmas
 pub mod LineLemmas

@@ -1,13 +1,15 @@
 -- What a reader of a trace finds.
 use Rattle.std.proofs.Common.{◌≡◌, ◌≢◌, ◌==◌, ℕ, ◌+◌, ◌-◌, ◌^◌, ◌<◌, ◌≤◌, Bool, true, false, List, [], ◌∷◌, ◌++◌, arith, Option, Some, None, refl, sym, ap, subst, ◌∙◌, append_assoc, append-nil, codes}
 use Rattle.trace_report.proofs.Common.{filter, decimal, AllByRecursion, slice_get_within, HasNoBreak, Decision, is_check_line, IsOtherLine, with_ends, HasNoCheckLine, check_lines, check_line, IsDecisionText, IsTraceText}
-use Rattle.operator_model.specs.declared.check.Check.{Check}
-use Rattle.operator_model.specs.declared.check.Check.TheVariants as checks
-use Rattle.operator_model.specs.declared.check.MessageCheck.{MessageCheck}
-use Rattle.operator_model.specs.declared.check.MessageCheck.TheVariants as message_checks
+use Rattle.trace_report.specs.declared.table.check.Check.{Check}
+use Rattle.trace_report.specs.declared.table.check.Check.TheVariants as checks
+use Rattle.trace_report.specs.declared.table.check.MessageCheck.{MessageCheck}
+use Rattle.trace_report.specs.declared.table.check.MessageCheck.TheVariants as message_checks
+use Rattle.trace_report.specs.table.Table.{table}
+use Rattle.trace_report.specs.table.Messages.{message_table}
 use Rattle.line_service.specs.script.Lines.{parts_from, parts_of}
-use Rattle.operator_model.specs.declared.check.Decision.TheVariants as decisions
-use Rattle.operator_model.specs.Checks.{table, message_table, message_check_name, check_name}
+use Rattle.trace_report.specs.declared.decision.Decision.TheVariants as decisions
+use Rattle.trace_report.specs.Names.{message_check_name, check_name}
 use Rattle.trace_report.specs.Reading.{AreDecisionLines, TraceIsRead}
 use Rattle.trace_report.proofs.LineLemmas.{line_first}
 use Rattle.trace_report.proofs.RemarkLemmas.{no_break_both, no_break_decimal, no_break_of}

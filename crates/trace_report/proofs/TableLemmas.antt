@@ -12,8 +12,6 @@ pub mod DeletionLemmas
 pub mod RequestLemmas
 pub mod OnceLemmas
 pub mod MessageLemmas
-pub mod MemoryLemmas
-pub mod DecidingLemmas
 pub mod ExampleLemmas
 pub mod HandledLemmas
 pub mod WaitLemmas

@@ -11,17 +11,16 @@ use Rattle.operator_model.specs.declared.heard.Arrival.{Arrival}
 use Rattle.operator_model.specs.Replay.{BookView}
 use Rattle.operator_model.specs.State.{Operator, operator}
 use Rattle.operator_model.specs.Verdict.{verdict}
-use Rattle.operator_model.specs.Checks.{message_table}
 use Rattle.lists.specs.First.{IsFirst}
 use Rattle.trace_report.specs.table.Said.{said_by}
 use Rattle.trace_report.specs.table.Table.{IsDecidedBy}
-use Rattle.trace_report.specs.table.Messages.{Reading, HoldsOf}
-use Rattle.operator_model.specs.declared.check.MessageCheck.TheVariants.{Judged}
+use Rattle.trace_report.specs.table.Messages.{Reading, HoldsOf, message_table}
+use Rattle.trace_report.specs.declared.table.check.MessageCheck.TheVariants.{Judged}
 use Rattle.run_model.specs.declared.step.Step.{Step}
 use Rattle.run_model.specs.declared.step.Step.TheVariants as steps
 use Rattle.run_model.specs.IsStateAfter.{CoreView}
-use Rattle.operator_model.specs.declared.check.Decision.{Decision}
-use Rattle.operator_model.specs.declared.check.Decision.TheVariants as decisions
+use Rattle.trace_report.specs.declared.decision.Decision.{Decision}
+use Rattle.trace_report.specs.declared.decision.Decision.TheVariants as decisions
 
 -- ---- the message that a step handles
 

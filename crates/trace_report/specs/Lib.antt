@@ -1,5 +1,7 @@
 pub mod table
+pub mod checks
 pub mod Decision
+pub mod Names
 pub mod Quotes
 pub mod Reading
 pub mod Remarks

@@ -1,6 +1,6 @@
 -- What a reader of a trace finds who takes the lines of checks alone (implementation-specific).
 use Rattle.std.specs.Prelude.{◌≡◌, ℕ, List, [], ◌∷◌, ◌++◌, Option, Some, None}
-use Rattle.operator_model.specs.declared.check.Decision.{Decision}
+use Rattle.trace_report.specs.declared.decision.Decision.{Decision}
 use Rattle.trace_report.specs.Remarks.{HasNoCheckLine, check_lines}
 use Rattle.trace_report.specs.Trace.{IsDecisionText, IsTraceText}
 

@@ -1,7 +1,7 @@
 -- What is written of a step (implementation-specific; for inner functions).
 use Rattle.std.specs.Prelude.{ℕ, List, ◌++◌, Option, Bool, true, false}
 use Rattle.std.specs.Io.KnownBytes.{Appends}
-use Rattle.operator_model.specs.declared.check.Decision.{Decision}
+use Rattle.trace_report.specs.declared.decision.Decision.{Decision}
 use Rattle.trace_report.specs.Quotes.{quote_after}
 use Rattle.trace_report.specs.Remarks.{HasNoCheckLine, AreWords, no_words_line}
 use Rattle.trace_report.specs.Trace.{IsDecisionText}

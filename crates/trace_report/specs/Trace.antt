@@ -4,6 +4,8 @@ use Rattle.std.specs.Prelude.{◌≡◌, ◌⊎◌, ℕ, ◌-◌, ◌≤◌, Lis
 use Rattle.std.specs.Fmt.{decimal}
 use Rattle.std.specs.Io.KnownBytes.{Appends}
 use Rattle.plant.specs.declared.plant.PlantFields.{PlantFields}
+use Rattle.trace_report.specs.table.Table.{table}
+use Rattle.trace_report.specs.table.Messages.{message_table}
 use Rattle.run_model.specs.declared.step.Step.{Step}
 use Rattle.run_model.specs.declared.step.Out.{Out}
 use Rattle.run_model.specs.IsStateAfter.{CoreView, IsStateAfter}
@@ -12,10 +14,10 @@ use Rattle.line_service.specs.script.Script.{steps_without_numbers}
 use Rattle.line_service.specs.declared.steps_end.StepsEnd.{StepsEnd}
 use Rattle.line_service.specs.declared.steps_end.StepsEnd.TheVariants.{NoMemory}
 use Rattle.line_service.specs.Steps.{IsStepsEndAt}
-use Rattle.operator_model.specs.declared.check.Decision.{Decision}
-use Rattle.operator_model.specs.declared.check.Decision.TheVariants as decisions
+use Rattle.trace_report.specs.declared.decision.Decision.{Decision}
+use Rattle.trace_report.specs.declared.decision.Decision.TheVariants as decisions
 use Rattle.trace_report.specs.Decision.{IsDecision}
-use Rattle.operator_model.specs.Checks.{table, message_table, message_check_name, check_name}
+use Rattle.trace_report.specs.Names.{message_check_name, check_name}
 use Rattle.trace_report.specs.Quotes.{quote_after}
 use Rattle.trace_report.specs.Remarks.{HasNoCheckLine, AreWords, no_words_line}
 
@@ -23,8 +25,7 @@ use Rattle.trace_report.specs.Remarks.{HasNoCheckLine, AreWords, no_words_line}
 
 -- this decides what the step answers after these steps, which lead to some core
 abbrev pub IsDecisionAfter : PlantFields → List Step → Step → Option Decision → Type 0
-IsDecisionAfter plant before step decision = (core : CoreView) × (told : List Out) × IsStateAfter plant before told core
-    × IsDecision core step decision
+IsDecisionAfter plant before step decision = (core : CoreView) × (told : List Out) × IsStateAfter plant before told core × IsDecision core step decision
 
 -- each step has its decision, in a core that the steps before it lead to
 abbrev pub AreDecided : PlantFields → List Step → List Step → List (Option Decision) → Type 0
@@ -40,6 +41,11 @@ AreDecided plant before (step ∷ steps) (decision ∷ more) =
 abbrev pub check_line : ℕ → List ℕ → List ℕ
 check_line number name = codes "  check " ++ (decimal number ++ (codes ", " ++ (name ++ 10 ∷ [])))
 
+-- the number of a check of a message is its place in their table; those of a request are numbered after them
+abbrev pub IsCheckNumber : Decision → ℕ → Type 0
+IsCheckNumber (decisions.Message check) number = slice_get message_table number ≡ Some check
+IsCheckNumber (decisions.Request check) number = (5 ≤ number) × (slice_get table (number - 5) ≡ Some check)
+
 -- no text where no check decides, else the line of the check
 abbrev pub IsDecisionText : Option Decision → List ℕ → Type 0
 IsDecisionText None text = text ≡ []
@@ -52,8 +58,7 @@ IsDecisionText (Some (decisions.Request check)) text =
 abbrev pub IsTraceText : List (Option Decision) → List ℕ → Type 0
 IsTraceText [] text = HasNoCheckLine text
 IsTraceText (decision ∷ more) text =
-    (remark line rest : List ℕ) × (text ≡ remark ++ (line ++ rest)) × HasNoCheckLine remark × IsDecisionText decision line
-    × IsTraceText more rest
+    (remark line rest : List ℕ) × (text ≡ remark ++ (line ++ rest)) × HasNoCheckLine remark × IsDecisionText decision line × IsTraceText more rest
 
 -- ---- what is quoted
 
@@ -96,8 +101,7 @@ IsTraceEndAt core next decisions text end = IsStepsEndAt core next end ⊎ HasNo
 
 -- So many of these steps are done on the plant as it is opened, and it ended so. Their lines are quoted from the script, and what
 -- decided each is written, in order. The line of a step that is not done is quoted too, unless memory ran out for the words before it.
-pub record HasTraced (plant : PlantFields) (script : List ℕ) (steps : List LineStep) (core : CoreView) (end : StepsEnd)
-    (old new : Option (List ℕ)) : Type 0 where
+pub record HasTraced (plant : PlantFields) (script : List ℕ) (steps : List LineStep) (core : CoreView) (end : StepsEnd) (old new : Option (List ℕ)) : Type 0 where
   pub at : ℕ
   pub told : List Out
   pub decisions : List (Option Decision)

@@ -1,10 +1,12 @@
 //! The numbers that a check compares.
 
+use crate::checks::OperatorSnapshot;
+use crate::decision::Decision;
+use crate::table::{Check, MessageCheck};
 use admission::Budget;
 use dsx_messages::{Message, Request, read};
 use flow_table::Flow;
-use operator_book::{Machine, StateView};
-use operator_model::{Check, Decision, Heard, MessageCheck, has_set_type};
+use operator_model::{Heard, has_set_type};
 use param_sets::{ParamSet, Units, from_tlv, need};
 use plant::Consts;
 use std::alloc::{AllocError, Global};
@@ -116,11 +118,11 @@ struct RequestRoom {
     needed: Committed,
 }
 
-fn room_of(machine: &Machine, state: &StateView, request: &Request) -> RequestRoom {
-    let units = machine.consts().get_fields().units;
-    let flows = state.flows();
+fn room_of(operator_snapshot: &OperatorSnapshot, request: &Request) -> RequestRoom {
+    let units = operator_snapshot.consts().get_fields().units;
+    let flows = operator_snapshot.state().flows();
     let mut held = committed_by(units, flows);
-    let asked = needed_by(machine.consts(), encodings_of(request));
+    let asked = needed_by(operator_snapshot.consts(), encodings_of(request));
     let mut needed = Committed {
         minislots: u64::from(asked.minislots),
         elements: u64::from(asked.elements),
@@ -139,11 +141,11 @@ fn room_of(machine: &Machine, state: &StateView, request: &Request) -> RequestRo
 }
 
 /// Compares what a request needs with the budget that it passes: the one in force, or the one that waits for its frame.
-fn compare_minislots(machine: &Machine, state: &StateView, request: &Request) -> CheckComparison {
-    let room = room_of(machine, state, request);
+fn compare_minislots(operator_snapshot: &OperatorSnapshot, request: &Request) -> CheckComparison {
+    let room = room_of(operator_snapshot, request);
     let (held, needed) = (room.held.minislots, room.needed.minislots);
-    let budget = state.share().budget;
-    match state.next() {
+    let budget = operator_snapshot.state().share().budget;
+    match operator_snapshot.state().next() {
         Some(next) if held.saturating_add(needed) <= u64::from(budget) => CheckComparison::Budget {
             held,
             limit: next.share.budget,
@@ -160,28 +162,28 @@ fn compare_minislots(machine: &Machine, state: &StateView, request: &Request) ->
 }
 
 /// Compares what a request needs with the quota that it passes.
-fn compare_elements(machine: &Machine, state: &StateView, request: &Request) -> CheckComparison {
-    let room = room_of(machine, state, request);
+fn compare_elements(operator_snapshot: &OperatorSnapshot, request: &Request) -> CheckComparison {
+    let room = room_of(operator_snapshot, request);
     CheckComparison::Quota {
         held: room.held.elements,
-        limit: machine.row().get_fields().elements,
+        limit: operator_snapshot.row().get_fields().elements,
         needed: room.needed.elements,
     }
 }
 
 /// Returns how many flows are present, and how many may be.
-fn count_flows(machine: &Machine, state: &StateView) -> CheckComparison {
+fn count_flows(operator_snapshot: &OperatorSnapshot) -> CheckComparison {
     CheckComparison::Flows {
-        held: state.flows().len() as u64,
-        limit: machine.row().get_fields().flows,
+        held: operator_snapshot.state().flows().len() as u64,
+        limit: operator_snapshot.row().get_fields().flows,
     }
 }
 
 /// Returns how many transactions are kept, and how many may be.
-fn count_transactions(machine: &Machine, state: &StateView) -> CheckComparison {
+fn count_transactions(operator_snapshot: &OperatorSnapshot) -> CheckComparison {
     CheckComparison::Transactions {
-        held: state.cached_responses().len() as u64,
-        limit: machine.row().get_fields().transactions,
+        held: operator_snapshot.state().cached_responses().len() as u64,
+        limit: operator_snapshot.row().get_fields().transactions,
     }
 }
 
@@ -203,21 +205,20 @@ fn request_in(alloc: Global, heard: &Heard) -> Result<Request, AllocError> {
 /// Returns the numbers that a check compares, of what was received; none where it compares none.
 pub(crate) fn comparison_of(
     alloc: Global,
-    machine: &Machine,
-    state: &StateView,
+    operator_snapshot: &OperatorSnapshot,
     heard: &Heard,
     decision: Option<Decision>,
 ) -> Result<Option<CheckComparison>, AllocError> {
     let comparison = match decision {
-        Some(Decision::Message(MessageCheck::KeptFull)) => count_transactions(machine, state),
-        Some(Decision::Request(Check::FlowsFull)) => count_flows(machine, state),
+        Some(Decision::Message(MessageCheck::KeptFull)) => count_transactions(operator_snapshot),
+        Some(Decision::Request(Check::FlowsFull)) => count_flows(operator_snapshot),
         Some(Decision::Request(Check::MinislotsOver)) => {
             let request = request_in(alloc, heard)?;
-            compare_minislots(machine, state, &request)
+            compare_minislots(operator_snapshot, &request)
         }
         Some(Decision::Request(Check::ElementsOver)) => {
             let request = request_in(alloc, heard)?;
-            compare_elements(machine, state, &request)
+            compare_elements(operator_snapshot, &request)
         }
         _ => return Ok(None),
     };

@@ -6,9 +6,10 @@ ghost use Rattle.plant_core.specs.live.Faults.{step_fault};
 ghost use Rattle.plant_core.specs.live.LiveView.{live_view};
 ghost use Rattle.trace_report.specs.Decision.{first_message, IsDecisionOf, IsDecision};
 
+use crate::checks::OperatorSnapshot;
 use crate::comparison::{CheckComparison, comparison_of};
-use operator_book::Machine;
-use operator_model::{Arrival, Decision, Heard};
+use crate::decision::{Decision, decision_at};
+use operator_model::{Arrival, Heard};
 use plant_core::{LiveCore, PlantCore};
 use run_model::Step;
 use std::alloc::{AllocError, Global};
@@ -76,29 +77,24 @@ fn about_other(step: &Step) -> About {
 /// about.
 fn numbers_at(
     alloc: Global,
-    machine: &Machine,
+    operator_snapshot: &OperatorSnapshot,
     decision: Option<Decision>,
 ) -> Result<(Option<CheckComparison>, About), AllocError> {
-    let state = machine.state_view(alloc)?;
-    match state.inbox().first() {
+    match operator_snapshot.state().inbox().first() {
         None => Ok((None, About::Nothing)),
         Some(Arrival { modem: _, heard }) => {
-            let comparison = comparison_of(alloc, machine, &state, heard, decision)?;
+            let comparison = comparison_of(alloc, operator_snapshot, heard, decision)?;
             Ok((comparison, about_heard(heard)))
         }
     }
 }
 
 /// Returns what is seen of the first of an operator's inbox.
-#[tactic(auto, using(crate::proofs::DecisionLemmas::first_decides))]
-fn report_at(alloc: Global, machine: &Machine) -> Result<StepReport, AllocError>
-    ensures { IfOk result (λ seen. IsDecisionOf (first_message machine.now.sound machine.now.sound.state.inbox)
-        seen.decision) }
+fn report_at(alloc: Global, operator_snapshot: &OperatorSnapshot) -> Result<StepReport, AllocError>
+    ensures { IfOk result (λ seen. IsDecisionOf (first_message operator_snapshot.now operator_snapshot.now.state.inbox) seen.decision) }
 {
-    // For the proof: what always holds of `machine`.
-    machine.always();
-    let decision = machine.first_decision(alloc)?;
-    let (comparison, about) = numbers_at(alloc, machine, decision)?;
+    let decision = decision_at(alloc, operator_snapshot)?;
+    let (comparison, about) = numbers_at(alloc, operator_snapshot, decision)?;
     Ok(StepReport {
         decision,
         comparison,
@@ -123,7 +119,10 @@ pub fn live_decision_of(
     };
     match core.machine(*op) {
         None => Ok(StepReport::without_decision(About::Nothing)),
-        Some(machine) => report_at(alloc, machine),
+        Some(machine) => {
+            let operator_snapshot = OperatorSnapshot::of_machine(alloc, machine)?;
+            report_at(alloc, &operator_snapshot)
+        }
     }
 }
 

@@ -6,11 +6,12 @@ ghost use Rattle.plant_core.specs.CoreView.{core_view};
 ghost use Rattle.trace_report.specs.Trace.{HasTraced};
 ghost use Rattle.trace_report.specs.Told.{HasToldDecision, HasToldStep};
 
+use crate::decision::Decision;
+use crate::names::{check_name, message_check_name};
 use crate::remarks::{write_line, write_no_words, write_words};
 use crate::seen::{StepReport, decision_of};
 use crate::words::words_of;
 use line_service::{LineStep, StepsEnd, end_of};
-use operator_model::Decision;
 use plant_core::PlantCore;
 use run_model::Out;
 use std::alloc::Global;
@@ -23,12 +24,12 @@ fn write_decision<W: Write>(writer: &mut W, decision: Option<Decision>) -> io::R
 {
     match decision {
         None => Ok(()),
-        Some(Decision::Message(message_check)) => {
-            let (number, name) = (message_check.number(), message_check.name());
+        Some(Decision::Message(check)) => {
+            let (number, name) = (check.number(), message_check_name(check));
             write!(writer, "  check {number}, {name}\n")
         }
         Some(Decision::Request(check)) => {
-            let (number, name) = (check.number(), check.name());
+            let (number, name) = (check.number(), check_name(check));
             write!(writer, "  check {number}, {name}\n")
         }
     }

@@ -13,8 +13,7 @@ use run_model::Out;
 use slice_scheduler::{Elements, Iuc, Span};
 use std::alloc::{AllocError, Global};
 
-/// Returns the name of the response of a kind of transaction.
-pub fn response_name(kind: Kind) -> &'static str {
+fn response_name(kind: Kind) -> &'static str {
     match kind {
         Kind::Dsa => "DSA-RSP",
         Kind::Dsc => "DSC-RSP",
@@ -23,7 +22,7 @@ pub fn response_name(kind: Kind) -> &'static str {
 }
 
 /// Returns a confirmation code in the standard's words (CM-SP-MULPIv3.1, Annex C, C.4).
-pub fn code_name(code: Code) -> &'static str {
+fn code_name(code: Code) -> &'static str {
     match code {
         Code::Okay => "okay",
         Code::RejectOther => "reject-other",

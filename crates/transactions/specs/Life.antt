@@ -13,8 +13,7 @@ after_ticks waits n e = iterate (entry_after_tick waits) n e
 -- the last tick of each of its first `resends` waits resends it, the last tick of the next wait abandons it, and at the ticks between
 -- nothing is due
 pub record WaitsInVain (waits : Waits) (e : KeptEntry) : Type 0 where
-  pub between : (k j : ℕ) → k ≤ waits.resends → j + 1 < waits.ack_wait
-      → is_response_due (after_ticks waits (k * waits.ack_wait + j) e) ≡ false
+  pub between : (k j : ℕ) → k ≤ waits.resends → j + 1 < waits.ack_wait → is_response_due (after_ticks waits (k * waits.ack_wait + j) e) ≡ false
   pub resent : (k : ℕ) → k < waits.resends → is_resent (after_ticks waits (k * waits.ack_wait + (waits.ack_wait - 1)) e) ≡ true
   pub given_up : is_given_up (after_ticks waits (waits.resends * waits.ack_wait + (waits.ack_wait - 1)) e) ≡ true
 

@@ -25,8 +25,7 @@ is_forgotten e = is_given_up e || is_response_due e && not (is_waiting e)
 -- an entry after the tick: where it is resent, it waits `ack_wait` ticks more with one resend less; else it has one tick less
 abbrev pub entry_after_tick : Waits → KeptEntry → KeptEntry
 entry_after_tick waits e =
-    if is_resent e then record e { ticks_left = waits.ack_wait; resends_left = e.resends_left - 1 }
-    else record e { ticks_left = e.ticks_left - 1 }
+    if is_resent e then record e { ticks_left = waits.ack_wait; resends_left = e.resends_left - 1 } else record e { ticks_left = e.ticks_left - 1 }
 
 -- what is retransmitted of an entry
 abbrev pub resend_of : KeptEntry → Resend

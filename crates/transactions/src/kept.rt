@@ -169,15 +169,10 @@ impl Kept {
     /// the entry's SFID. Looks at no other entry: the caller has the place from `waiting_place`.
     pub fn acked_at(&mut self, place: usize) -> u32
         requires { place < length self.old.entries }
-        ensures sfid { (modem : Modem) (tid : ℕ) (kind : Kind)
-            → position (waits_for modem tid kind) self.old.entries ≡ Some place
+        ensures sfid { (modem : Modem) (tid : ℕ) (kind : Kind) → position (waits_for modem tid kind) self.old.entries ≡ Some place
             → Some result ≡ option_map (λ e. e.sfid) (find (waits_for modem tid kind) self.old.entries) }
-        ensures state { (modem : Modem) (tid : ℕ) (kind : Kind)
-            → position (waits_for modem tid kind) self.old.entries ≡ Some place
-            → self.new ≡ record self.old {
-              entries = map (entry_after_ack self.old.waits modem tid kind)
-                  self.old.entries;
-            } }
+        ensures state { (modem : Modem) (tid : ℕ) (kind : Kind) → position (waits_for modem tid kind) self.old.entries ≡ Some place
+            → self.new ≡ record self.old { entries = map (entry_after_ack self.old.waits modem tid kind) self.old.entries } }
         ensures capacity { self.new.capacity ≡ self.old.capacity }
         ensures waits { self.new.waits ≡ self.old.waits }
     {
@@ -195,8 +190,8 @@ impl Kept {
     pub fn tick(&mut self, alloc: Global) -> Result<Ticked, AllocError>
         ensures state { OnOk result (self.new
             ≡ record self.old { entries = kept_after self.old.waits self.old.entries }) }
-        ensures resend { IfOk result (λ ticked. ticked.resend ≡ resent_in self.old.entries) }
-        ensures given_up { IfOk result (λ ticked. ticked.given_up ≡ given_up_in self.old.entries) }
+        ensures resend { IfOk result (λ told. told.resend ≡ resent_in self.old.entries) }
+        ensures given_up { IfOk result (λ told. told.given_up ≡ given_up_in self.old.entries) }
         // If there is nothing to retransmit or abandon, it succeeds.
         ensures quiet { resent_in self.old.entries ≡ [] → given_up_in self.old.entries ≡ [] → IsOk result }
         // If memory runs out nothing changes.
@@ -210,8 +205,8 @@ impl Kept {
     /// Returns what `tick` would report, for a caller that wants it before anything changes. Takes no
     /// memory if a tick sends nothing again and gives nothing up.
     pub fn due(&self, alloc: Global) -> Result<Ticked, AllocError>
-        ensures resend { IfOk result (λ ticked. ticked.resend ≡ resent_in self.now.entries) }
-        ensures given_up { IfOk result (λ ticked. ticked.given_up ≡ given_up_in self.now.entries) }
+        ensures resend { IfOk result (λ told. told.resend ≡ resent_in self.now.entries) }
+        ensures given_up { IfOk result (λ told. told.given_up ≡ given_up_in self.now.entries) }
         ensures quiet { resent_in self.now.entries ≡ [] → given_up_in self.now.entries ≡ [] → IsOk result }
     {
         due_in(alloc, self.entries.as_slice())

@@ -47,8 +47,8 @@ pub struct Ticked {
 /// Returns what the next tick retransmits, as copies, and what it abandons, in one walk. Takes no memory where there is neither.
 #[tactic(auto, using(crate::proofs::ListLemmas::told_there))]
 pub(crate) fn due_in(alloc: Global, entries: &[KeptEntry]) -> Result<Ticked, AllocError>
-    ensures resend { IfOk result (λ ticked. ticked.resend ≡ resent_in entries.now) }
-    ensures given_up { IfOk result (λ ticked. ticked.given_up ≡ given_up_in entries.now) }
+    ensures resend { IfOk result (λ told. told.resend ≡ resent_in entries.now) }
+    ensures given_up { IfOk result (λ told. told.given_up ≡ given_up_in entries.now) }
     ensures err { OnErr result (resent_in entries.now ≡ [] → given_up_in entries.now ≢ []) }
 {
     let mut resends = Vec::new(alloc);

@@ -1,8 +1,7 @@
 -- The names of causes for which nothing is answered (implementation-specific).
 use Rattle.std.specs.Prelude.{ℕ, List, codes}
 use Rattle.operator_model.specs.declared.output.Cause.{Cause}
-use Rattle.operator_model.specs.declared.output.Cause.TheVariants.{InboxFull, Idle, Empty, NotOurs, Short, TidInUse, UnknownAck, NoSuchSid}
-use Rattle.operator_model.specs.declared.output.Cause.TheVariants.{NotRequesting}
+use Rattle.operator_model.specs.declared.output.Cause.TheVariants.{InboxFull, Idle, Empty, NotOurs, Short, TidInUse, UnknownAck, NoSuchSid, NotRequesting}
 
 -- how a drop reason is written in a line `S`
 abbrev pub cause_name : Cause → List ℕ

@@ -1,6 +1,5 @@
 -- What is in a field of a script's line (implementation-specific).
-use Rattle.std.specs.Prelude.{◌==◌, ℕ, ◌+◌, ◌-◌, ◌*◌, ◌&&◌, nat_le, List, [], ◌∷◌, ◌++◌, length, Option, Some, None, Result, Ok, Err}
-use Rattle.std.specs.Prelude.{if◌then◌else◌}
+use Rattle.std.specs.Prelude.{◌==◌, ℕ, ◌+◌, ◌-◌, ◌*◌, ◌&&◌, nat_le, List, [], ◌∷◌, ◌++◌, length, Option, Some, None, Result, Ok, Err, if◌then◌else◌}
 use Rattle.std.specs.Char.{is_ascii_digit}
 use Rattle.lists.specs.Results.{◌>>=◌}
 use Rattle.line_service.specs.script.Messages.{message_in}
@@ -59,8 +58,7 @@ of_digits field name digits text number = if nat_le (length text) digits then Ok
 
 -- the number of this name in a field: decimal, at most `limit`, and of at most so many digits
 abbrev pub number_in : ℕ → NumberName → ℕ → ℕ → List ℕ → FieldResult ℕ
-number_in field name digits limit text = required_field (Number field name limit) (decimal_in limit text) >>= of_digits field name digits
-    text
+number_in field name digits limit text = required_field (Number field name limit) (decimal_in limit text) >>= of_digits field name digits text
 
 -- a number of 16 bits in the field of this number
 abbrev pub short_in : ℕ → NumberName → List ℕ → FieldResult ℕ

@@ -17,8 +17,7 @@ use Rattle.run_model.specs.declared.step.Step.{Step}
 use Rattle.run_model.specs.declared.step.Step.TheVariants.{Arrive, Work, Tick, Collect, Reslice}
 use Rattle.run_model.specs.Placed.{IsPlaced}
 use Rattle.line_service.specs.declared.script.fields.NumberName.TheVariants.{Sid, Minislots, Frame, Start, Length, Budget}
-use Rattle.line_service.specs.declared.script.fields.FieldError.TheVariants.{UnknownCommand, FieldCount, Address, UnknownModem}
-use Rattle.line_service.specs.declared.script.fields.FieldError.TheVariants.{UnknownOperator, SliceParts}
+use Rattle.line_service.specs.declared.script.fields.FieldError.TheVariants.{UnknownCommand, FieldCount, Address, UnknownModem, UnknownOperator, SliceParts}
 use Rattle.line_service.specs.declared.script.script.LineStep.{LineStep}
 use Rattle.line_service.specs.declared.script.script.Sender.{Sender}
 use Rattle.line_service.specs.script.Lines.{parts_of, lines_of, line_fields}

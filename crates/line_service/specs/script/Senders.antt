@@ -39,5 +39,4 @@ three_error (a ∷ fields) error = two_error fields error
 
 -- the error of a command that has no fields and needs some
 abbrev pub alone_error : List ℕ → FieldError
-alone_error word = if bytes_eq word (codes "M") || (bytes_eq word (codes "Q") || bytes_eq word (codes "Z")) then FieldCount
-    else UnknownCommand
+alone_error word = if bytes_eq word (codes "M") || (bytes_eq word (codes "Q") || bytes_eq word (codes "Z")) then FieldCount else UnknownCommand

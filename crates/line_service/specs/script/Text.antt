@@ -42,8 +42,7 @@ after_space field = codes " " ++ field
 
 -- `sid/iuc/start/len`, in minislots
 abbrev pub span_text : Span → List ℕ
-span_text span = decimal span.sid
-    ++ (codes "/" ++ (decimal (iuc_number span.iuc) ++ (codes "/" ++ (decimal span.start ++ (codes "/" ++ decimal span.len)))))
+span_text span = decimal span.sid ++ (codes "/" ++ (decimal (iuc_number span.iuc) ++ (codes "/" ++ (decimal span.start ++ (codes "/" ++ decimal span.len)))))
 
 -- a grant pending: `sid/P`
 abbrev pub pending_text : ℕ → List ℕ
@@ -51,8 +50,7 @@ pending_text sid = decimal sid ++ codes "/P"
 
 -- the elements of a line `F`: the spans, and then the grants pending
 abbrev pub elements_text : ElementsFields → List ℕ
-elements_text elements = flat_map (λ span. after_space (span_text span)) elements.spans
-    ++ flat_map (λ sid. after_space (pending_text sid)) elements.pending
+elements_text elements = flat_map (λ span. after_space (span_text span)) elements.spans ++ flat_map (λ sid. after_space (pending_text sid)) elements.pending
 
 -- ---- outputs
 
@@ -90,8 +88,7 @@ outs_text plant told = flat_map (out_line plant) told
 -- what a modem sent, as a line `M` or `Q`
 abbrev pub heard_line : Modem → Heard → List ℕ
 heard_line modem (Message bytes) = codes "M " ++ (address modem ++ (codes " " ++ (message_text bytes ++ 10 ∷ [])))
-heard_line modem (Request sid minislots) = codes "Q "
-    ++ (address modem ++ (codes " " ++ (decimal sid ++ (codes " " ++ (decimal minislots ++ 10 ∷ [])))))
+heard_line modem (Request sid minislots) = codes "Q " ++ (address modem ++ (codes " " ++ (decimal sid ++ (codes " " ++ (decimal minislots ++ 10 ∷ [])))))
 
 -- `M address message`, `Q address sid minislots`, `W`, `T`, `Z from start/length/budget`
 abbrev pub action_line : Action → List ℕ
@@ -99,8 +96,7 @@ action_line (actions.Arrive modem heard) = heard_line modem heard
 action_line actions.Work = codes "W" ++ 10 ∷ []
 action_line actions.Tick = codes "T" ++ 10 ∷ []
 action_line (actions.Reslice from row) =
-    codes "Z " ++ (decimal from
-    ++ (codes " " ++ (decimal row.start ++ (codes "/" ++ (decimal row.length ++ (codes "/" ++ (decimal row.budget ++ 10 ∷ [])))))))
+    codes "Z " ++ (decimal from ++ (codes " " ++ (decimal row.start ++ (codes "/" ++ (decimal row.length ++ (codes "/" ++ (decimal row.budget ++ 10 ∷ [])))))))
 
 -- the lines of actions, in order
 abbrev pub actions_text : List Action → List ℕ

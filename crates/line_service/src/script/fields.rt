@@ -126,8 +126,7 @@ pub fn three_of<'a>(
     error: FieldError,
     fields: &[&'a [u8]],
 ) -> Result<(&'a [u8], &'a [u8], &'a [u8]), FieldError>
-    ensures { result_map (λ p. (p.0.now, p.1.now, p.2.now)) result
-        ≡ three_of error (map (λ field. field.now) fields.now) }
+    ensures { result_map (λ p. (p.0.now, p.1.now, p.2.now)) result ≡ three_of error (map (λ field. field.now) fields.now) }
 {
     match fields {
         [a, b, c] => Ok((*a, *b, *c)),

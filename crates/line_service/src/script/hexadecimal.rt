@@ -68,8 +68,7 @@ fn write_few<W: Write>(writer: &mut W, bytes: &[u8]) -> io::Result<()>
 /// Writes the last bytes of a line, which are few, and the line's end.
 fn write_last<W: Write>(writer: &mut W, bytes: &[u8]) -> io::Result<()>
     requires { length bytes.now ≤ 64 }
-    ensures { OnOk result (Appends (W.contents writer.old) (W.contents writer.new)
-        (encode_upper bytes.now ++ 10 ∷ [])) }
+    ensures { OnOk result (Appends (W.contents writer.old) (W.contents writer.new) (encode_upper bytes.now ++ 10 ∷ [])) }
 {
     let mut room = [0u8; ROOM];
     fill(&mut room, bytes);
@@ -80,8 +79,7 @@ fn write_last<W: Write>(writer: &mut W, bytes: &[u8]) -> io::Result<()>
 
 /// Writes bytes, and the end of their line.
 pub(crate) fn write_hex_line<W: Write>(writer: &mut W, bytes: &[u8]) -> io::Result<()>
-    ensures { OnOk result (Appends (W.contents writer.old) (W.contents writer.new)
-        (encode_upper bytes.now ++ 10 ∷ [])) }
+    ensures { OnOk result (Appends (W.contents writer.old) (W.contents writer.new) (encode_upper bytes.now ++ 10 ∷ [])) }
 {
     let mut place = 0;
     while bytes.len() - place > STEP {

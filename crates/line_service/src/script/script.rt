@@ -19,7 +19,7 @@ use crate::script::lines::{LineFault, part, parts_of, put_parts};
 use crate::script::unhex::decode_into;
 use dsx_messages::Modem;
 use operator_model::{Heard, SliceRow};
-use plant::{Op, OperatorRow, Plant, Routing};
+use plant::{Op, OperatorRow, Plant, Routes, Routing};
 use run_model::{SliceRows, Step};
 use std::alloc::{AllocError, Global};
 
@@ -107,8 +107,7 @@ fn sender_first<'a, P: Routing>(
     routes: &mut P,
     line: &'a [u8],
 ) -> Result<(Sender, &'a [u8]), FieldError>
-    ensures value { result_map (λ p. (p.0, line_fields p.1.now)) result
-        ≡ sender_first (P.plant_of routes.old) (line_fields line.now) }
+    ensures value { result_map (λ p. (p.0, line_fields p.1.now)) result ≡ sender_first (P.plant_of routes.old) (line_fields line.now) }
     ensures same { routes.new ≡ routes.old }
 {
     if line.len() < 13 || line[12] != b' ' {
@@ -152,8 +151,7 @@ fn put_heard(
     heard: Heard,
     steps: &mut Vec<LineStep>,
 ) -> Result<(), FieldFault>
-    ensures said { Gives field_cause (λ _. steps.new.items) result
-        (behind steps.old.items (Ok (heard_steps number sender heard))) }
+    ensures said { Gives field_cause (λ _. steps.new.items) result (behind steps.old.items (Ok (heard_steps number sender heard))) }
     ensures memory { IfErr result (λ fault. fault ≡ NoMemory) }
 {
     steps.reserve(2)?;
@@ -237,8 +235,7 @@ fn put_request<P: Routing>(
 
 /// Appends the steps of one operator's tick.
 fn put_tick(number: u64, op: Op, steps: &mut Vec<LineStep>) -> Result<(), FieldFault>
-    ensures said { Gives field_cause (λ _. steps.new.items) result
-        (behind steps.old.items (Ok (tick_steps number op))) }
+    ensures said { Gives field_cause (λ _. steps.new.items) result (behind steps.old.items (Ok (tick_steps number op))) }
     ensures memory { IfErr result (λ fault. fault ≡ NoMemory) }
 {
     steps.push(LineStep {
@@ -260,8 +257,7 @@ fn put_all_ticks(
     rows: &[OperatorRow],
     steps: &mut Vec<LineStep>,
 ) -> Result<(), FieldFault>
-    ensures said { Gives field_cause (λ _. steps.new.items) result
-        (behind steps.old.items (Ok (all_ticks number rows.now 0))) }
+    ensures said { Gives field_cause (λ _. steps.new.items) result (behind steps.old.items (Ok (all_ticks number rows.now 0))) }
     ensures memory { IfErr result (λ fault. fault ≡ NoMemory) }
 {
     steps.reserve(rows.len().saturating_mul(2))?;
@@ -429,8 +425,7 @@ pub fn put_line<'a, P: Routing>(
     steps: &mut Vec<LineStep>,
 ) -> Result<(), FieldFault>
     // The steps are added exactly if the line says them. Otherwise the fault is the first thing wrong, from the left.
-    ensures said { Gives field_cause (λ _. steps.new.items) result
-        (behind steps.old.items (line_steps (P.plant_of routes.old) number line.now)) }
+    ensures said { Gives field_cause (λ _. steps.new.items) result (behind steps.old.items (line_steps (P.plant_of routes.old) number line.now)) }
     ensures same { routes.new ≡ routes.old }
     // An invalid line adds no step.
     ensures unsaid { (error : FieldError) → result ≡ Err (Invalid error) → steps.new.items ≡ steps.old.items }
@@ -445,12 +440,12 @@ pub fn put_line<'a, P: Routing>(
 }
 
 /// Returns the steps of lines, each with its line's number; or the first invalid line.
-fn steps_of_lines<P: Routing>(
+fn steps_of_lines(
     alloc: Global,
-    routes: &mut P,
+    routes: &mut Routes,
     lines: &[&[u8]],
 ) -> Result<Vec<LineStep>, LineFault>
-    ensures value { GivesSteps result (steps_after (P.plant_of routes.old) 1 [] (map (λ line. line.now) lines.now)) }
+    ensures value { GivesSteps result (steps_after routes.old 1 [] (map (λ line. line.now) lines.now)) }
     ensures same { routes.new ≡ routes.old }
 {
     let mut steps = Vec::new(alloc);
@@ -469,15 +464,15 @@ fn steps_of_lines<P: Routing>(
 
 /// Returns the steps of a script, each with its line's number; or the first invalid line.
 #[tactic(auto, unfolding(crate::specs::script::Script::steps_of))]
-pub fn steps_of<P: Routing>(
+pub fn steps_of(
     alloc: Global,
-    routes: &mut P,
+    routes: &mut Routes,
     script: &[u8],
 ) -> Result<Vec<LineStep>, LineFault>
     // The steps of all lines, each with its line's number, otherwise the number of the first invalid line.
-    ensures value { GivesSteps result (steps_of (P.plant_of routes.old) script.now) }
+    ensures value { GivesSteps result (steps_of routes.old script.now) }
     // What arrives is placed at the operator that lists its modem.
-    ensures placed { IfOk result (λ steps. ArePlaced (P.plant_of routes.old) steps.items) }
+    ensures placed { IfOk result (λ steps. ArePlaced routes.old steps.items) }
     ensures same { routes.new ≡ routes.old }
 {
     let lines = parts_of(alloc, b'\n', script)?;

@@ -92,8 +92,7 @@ fn write_elements<W: Write>(writer: &mut W, elements: &Elements) -> io::Result<(
 /// Writes the name of an operator.
 pub fn write_name<W: Write>(writer: &mut W, plant: &Plant, op: Op) -> io::Result<()>
     // Exactly the name is written.
-    ensures { OnOk result (Appends (W.contents writer.old) (W.contents writer.new)
-        (operator_name (slice_get plant.now.rows op))) }
+    ensures { OnOk result (Appends (W.contents writer.old) (W.contents writer.new) (operator_name (slice_get plant.now.rows op))) }
 {
     match plant.rows().get(op) {
         Some(row) => writer.write_all(row.get_fields().name.as_slice()),
@@ -113,8 +112,7 @@ fn write_sender<W: Write>(writer: &mut W, modem: Option<Modem>) -> io::Result<()
 
 /// Writes the line of a cause for which nothing is answered.
 fn write_silent<W: Write>(writer: &mut W, modem: Option<Modem>, cause: Cause) -> io::Result<()>
-    ensures { OnOk result (Appends (W.contents writer.old) (W.contents writer.new)
-        (output_line [] (Silent modem cause))) }
+    ensures { OnOk result (Appends (W.contents writer.old) (W.contents writer.new) (output_line [] (Silent modem cause))) }
 {
     writer.write_all(b"S ")?;
     write_sender(writer, modem)?;
@@ -202,8 +200,7 @@ pub fn write_outs<W: Write>(writer: &mut W, plant: &Plant, outs: &[Out]) -> io::
 
 /// Writes the bytes of a message, a dash for none, and the end of their line.
 fn write_message_bytes<W: Write>(writer: &mut W, bytes: &[u8]) -> io::Result<()>
-    ensures { OnOk result (Appends (W.contents writer.old) (W.contents writer.new)
-        (message_text bytes.now ++ 10 ∷ [])) }
+    ensures { OnOk result (Appends (W.contents writer.old) (W.contents writer.new) (message_text bytes.now ++ 10 ∷ [])) }
 {
     if bytes.is_empty() {
         writer.write_all(b"-\n")
@@ -253,8 +250,7 @@ fn write_action<W: Write>(writer: &mut W, action: &Action) -> io::Result<()>
 /// Writes the lines of the actions of a history.
 pub fn write_actions<W: Write>(writer: &mut W, history: &[Entry]) -> io::Result<()>
     // Exactly the lines of these actions are written.
-    ensures { OnOk result (Appends (W.contents writer.old) (W.contents writer.new)
-        (actions_text (actions_of history.now))) }
+    ensures { OnOk result (Appends (W.contents writer.old) (W.contents writer.new) (actions_text (actions_of history.now))) }
 {
     for entry in history {
         write_action(writer, &entry.action)?;

@@ -2,7 +2,7 @@
 use Rattle.std.proofs.Common.{◌≡◌, ℕ, ◌<◌, ◌≤◌, List, [], ◌∷◌, length, map, take, get_or, Option, option_map, All, Result, Ok, Err, IfErr, inl, inr, refl, sym, ap, ◌∙◌, subst, arith}
 use Rattle.plant_core.proofs.LiveLemmas.Common.{◌≢◌, take-map, length-map, All-nil, All-map, slice_get-map, slice_get_read, Minislots, Channel, PlantFields, Operator, AreSlices, IsFirstInvalid, sound_of, IsAtFrame, WaitsFrom, IsOdd, waits_from, first_from, GoesAlong, GoTogether, IsFirstOdd, IsOddFault, IsSliceFault, IsResumeFault}
 use Rattle.std.specs.Result.{IsErrAnd}
-use Rattle.operator_book.specs.declared.machine.Machine.{Machine}
+use Rattle.operator_book.specs.declared.live.Machine.{Machine}
 use Rattle.plant_core.specs.declared.live.resume_fault.ResumeFault.{ResumeFault}
 use Rattle.plant_core.specs.declared.live.resume_fault.ResumeFault.TheVariants.{NotAtFrame, SliceChangesDiffer, BeforeFirstFrame, InvalidSlice, InvalidNextSlice, NoMemory}
 use Rattle.plant_core.proofs.LiveLemmas.ResumeLemmas.{over_map}

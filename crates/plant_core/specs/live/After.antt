@@ -20,8 +20,7 @@ use Rattle.run_model.specs.NonInterference.{NoticeTheSame}
 use Rattle.run_model.specs.IsStateAfter.{CoreView, AreFramesFrom, IsGatheredFrom}
 
 -- an operator after these steps: its state is that of its own machine run alone, and each action was allowed where it was taken
-pub record IsOperatorFrom (plant : PlantFields) (start : Start) (steps : List Step) (i : ℕ) (row : RowFields)
-    (book : BookView) : Type 0 where
+pub record IsOperatorFrom (plant : PlantFields) (start : Start) (steps : List Step) (i : ℕ) (row : RowFields) (book : BookView) : Type 0 where
   pub row_is : book.row ≡ row
   pub consts_are : book.consts ≡ plant.consts
   pub state_is : book.state ≡ (isolated_run_from plant.consts start row i steps).state
@@ -41,10 +40,8 @@ pub record IsAfterFrom (plant : PlantFields) (start : Start) (steps : List Step)
   pub operators : AtEachPlace plant.rows live.books (IsOperatorFrom plant start steps)
   pub gathering : Gathering
   pub gathered : IsGatheredFrom plant start steps outs gathering
-  pub frames : (i : ℕ) (row : RowFields) (waiting : List (ℕ × ElementsFields)) (put : List ElementsFields)
-      → slice_get plant.rows i ≡ Some row
-      → slice_get live.queues i ≡ Some waiting → slice_get gathering.queues i ≡ Some put
-      → AreFramesFrom plant start steps (length (maps_in outs)) i row waiting put
+  pub frames : (i : ℕ) (row : RowFields) (waiting : List (ℕ × ElementsFields)) (put : List ElementsFields) → slice_get plant.rows i ≡ Some row
+      → slice_get live.queues i ≡ Some waiting → slice_get gathering.queues i ≡ Some put → AreFramesFrom plant start steps (length (maps_in outs)) i row waiting put
   pub gathering_is : GoesOnAlike gathering live.gathering
   pub held : IsGathering gathering
 
@@ -59,14 +56,12 @@ IsReachableFromStart live = (start : Start) × (steps : List Step) × (outs : Li
 -- after whatever start, steps and outputs led to the one live core, these more lead to the other
 abbrev pub LeadsOnFromStart : CoreView → List Step → List Out → CoreView → Type 0
 LeadsOnFromStart old steps outs new =
-    (start : Start) (before : List Step) (told : List Out) → IsAfterFrom old.plant start before told old
-    → IsAfterFrom old.plant start (before ++ steps) (told ++ outs) new
+    (start : Start) (before : List Step) (told : List Out) → IsAfterFrom old.plant start before told old → IsAfterFrom old.plant start (before ++ steps) (told ++ outs) new
 
 -- this holds of a plant, its start, steps and outputs, whatever they are that led to the live core
 abbrev pub BehindEachRun : CoreView → (PlantFields → Start → List Step → List Out → Type 0) → Type 0
 BehindEachRun live holds =
-    (plant : PlantFields) (start : Start) (before : List Step) (told : List Out) → IsAfterFrom plant start before told live
-    → holds plant start before told
+    (plant : PlantFields) (start : Start) (before : List Step) (told : List Out) → IsAfterFrom plant start before told live → holds plant start before told
 
 -- the non-interference theorem, at a live core next to any run of a plant, whatever carried it out: where they agree on an operator's
 -- provisioning and own steps, the operator notices the same
@@ -77,6 +72,5 @@ TwoLiveCores = (live : CoreView) (p q : PlantFields) (i j : ℕ) (s t : List Ste
 -- the same at a core that was resumed, where the operator started in one state too
 abbrev pub TwoResumedCores : Type 0
 TwoResumedCores = (live : CoreView) (p q : PlantFields) (a b : Start) (i j : ℕ) (s t : List Step) (o u : List Out) (agree : AgreeOn p i q j)
-    → IsAfterFrom p a s o live → IsTraceFrom q b t u → a.state agree.row ≡ b.state agree.row
-    → own_steps agree.row i s ≡ own_steps agree.row j t
+    → IsAfterFrom p a s o live → IsTraceFrom q b t u → a.state agree.row ≡ b.state agree.row → own_steps agree.row i s ≡ own_steps agree.row j t
     → NoticeTheSame p i o q j u agree

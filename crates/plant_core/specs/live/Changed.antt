@@ -18,17 +18,12 @@ use Rattle.plant_core.specs.live.Resting.{Rests}
 
 -- whoever has the name of one of the core's operators has his state, and whoever has none of theirs is opened before this frame
 pub record ComeFrom (live : CoreView) (plant : PlantFields) (frame : ℕ) (ops : List Operator) : Type 0 where
-  pub go_on : (i j : ℕ) (book : BookView) (op : Operator) → slice_get live.books i ≡ Some book → slice_get ops j ≡ Some op
-      → book.row.name ≡ op.row.name → op.state ≡ book.state
-  pub open_anew : (j : ℕ) (op : Operator) → slice_get ops j ≡ Some op
-      → ((i : ℕ) (book : BookView) → slice_get live.books i ≡ Some book → book.row.name ≢ op.row.name)
+  pub go_on : (i j : ℕ) (book : BookView) (op : Operator) → slice_get live.books i ≡ Some book → slice_get ops j ≡ Some op → book.row.name ≡ op.row.name → op.state ≡ book.state
+  pub open_anew : (j : ℕ) (op : Operator) → slice_get ops j ≡ Some op → ((i : ℕ) (book : BookView) → slice_get live.books i ≡ Some book → book.row.name ≢ op.row.name)
       → op.state ≡ opened_before frame plant.consts op.row
 
 -- a core at rest whose operators are resumed so under another plant is changed to that plant
 abbrev pub ResumedIsChanged : Type 0
-ResumedIsChanged = (plant next : PlantFields) (start : Start) (steps : List Step) (outs : List Out) (live : CoreView) (frame : ℕ)
-    (ops : List Operator)
-    → IsAfterFrom plant start steps outs live → Rests live frame → IsPlant next → KeepsConsts plant.consts next.consts
-    → MayResume next frame ops → IsGathering (gathering_from next (start_with next frame ops)) → ComeFrom live next frame ops
-    → IsPlantChange (record { plant = plant; start = start; steps = steps; outs = outs })
-    (record { plant = next; start = start_with next frame ops; steps = []; outs = [] })
+ResumedIsChanged = (plant next : PlantFields) (start : Start) (steps : List Step) (outs : List Out) (live : CoreView) (frame : ℕ) (ops : List Operator)
+    → IsAfterFrom plant start steps outs live → Rests live frame → IsPlant next → KeepsConsts plant.consts next.consts → MayResume next frame ops → IsGathering (gathering_from next (start_with next frame ops)) → ComeFrom live next frame ops
+    → IsPlantChange (record { plant = plant; start = start; steps = steps; outs = outs }) (record { plant = next; start = start_with next frame ops; steps = []; outs = [] })

@@ -12,8 +12,7 @@ use Rattle.run_model.specs.declared.step.Step.TheVariants as steps
 use Rattle.run_model.specs.IsStateAfter.{CoreView}
 use Rattle.plant_core.specs.live.Reslicing.{reslice_fault}
 use Rattle.plant_core.specs.declared.live.core_fault.CoreFault.{CoreFault}
-use Rattle.plant_core.specs.declared.live.core_fault.CoreFault.TheVariants.{UnknownModem, UnknownOperator, Book, NothingToCollect, NoMemory}
-use Rattle.plant_core.specs.declared.live.core_fault.CoreFault.TheVariants.{Reslice}
+use Rattle.plant_core.specs.declared.live.core_fault.CoreFault.TheVariants.{UnknownModem, UnknownOperator, Book, NothingToCollect, NoMemory, Reslice}
 
 -- why the operator at a place does not act: there is none, or its frame numbers are spent
 abbrev pub act_fault : ℕ → Action → Option BookView → Option CoreFault

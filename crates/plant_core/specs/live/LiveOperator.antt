@@ -6,7 +6,7 @@ use Rattle.plant.specs.declared.operator_row.RowFields.{RowFields}
 use Rattle.operator_model.specs.State.{Operator}
 use Rattle.operator_model.specs.Sound.{IsSound}
 use Rattle.operator_model.specs.Replay.{BookView}
-use Rattle.operator_book.specs.declared.machine.Machine.{Machine}
+use Rattle.operator_book.specs.declared.live.Machine.{Machine}
 use Rattle.plant_core.specs.declared.live.resume_fault.ResumeFault.{ResumeFault}
 use Rattle.plant_core.specs.declared.live.resume_fault.ResumeFault.TheVariants.{NotAtFrame, SliceChangesDiffer, BeforeFirstFrame}
 use Rattle.plant_core.specs.declared.live.resume_fault.ResumeFault.TheVariants.{InvalidSlice, InvalidNextSlice, NoMemory}

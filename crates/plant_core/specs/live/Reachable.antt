@@ -21,8 +21,7 @@ IsReachable core = (steps : List Step) × (outs : List Out) × IsStateAfter core
 -- after whatever steps and outputs led to the one core, these more lead to the other
 abbrev pub LeadsOn : CoreView → List Step → List Out → CoreView → Type 0
 LeadsOn old steps outs new =
-    (before : List Step) (told : List Out) → IsStateAfter old.plant before told old
-    → IsStateAfter old.plant (before ++ steps) (told ++ outs) new
+    (before : List Step) (told : List Out) → IsStateAfter old.plant before told old → IsStateAfter old.plant (before ++ steps) (told ++ outs) new
 
 -- some step goes to this operator as this action
 abbrev pub IsOfAStep : PlantFields → ℕ → Action → Type 0

@@ -20,16 +20,13 @@ pub record Rests (live : CoreView) (frame : ℕ) : Type 0 where
 
 -- the states of a core that rests are those in which its operators exist, and nothing of its run is left to be collected
 abbrev pub RestingIsAtRest : Type 0
-RestingIsAtRest = (plant : PlantFields) (start : Start) (steps : List Step) (outs : List Out) (live : CoreView) (frame : ℕ)
-    → IsAfterFrom plant start steps outs live → Rests live frame
+RestingIsAtRest = (plant : PlantFields) (start : Start) (steps : List Step) (outs : List Out) (live : CoreView) (frame : ℕ) → IsAfterFrom plant start steps outs live → Rests live frame
     → IsAtRest (record { plant = plant; start = start; steps = steps; outs = outs }) frame
 
 -- after a run from any start, each book has its operator's row and is in the state in which the run leaves the operator's own machine
 abbrev pub BooksStandNow : Type 0
-BooksStandNow = (plant : PlantFields) (start : Start) (steps : List Step) (outs : List Out) (live : CoreView)
-    → IsAfterFrom plant start steps outs live → (i : ℕ) (row : RowFields) (book : BookView)
-    → slice_get plant.rows i ≡ Some row → slice_get live.books i ≡ Some book → (book.row ≡ row)
-    × (book.state ≡ state_now (record { plant = plant; start = start; steps = steps; outs = outs }) i row)
+BooksStandNow = (plant : PlantFields) (start : Start) (steps : List Step) (outs : List Out) (live : CoreView) → IsAfterFrom plant start steps outs live → (i : ℕ) (row : RowFields) (book : BookView)
+    → slice_get plant.rows i ≡ Some row → slice_get live.books i ≡ Some book → (book.row ≡ row) × (book.state ≡ state_now (record { plant = plant; start = start; steps = steps; outs = outs }) i row)
 
 -- ---- why a core does not rest
 

@@ -1,6 +1,5 @@
 -- A live core of operators that are at work already (implementation-specific).
-use Rattle.std.specs.Prelude.{◌≡◌, ◌≢◌, ℕ, ◌<◌, ◌≤◌, ◌⊎◌, ⊤, List, [], ◌∷◌, map, length, take, slice_get, All, option_map, Option, Some}
-use Rattle.std.specs.Prelude.{None, if◌then◌else◌}
+use Rattle.std.specs.Prelude.{◌≡◌, ◌≢◌, ℕ, ◌<◌, ◌≤◌, ◌⊎◌, ⊤, List, [], ◌∷◌, map, length, take, slice_get, All, option_map, Option, Some, None, if◌then◌else◌}
 use Rattle.std.specs.Str.{bytes_eq}
 use Rattle.slice_scheduler.specs.Minislots.{Minislots}
 use Rattle.plant.specs.declared.operator_row.RowFields.{RowFields}
@@ -13,8 +12,7 @@ use Rattle.map_assembly.specs.declared.slicing.Reslicing.{Reslicing}
 use Rattle.map_assembly.specs.Plan.{AreSlices, IsFirstInvalid}
 use Rattle.run_model.specs.Starts.{Start}
 use Rattle.plant_core.specs.declared.live.resume_fault.ResumeFault.{ResumeFault}
-use Rattle.plant_core.specs.declared.live.resume_fault.ResumeFault.TheVariants.{NotAtFrame, SliceChangesDiffer, BeforeFirstFrame}
-use Rattle.plant_core.specs.declared.live.resume_fault.ResumeFault.TheVariants.{InvalidSlice, InvalidNextSlice, NoMemory}
+use Rattle.plant_core.specs.declared.live.resume_fault.ResumeFault.TheVariants.{NotAtFrame, SliceChangesDiffer, BeforeFirstFrame, InvalidSlice, InvalidNextSlice, NoMemory}
 
 -- the state of the operator of this row's name among these, else this one
 abbrev pub state_among : List Operator → OperatorState → RowFields → OperatorState

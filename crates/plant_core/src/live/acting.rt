@@ -28,43 +28,43 @@ use std::alloc::{AllocError, Global};
 use std::collections::VecDeque;
 
 /// Adds an operator's outputs, for which there is room.
-fn append_all(outs: &mut Vec<Out>, op: Op, outputs: Vec<Output>)
-    requires { vec_len outs.old + vec_len outputs ≤ vec_capacity outs.old }
-    ensures { outs.new.items ≡ outs.old.items ++ outputs_under op outputs.items }
+fn append_all(outs: &mut Vec<Out>, op: Op, told: Vec<Output>)
+    requires { vec_len outs.old + vec_len told ≤ vec_capacity outs.old }
+    ensures { outs.new.items ≡ outs.old.items ++ outputs_under op told.items }
 {
-    for output in outputs {
+    for output in told {
         outs.push_reserved(Out::Of { op, output });
     }
 }
 
 /// Adds an operator's outputs, of which there mostly are none. There is room for them.
 #[inline(always)]
-fn append_few(outs: &mut Vec<Out>, op: Op, outputs: Vec<Output>)
-    requires { vec_len outs.old + vec_len outputs ≤ vec_capacity outs.old }
-    ensures { outs.new.items ≡ outs.old.items ++ outputs_under op outputs.items }
+fn append_few(outs: &mut Vec<Out>, op: Op, told: Vec<Output>)
+    requires { vec_len outs.old + vec_len told ≤ vec_capacity outs.old }
+    ensures { outs.new.items ≡ outs.old.items ++ outputs_under op told.items }
 {
-    if outputs.is_empty() {
+    if told.is_empty() {
         return;
     }
-    append_all(outs, op, outputs);
+    append_all(outs, op, told);
 }
 
 /// Adds an operator's outputs, for which there is room. Returns their memory, which most actions use
 /// for one output or none.
 #[inline(always)]
-fn append(alloc: Global, outs: &mut Vec<Out>, op: Op, outputs: Vec<Output>) -> SpareOutputs
-    requires { vec_len outs.old + vec_len outputs ≤ vec_capacity outs.old }
-    ensures { outs.new.items ≡ outs.old.items ++ outputs_under op outputs.items }
+fn append(alloc: Global, outs: &mut Vec<Out>, op: Op, told: Vec<Output>) -> SpareOutputs
+    requires { vec_len outs.old + vec_len told ≤ vec_capacity outs.old }
+    ensures { outs.new.items ≡ outs.old.items ++ outputs_under op told.items }
 {
-    let mut outputs = outputs;
-    if outputs.len() > 1 {
-        append_all(outs, op, outputs);
+    let mut told = told;
+    if told.len() > 1 {
+        append_all(outs, op, told);
         return SpareOutputs::new(alloc);
     }
-    if let Some(only) = outputs.pop() {
+    if let Some(only) = told.pop() {
         outs.push_reserved(Out::Of { op, output: only });
     }
-    SpareOutputs::of_list(outputs)
+    SpareOutputs::of_list(told)
 }
 
 /// Adds a MAP that is made, for which there is room.
@@ -181,8 +181,8 @@ impl LiveSlot {
         ensures same_waiting { OnErr result (slot_waiting self.new ≡ slot_waiting self.old) }
     {
         outs.reserve(1)?;
-        let outputs = self.live.receive(alloc, modem, heard)?;
-        append_few(outs, op, outputs);
+        let told = self.live.receive(alloc, modem, heard)?;
+        append_few(outs, op, told);
         Ok(())
     }
 
@@ -206,8 +206,8 @@ impl LiveSlot {
         ensures same_waiting { OnErr result (slot_waiting self.new ≡ slot_waiting self.old) }
     {
         outs.reserve(1)?;
-        let outputs = self.live.take_request(alloc, first)?;
-        append_few(outs, op, outputs);
+        let told_of_request = self.live.take_request(alloc, first)?;
+        append_few(outs, op, told_of_request);
         Ok(())
     }
 
@@ -280,8 +280,7 @@ impl LiveSlot {
         outs: &mut Vec<Out>,
     ) -> Result<(), CoreFault>
         requires { FitsOldest op (slot_waiting self.old) gather.old }
-        ensures ok { OnOk result (CollectsOldest op (slot_waiting self.old) (slot_waiting self.new) gather.old
-            gather.new
+        ensures ok { OnOk result (CollectsOldest op (slot_waiting self.old) (slot_waiting self.new) gather.old gather.new
             outs.old.items outs.new.items) }
         ensures book { slot_book self.new ≡ slot_book self.old }
         ensures outs { OnErr result (outs.new.items ≡ outs.old.items) }

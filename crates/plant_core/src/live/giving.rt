@@ -12,7 +12,7 @@ ghost use Rattle.plant_core.specs.live.Performing.{went, Performs};
 ghost use Rattle.plant_core.specs.live.LiveView.{live_view};
 
 use crate::live::desk::LiveSlot;
-use crate::live::live_core::LiveCore;
+use crate::live::held::LiveCore;
 use operator_model::SliceRow;
 use slice_scheduler::Slice;
 use std::alloc::{AllocError, Global};

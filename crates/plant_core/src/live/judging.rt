@@ -12,7 +12,7 @@ ghost use Rattle.plant_core.specs.live.LiveView.{live_view};
 
 use crate::live::core_fault::{CoreFault, ResliceFault, Unfits};
 use crate::live::desk::LiveSlot;
-use crate::live::live_core::LiveCore;
+use crate::live::held::LiveCore;
 use operator_model::{SliceRow, Unfit};
 use plant::Op;
 use std::alloc::Global;

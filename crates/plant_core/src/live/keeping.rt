@@ -7,7 +7,7 @@ ghost use Rattle.map_assembly.specs.LettingGo.{has_begun};
 ghost use Rattle.plant_core.specs.live.DeskView.{book_of};
 ghost use Rattle.plant_core.specs.live.LiveView.{live_view};
 
-use crate::live::live_core::LiveCore;
+use crate::live::held::LiveCore;
 use operator_book::Machine;
 use plant::{Op, Plant};
 

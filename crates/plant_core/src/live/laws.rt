@@ -19,9 +19,9 @@ ghost use Rattle.plant_core.specs.live.After.{IsAfterFrom, TwoLiveCores, TwoResu
 
 /// States that a step leaves a live core as it is after that step more.
 pub fn step_goes_on()
-    ensures { (plant : PlantFields) (start : Start) (before : List Step) (outs : List Out) (step : Step)
+    ensures { (plant : PlantFields) (start : Start) (before : List Step) (told : List Out) (step : Step)
         (old new : CoreView) (now : List Out) → IsPlant plant → Performs (Steps step) old new now
-        → IsAfterFrom plant start before outs old → IsAfterFrom plant start (before ++ step ∷ []) (outs ++ now) new }
+        → IsAfterFrom plant start before told old → IsAfterFrom plant start (before ++ step ∷ []) (told ++ now) new }
 {}
 
 /// States that what a live core has output is shown and in order: to each operator its own machine

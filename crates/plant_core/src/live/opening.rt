@@ -8,7 +8,7 @@ ghost use Rattle.plant_core.specs.live.After.{IsAfter};
 ghost use Rattle.plant_core.specs.live.LiveOperator.{sound_of};
 ghost use Rattle.plant_core.specs.live.LiveView.{live_view};
 
-use crate::live::live_core::LiveCore;
+use crate::live::held::LiveCore;
 use operator_book::Machine;
 use plant::{Consts, OperatorRow, Plant};
 use std::alloc::{AllocError, Global};

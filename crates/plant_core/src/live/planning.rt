@@ -15,7 +15,7 @@ ghost use Rattle.plant_core.specs.live.Planning.{HasRequest, IsActPlan, IsSomeAc
 
 use crate::live::act_plan::ActPlan;
 use crate::live::core_fault::CoreFault;
-use crate::live::live_core::LiveCore;
+use crate::live::held::LiveCore;
 use dsx_messages::Modem;
 use grant_policy::{Policy, Ranks};
 use operator_book::{FirstRequest, SpareOutputs, TickMemory};
@@ -166,8 +166,7 @@ impl LiveCore {
         ensures outs { OnErr result (outs.new.items ≡ outs.old.items) }
         ensures err { OnErr result (live_view self.new ≡ live_view self.old) }
         // Refused exactly for the fault of an arrival.
-        ensures fault { IsReported result (act_fault op (actions.Arrive modem heard)
-            (slice_get (live_view self.old).books op)) }
+        ensures fault { IsReported result (act_fault op (actions.Arrive modem heard) (slice_get (live_view self.old).books op)) }
     {
         if self.desks.len() <= op {
             return Err(CoreFault::UnknownOperator { op });

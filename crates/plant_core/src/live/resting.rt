@@ -6,7 +6,7 @@ ghost use Rattle.plant_core.specs.live.LiveView.{live_view};
 ghost use Rattle.plant_core.specs.live.Resting.{Rests, IsRestless, IsRestFault};
 
 use crate::live::desk::LiveSlot;
-use crate::live::live_core::LiveCore;
+use crate::live::held::LiveCore;
 use crate::live::rest_fault::RestFault;
 use plant::Op;
 

@@ -12,7 +12,7 @@ ghost use Rattle.plant_core.specs.live.Resumed.{later_of, waits_from, first_from
 
 use crate::live::core_memory::CoreMemory;
 use crate::live::desk::LiveSlot;
-use crate::live::live_core::LiveCore;
+use crate::live::held::LiveCore;
 use crate::live::resume_fault::ResumeFault;
 use map_assembly::{Gather, first_invalid_slice};
 use operator_book::Machine;

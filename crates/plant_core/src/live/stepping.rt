@@ -18,7 +18,7 @@ ghost use Rattle.plant_core.specs.live.Following.{FollowRows};
 ghost use Rattle.plant_core.specs.live.LiveView.{live_view};
 
 use crate::live::core_fault::CoreFault;
-use crate::live::live_core::LiveCore;
+use crate::live::held::LiveCore;
 use dsx_messages::Modem;
 use grant_policy::Ranks;
 use map_assembly::Gather;
@@ -250,8 +250,7 @@ impl LiveCore {
         outs: &mut Vec<Out>,
     ) -> Result<(), CoreFault>
         ensures ok { OnOk result (Performs (Steps step) (live_view self.old) (live_view self.new) outs.new.items) }
-        ensures reached { OnOk result (LeadsOnFromStart (live_view self.old) (step ∷ []) outs.new.items
-            (live_view self.new)) }
+        ensures reached { OnOk result (LeadsOnFromStart (live_view self.old) (step ∷ []) outs.new.items (live_view self.new)) }
         ensures err { OnErr result (live_view self.new ≡ live_view self.old) }
         // If the step is refused there are no outputs.
         ensures outs { OnErr result (outs.new.items ≡ []) }
@@ -276,8 +275,7 @@ impl LiveCore {
     ) -> Result<(), CoreFault>
         requires { (row : RowFields) → slice_get (live_view self.old).plant.rows op ≡ Some row
             → R.policy ranking.now ≡ row.policy }
-        ensures ok { OnOk result (Performs (Steps (steps.Tick op)) (live_view self.old) (live_view self.new)
-            outs.new.items) }
+        ensures ok { OnOk result (Performs (Steps (steps.Tick op)) (live_view self.old) (live_view self.new) outs.new.items) }
         ensures reached { OnOk result (LeadsOnFromStart (live_view self.old) (steps.Tick op ∷ []) outs.new.items
             (live_view self.new)) }
         ensures err { OnErr result (live_view self.new ≡ live_view self.old) }
@@ -306,8 +304,7 @@ impl LiveCore {
         requires { holder (live_view self.old).plant.rows modem ≡ Some op }
         ensures ok { OnOk result (Performs (Steps (steps.Arrive modem heard)) (live_view self.old) (live_view self.new)
             outs.new.items) }
-        ensures reached { OnOk result (LeadsOnFromStart (live_view self.old) (steps.Arrive modem heard ∷ [])
-            outs.new.items
+        ensures reached { OnOk result (LeadsOnFromStart (live_view self.old) (steps.Arrive modem heard ∷ []) outs.new.items
             (live_view self.new)) }
         ensures err { OnErr result (live_view self.new ≡ live_view self.old) }
         ensures outs { OnErr result (outs.new.items ≡ []) }
@@ -337,8 +334,7 @@ impl LiveCore {
         requires placed { IsPlaced (live_view self.old).plant step place }
         // This is the step of `step_over`. No clause says how often an address is looked up.
         ensures ok { OnOk result (Performs (Steps step) (live_view self.old) (live_view self.new) outs.new.items) }
-        ensures reached { OnOk result (LeadsOnFromStart (live_view self.old) (step ∷ []) outs.new.items
-            (live_view self.new)) }
+        ensures reached { OnOk result (LeadsOnFromStart (live_view self.old) (step ∷ []) outs.new.items (live_view self.new)) }
         ensures err { OnErr result (live_view self.new ≡ live_view self.old) }
         ensures outs { OnErr result (outs.new.items ≡ []) }
         ensures fault { IsReported result (step_fault (live_view self.old) step) }
@@ -362,8 +358,7 @@ impl LiveCore {
         ensures ok { IfOk result (λ outs. Performs (Steps step) (live_view self.old) (live_view self.new) outs.items) }
         // After any steps each operator is as its own machine run alone. `live_run_is_shown` says that the run is one
         // of the plant.
-        ensures reached { IfOk result (λ outs. LeadsOnFromStart (live_view self.old) (step ∷ []) outs.items
-            (live_view self.new)) }
+        ensures reached { IfOk result (λ outs. LeadsOnFromStart (live_view self.old) (step ∷ []) outs.items (live_view self.new)) }
         ensures err { OnErr result (live_view self.new ≡ live_view self.old) }
         // A step is refused exactly for the stated fault. The assembly refuses no frame.
         ensures fault { IsReported result (step_fault (live_view self.old) step) }

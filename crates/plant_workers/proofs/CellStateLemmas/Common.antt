@@ -1,7 +1,7 @@
 -- The names that several proofs of this crate cite, passed on from one place. Declares nothing.
 pub use Rattle.plant_workers.specs.cell_state.HeldView.{cell_book, waiting_of}
 pub use Rattle.plant_workers.specs.cell_state.Taking.{is_frame, has_frame}
-pub use Rattle.plant_workers.specs.declared.cell_state.caller_receipt.CallerReceipt.{CallerReceipt}
+pub use Rattle.plant_workers.specs.declared.cell_state.told.Told.{Told}
 pub use Rattle.plant_core.proofs.LiveLemmas.GiveLemmas.{one_more_taken, all_taken, HaveTakenSoFar}
 pub use Rattle.plant_core.specs.live.Reslicing.{least_unfit, reslice_fault}
 pub use Rattle.operator_model.specs.Replay.{BookView, book_after_action}

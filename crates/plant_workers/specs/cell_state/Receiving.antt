@@ -8,7 +8,7 @@ use Rattle.operator_model.specs.Replay.{BookView, operator_of_book, IsReplayed}
 use Rattle.run_model.specs.Places.{AtEachPlace}
 use Rattle.plant_workers.specs.declared.receipts.caller.Caller.TheVariants.{Owner}
 use Rattle.plant_workers.specs.declared.receipts.receipt.Receipt.{Receipt}
-use Rattle.plant_workers.specs.declared.cell_state.caller_receipt.CallerReceipt.{CallerReceipt}
+use Rattle.plant_workers.specs.declared.cell_state.told.Told.{Told}
 
 -- it has the place after all that was done, the action, and what the operator's machine outputs
 pub record IsReceiptOf (book : BookView) (action : Action) (receipt : Receipt) : Type 0 where
@@ -25,12 +25,12 @@ pub record IsOfSomeBook (action : Action) (receipt : Receipt) : Type 0 where
   pub receipt_is : IsReceiptOf book action receipt
 
 -- the owner's receipt of an operator's slice change
-pub record IsOwnersReceipt (from op : ℕ) (row : SliceRow) (book : BookView) (told : CallerReceipt) : Type 0 where
+pub record IsOwnersReceipt (from op : ℕ) (row : SliceRow) (book : BookView) (told : Told) : Type 0 where
   pub op_is : told.op ≡ op
   pub caller_is : told.caller ≡ Owner
   pub receipt_is : IsReceiptOf book (actions.Reslice from row) told.receipt
 
 -- the owner's receipts of a slice change of all operators, operator by operator
-pub record AreOwnersReceipts (from : ℕ) (rows : List SliceRow) (books : List BookView) (told : List CallerReceipt) : Type 0 where
+pub record AreOwnersReceipts (from : ℕ) (rows : List SliceRow) (books : List BookView) (told : List Told) : Type 0 where
   pub one_each : length told ≡ length rows
-  pub each : AtEachPlace rows books (λ op row book. (one : CallerReceipt) × (slice_get told op ≡ Some one) × IsOwnersReceipt from op row book one)
+  pub each : AtEachPlace rows books (λ op row book. (one : Told) × (slice_get told op ≡ Some one) × IsOwnersReceipt from op row book one)

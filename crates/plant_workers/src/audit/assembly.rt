@@ -135,13 +135,6 @@ fn note_map(maps: &mut Vec<MapBytes>, made: Option<MapBytes>)
     }
 }
 
-/// An operator's part of a frame.
-struct FramePart {
-    op: Op,
-    frame: u32,
-    elements: Elements,
-}
-
 /// Puts an operator's part of a frame, of which `kept` is a copy, and keeps the MAP where it is the last one of its frame.
 /// Room is there for what is kept.
 ///
@@ -151,30 +144,25 @@ fn put_kept(
     gather: &mut Gather,
     placings: &mut Vec<Placing>,
     maps: &mut Vec<MapBytes>,
-    part: FramePart,
+    op: Op,
+    frame: u32,
+    elements: Elements,
     kept: Elements,
 ) -> Result<(), GatherFault>
-    requires copied { kept ≡ part.elements }
+    requires copied { kept ≡ elements }
     requires for_placing { vec_len placings.old < vec_capacity placings.old }
     requires for_map { vec_len maps.old < vec_capacity maps.old }
-    ensures ok { (plant : PlantFields) → OnOk result (HasPut part.op part.frame part.elements
+    ensures ok { (plant : PlantFields) → OnOk result (HasPut op frame elements
         (record { plant = plant; gathering = gather.old; placings = placings.old.items; maps = maps.old.items })
         (record { plant = plant; gathering = gather.new; placings = placings.new.items; maps = maps.new.items })) }
     ensures fault { (fault : GatherFault) → fault ≢ NoMemory
-        → (result ≡ Err fault)
-        ↔ (put_fault gather.old part.op part.frame part.elements ≡ Some fault) }
+        → (result ≡ Err fault) ↔ (put_fault gather.old op frame elements ≡ Some fault) }
     // Once the copy is made, no refusal is reported as out of memory.
-    ensures memory { result ≡ Err NoMemory
-        → put_fault gather.old part.op part.frame part.elements ≡ None }
+    ensures memory { result ≡ Err NoMemory → put_fault gather.old op frame elements ≡ None }
     ensures gather { OnErr result (gather.new ≡ gather.old) }
     ensures placings { OnErr result (placings.new.items ≡ placings.old.items) }
     ensures maps { OnErr result (maps.new.items ≡ maps.old.items) }
 {
-    let FramePart {
-        op,
-        frame,
-        elements,
-    } = part;
     match gather.put(alloc, op, frame, elements) {
         Ok(made) => {
             let elements = kept;
@@ -235,12 +223,7 @@ impl Assembly {
             return Err(GatherFault::NoMemory);
         }
         let (gather, placings, maps) = (&mut self.gather, &mut self.placings, &mut self.maps);
-        let part = FramePart {
-            op,
-            frame,
-            elements,
-        };
-        put_kept(alloc, gather, placings, maps, part, kept)
+        put_kept(alloc, gather, placings, maps, op, frame, elements, kept)
     }
 
     /// Gives the operators new slices from a frame on, where `Gather::may_reslice` allows it; false

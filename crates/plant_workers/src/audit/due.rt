@@ -76,8 +76,7 @@ pub(crate) fn behind_due(
 ) -> Option<usize>
     requires one { All IsOneFrame history.now }
     requires place { waiting_in history.now from ≡ drop given (frames_in history.now) }
-    ensures next { MatchOption result (slice_get (take due (frames_in history.now)) given
-        ≡ Some (numbered_frame put.now) → ⊥)
+    ensures next { MatchOption result (slice_get (take due (frames_in history.now)) given ≡ Some (numbered_frame put.now) → ⊥)
         (λ behind. (slice_get (take due (frames_in history.now)) given ≡ Some (numbered_frame put.now))
         × (waiting_in history.now behind ≡ drop (given + 1) (frames_in history.now))) }
     ensures room { IsSome result → given < due }

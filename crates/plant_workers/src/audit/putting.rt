@@ -46,8 +46,7 @@ fn put_by(op: Op, placing: &Placing) -> Option<Frame<'_>>
 /// the frames of its history are due. Takes no memory.
 fn first_missed(op: Op, history: &[Entry], due: usize, placings: &[Placing]) -> Option<u32>
     requires { All IsOneFrame history.now }
-    ensures { (first : ℕ) → AreNumbered first (puts_of op placings.now)
-        → AreNumbered first (take due (frames_in history.now))
+    ensures { (first : ℕ) → AreNumbered first (puts_of op placings.now) → AreNumbered first (take due (frames_in history.now))
         → MatchOption result (puts_of op placings.now ≡ take due (frames_in history.now))
         (IsMissed first (puts_of op placings.now) (take due (frames_in history.now))) }
 {

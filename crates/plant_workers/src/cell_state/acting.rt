@@ -10,8 +10,8 @@ ghost use Rattle.plant_workers.specs.cell_state.Receiving.{IsReceiptOf, IsOfSome
 ghost use Rattle.plant_workers.specs.cell_state.Refusing.{refusal_of, IsActionFault};
 ghost use Rattle.plant_workers.specs.cell_state.Taking.{IsFrontTaken, IsFrameOfSomeBook};
 
-use crate::cell_state::CellState;
 use crate::cell_state::collecting::oldest_from;
+use crate::cell_state::held::Held;
 use crate::cell_state::refusing::refusal_of;
 use crate::receipts::Receipt;
 use operator_book::BookFault;
@@ -19,7 +19,7 @@ use operator_model::{Action, Outputs};
 use slice_scheduler::Elements;
 use std::alloc::{AllocError, Global};
 
-impl CellState {
+impl Held {
     /// Returns how many entries the history has.
     pub fn count(&self) -> usize
         ensures { result ≡ length (cell_book self.now).history }
@@ -53,13 +53,13 @@ impl CellState {
         let index = self.count();
         // For the proof: the state of the book is the replay of its history.
         self.book.always_replayed();
-        let Ok(copied) = action.copy(alloc) else {
+        let Ok(told) = action.copy(alloc) else {
             return Err(BookFault::NoMemory);
         };
         match self.book.act(alloc, action) {
             Ok(outputs) => Ok(Receipt {
                 index,
-                action: copied,
+                action: told,
                 outputs: Outputs::from_vec(outputs),
             }),
             Err(_) => Err(BookFault::NoMemory),

@@ -6,7 +6,7 @@ ghost use Rattle.plant_workers.specs.cell_state.HeldView.{cell_book, waiting_of}
 ghost use Rattle.plant_core.specs.Waiting.{frames_in, waiting_in, IsOneFrame};
 ghost use Rattle.plant_workers.specs.cell_state.Taking.{frames_at, is_frame, has_frame};
 
-use crate::cell_state::CellState;
+use crate::cell_state::held::Held;
 use operator_book::Book;
 use operator_model::{Entry, Output};
 
@@ -61,16 +61,16 @@ fn behind(history: &[Entry], taken: usize) -> usize
     history.len()
 }
 
-impl CellState {
+impl Held {
     /// Returns a book of which all frames count as collected. Takes no memory.
-    pub fn of(book: Book) -> CellState
+    pub fn of(book: Book) -> Held
         requires { book.ranking.policy ≡ book.kept.book.row.policy }
         ensures book { cell_book result ≡ view_of book }
         ensures waiting { waiting_of result ≡ [] }
         ensures stopped { result.stopped ≡ false }
     {
         let collected = book.history().len();
-        CellState {
+        Held {
             book,
             collected,
             stopped: false,
@@ -79,7 +79,7 @@ impl CellState {
 
     /// Returns a book of which so many frames are collected: what `into_parts` gives, put together
     /// again. Takes no memory.
-    pub fn again(book: Book, taken: usize) -> CellState
+    pub fn again(book: Book, taken: usize) -> Held
         requires { taken ≤ length (frames_at (view_of book)) }
         ensures book { cell_book result ≡ view_of book }
         ensures waiting { waiting_of result ≡ drop taken (frames_at (view_of book)) }
@@ -88,7 +88,7 @@ impl CellState {
         // For the proof: each entry of the history outputs one frame at most.
         book.always_replayed();
         let collected = behind(book.history(), taken);
-        CellState {
+        Held {
             book,
             collected,
             stopped: false,
@@ -102,7 +102,7 @@ impl CellState {
         ensures within { result.1 ≤ length (frames_at (view_of result.0)) }
         ensures taken { waiting_of self ≡ drop result.1 (frames_at (view_of result.0)) }
     {
-        let CellState {
+        let Held {
             book,
             collected,
             stopped: _,

@@ -11,8 +11,8 @@ ghost use Rattle.plant_workers.specs.cell_state.Refusing.{refusal_of};
 ghost use Rattle.plant_workers.specs.cell_state.Taking.{IsFrontTaken, IsFrameOfSomeBook};
 ghost use Rattle.plant_workers.specs.cell_state.Telling.{IsOfTurn, IsOfTaking};
 
-use crate::cell_state::CellState;
 use crate::cell_state::cell_fault::CellFault;
+use crate::cell_state::held::Held;
 use crate::receipts::Receipt;
 use operator_book::BookFault;
 use operator_model::Action;
@@ -20,7 +20,7 @@ use plant::Op;
 use slice_scheduler::Elements;
 use std::alloc::Global;
 
-impl CellState {
+impl Held {
     /// Does an action whose turn comes at this place of the history.
     ///
     /// Faults, in this order: `Stopped`; `Passed` where the history has not just so many entries; those of the book. Each

@@ -26,7 +26,7 @@ fn count_receipts(counts: &mut [u8], receipts: &[Receipt])
 
 /// Returns whether each of so many entries has just one receipt, by a count of each.
 fn are_counted_once(alloc: Global, entries: usize, callers: &[Receipts]) -> Result<bool, AllocError>
-    ensures { IfOk result (λ once. IsTrue once ↔ ((k : ℕ) → k < entries → times k callers.now ≡ 1)) }
+    ensures { IfOk result (λ told. IsTrue told ↔ ((k : ℕ) → k < entries → times k callers.now ≡ 1)) }
 {
     let mut counts = vec![in alloc; 0u8; entries]?;
     for receipts in callers {
@@ -49,11 +49,11 @@ fn count_at(index: usize, receipts: &[Receipt]) -> usize
 fn is_told_once(index: usize, callers: &[Receipts]) -> bool
     ensures { IsTrue result ↔ (times index callers.now ≡ 1) }
 {
-    let mut count = 0;
+    let mut told = 0;
     for receipts in callers {
-        count = (count + count_at(index, receipts.as_slice()).min(2)).min(2);
+        told = (told + count_at(index, receipts.as_slice()).min(2)).min(2);
     }
-    count == 1
+    told == 1
 }
 
 /// Returns whether each of so many entries has just one receipt. Takes no memory, and time in
@@ -75,7 +75,7 @@ fn are_told_once(alloc: Global, entries: usize, callers: &[Receipts]) -> bool
     ensures { IsTrue result ↔ ((k : ℕ) → k < entries → times k callers.now ≡ 1) }
 {
     match are_counted_once(alloc, entries, callers) {
-        Ok(once) => once,
+        Ok(told) => told,
         Err(_) => are_found_once(entries, callers),
     }
 }

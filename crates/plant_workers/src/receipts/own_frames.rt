@@ -33,8 +33,7 @@ pub(crate) struct OwnFrames<'a> {
 
 /// Adds the frames of an action's outputs after others.
 fn push_frames<'a>(frames: &mut Vec<Frame<'a>>, outputs: &'a [Output]) -> Result<(), AllocError>
-    ensures { OnOk result (frames_with_numbers frames.new.items ≡ frames_with_numbers frames.old.items
-        ++ frames_of outputs.now) }
+    ensures { OnOk result (frames_with_numbers frames.new.items ≡ frames_with_numbers frames.old.items ++ frames_of outputs.now) }
 {
     for output in outputs {
         if let Output::Frame { number, elements } = output {

@@ -2,10 +2,7 @@
 use Rattle.std.specs.Prelude.{ℕ, suc, List, [], ◌∷◌, ◌++◌, map}
 use Rattle.toml.specs.Data.{Items, no_items, item, Members}
 use Rattle.slice_table.specs.declared.plant_key.Field.{Field}
-use Rattle.slice_table.specs.declared.plant_key.Field.TheVariants.{FrameMinislots, Head, FrameUs, BytesPerMinislot, ShortMax, Channel}
-use Rattle.slice_table.specs.declared.plant_key.Field.TheVariants.{UcdCount, RangingStart, RangingEnd, DataStart, DataEnd, AckWait, Resends}
-use Rattle.slice_table.specs.declared.plant_key.Field.TheVariants.{Hold, FirstFrame, Name, Encoding, Slice, Sfids, Sids, Flows}
-use Rattle.slice_table.specs.declared.plant_key.Field.TheVariants.{Transactions, Inbox, Budget, Elements, Policy, Step, Modems, Flow, Modem}
+use Rattle.slice_table.specs.declared.plant_key.Field.TheVariants.{FrameMinislots, Head, FrameUs, BytesPerMinislot, ShortMax, Channel, UcdCount, RangingStart, RangingEnd, DataStart, DataEnd, AckWait, Resends, Hold, FirstFrame, Name, Encoding, Slice, Sfids, Sids, Flows, Transactions, Inbox, Budget, Elements, Policy, Step, Modems, Flow, Modem}
 use Rattle.slice_table.specs.declared.plant_key.Place.{Place}
 use Rattle.slice_table.specs.declared.plant_key.Place.TheVariants as place
 use Rattle.slice_table.specs.declared.plant_key.Key.{Key}

@@ -64,8 +64,7 @@ IsHexadecimal bytes d = (text : List ℕ) × (d ≡ string text) × (decode_of t
 
 -- the head is within the frame
 abbrev pub IsHead : Members → Data → Type 0
-IsHead document d = (frame : ℕ) × (value_of_key document (Entry place.Plant field.FrameMinislots) ≡ Some (number frame))
-    × IsNumber 0 frame d
+IsHead document d = (frame : ℕ) × (value_of_key document (Entry place.Plant field.FrameMinislots) ≡ Some (number frame)) × IsNumber 0 frame d
 
 -- what may be under each key of the table `plant`
 abbrev pub OfPlant : Members → Field → Data → Type 0

@@ -27,6 +27,5 @@ pub fn read_keys_are_right()
 /// operator.
 pub fn right_keys_are_read()
     ensures { (document : Members) → HasNoFault document
-        ↔ ((consts : ConstsFields) × (rows : List RowFields) × SaysConsts document consts
-        × SaysRows consts document rows) }
+        ↔ ((consts : ConstsFields) × (rows : List RowFields) × SaysConsts document consts × SaysRows consts document rows) }
 {}

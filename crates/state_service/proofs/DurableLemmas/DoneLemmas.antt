@@ -1,9 +1,11 @@
 -- Lines that are done one after the other.
-use Rattle.std.proofs.Common.{◌≡◌, ℕ, suc, ◌+◌, length, arith, List, [], ◌∷◌, ◌++◌, refl, sym, ap, subst, ◌∙◌, append_assoc, append-nil, Option}
-use Rattle.state_service.proofs.DurableLemmas.Common.{◌≢◌, PlantFields, Start, Step, Out, CoreView, IsAfterFrom, Appends-trans, LineRun, answer_text, AreAnswered, all_done, all_told, service_text, AreLinesDone, LineIsDone, LinesAreDone}
+use Rattle.std.proofs.Common.{◌≡◌, ℕ, suc, ◌+◌, length, arith, List, [], ◌∷◌, ◌++◌, refl, sym, ap, subst, ◌∙◌, append_assoc, append-nil, Bool, false, nat_eq, drop, ◌-◌, codes}
+use Rattle.state_service.proofs.DurableLemmas.Common.{◌≢◌, PlantFields, Start, Step, Out, CoreView, IsAfterFrom, Decides-eqb, pointwise, LineRun, answer_text, end_text, AreAnswered, all_done, all_told, service_text, AreLinesDone, LineIsDone, LinesAreDone}
 use Rattle.std.proofs.lemmas.Grind.{flat_map-append}
 use Rattle.std.proofs.lemmas.List.Elements.{All-append, All-nil, All-cons}
-use Rattle.line_service.specs.SoFar.{LineHasEnded}
+use Rattle.std.proofs.lemmas.Slice.Eq.{ends_is}
+use Rattle.std.proofs.lemmas.Bool.{true≢false}
+use Rattle.line_service.specs.script.Text.{outs_text}
 use Rattle.line_service.specs.declared.line_outcome.LineOutcome.{LineOutcome}
 use Rattle.line_service.specs.declared.line_outcome.LineOutcome.TheVariants.{NoMemory}
 
@@ -80,7 +82,7 @@ module _ (plant : PlantFields) (start : Start) (before : List Step) (shown : Lis
       }
 
   -- one line
-  pub one_done : (line : List ℕ) (live : CoreView) (old new : Option (List ℕ)) → (is : LineIsDone plant start before shown number line live old new)
+  pub one_done : (line : List ℕ) (live : CoreView) (old new : List ℕ) → (is : LineIsDone plant start before shown number line live old new)
       → AreLinesDone plant start before shown number (line ∷ []) live (answer_text plant number is.answered)
   one_done line live old new is = record {
     answers = is.answered ∷ [];
@@ -91,7 +93,7 @@ module _ (plant : PlantFields) (start : Start) (before : List Step) (shown : Lis
   }
 
 -- one line more
-pub line_joined : (plant : PlantFields) (start : Start) (before : List Step) (shown : List Out) (number : ℕ) (lines : List (List ℕ)) (line : List ℕ) (live later : CoreView) (old mid new : Option (List ℕ))
+pub line_joined : (plant : PlantFields) (start : Start) (before : List Step) (shown : List Out) (number : ℕ) (lines : List (List ℕ)) (line : List ℕ) (live later : CoreView) (old mid new : List ℕ)
     → (first : LinesAreDone plant start before shown number lines live old mid)
     → LineIsDone plant start (before ++ all_done first.done.answers) (shown ++ all_told first.done.answers) (number + length lines) line later mid new
     → LinesAreDone plant start before shown number (lines ++ line ∷ []) later old new
@@ -99,17 +101,21 @@ line_joined plant start before shown number lines line live later old mid new fi
   text = first.text ++ answer_text plant (number + length lines) second.answered;
   done = done_joined plant start before shown number lines (line ∷ []) live later first.text (answer_text plant (number + length lines) second.answered) first.done
       (one_done plant start (before ++ all_done first.done.answers) (shown ++ all_told first.done.answers) (number + length lines) line later mid new second);
-  written = Appends-trans old mid new first.text (answer_text plant (number + length lines) second.answered) first.written second.written;
+  added = second.added ∙ ap (λ (t : List ℕ). t ++ answer_text plant (number + length lines) second.answered) first.added
+      ∙ append_assoc old first.text (answer_text plant (number + length lines) second.answered);
 }
 
 -- ---- where memory did not run out
 
--- a line that ended so is done
-pub line_is_done : (plant : PlantFields) (start : Start) (before : List Step) (shown : List Out) (number : ℕ) (line : List ℕ) (live : CoreView) (end : LineOutcome) (old new : Option (List ℕ))
-    → LineHasEnded plant start before shown number line live end old new → end ≢ NoMemory → LineIsDone plant start before shown number line live old new
-line_is_done plant start before shown number line live end old new is enough = record {
-  answered = is.0.answered;
-  is = is.0.is;
-  enough = λ ran_out. enough (sym is.1 ∙ ran_out);
-  written = is.0.written;
-}
+abbrev pub out_of_memory : List ℕ
+out_of_memory = codes "fault: memory" ++ 10 ∷ []
+
+-- the text does not end with the answer to a line for which it did
+pub enough_memory : (plant : PlantFields) (number : ℕ) (old new : List ℕ) (answered : LineRun) (r : Bool) → new ≡ old ++ answer_text plant number answered
+    → r ≡ pointwise nat_eq out_of_memory (drop (length new - length out_of_memory) new) → r ≡ false → answered.end ≢ NoMemory
+enough_memory plant number old new answered r is found differs = λ ran_out.
+    let end : answer_text plant number answered ≡ outs_text plant answered.told ++ out_of_memory =
+    ap (λ (e : LineOutcome). outs_text plant answered.told ++ end_text number e) ran_out in
+    let whole : new ≡ (old ++ outs_text plant answered.told) ++ out_of_memory =
+    is ∙ ap (λ (t : List ℕ). old ++ t) end ∙ sym (append_assoc old (outs_text plant answered.told) out_of_memory) in
+    true≢false (sym ((ends_is Decides-eqb new out_of_memory r found).1 (old ++ outs_text plant answered.told) whole) ∙ differs)

@@ -1,5 +1,5 @@
 -- What a journal leads to.
-use Rattle.std.proofs.Common.{◌≡◌, inl, inr, ⊎_elim, ℕ, ◌+◌, ◌==◌, true, List, [], ◌++◌, length, Option, Some, Vec, sym, ap, subst, ◌∙◌, arith, length-append}
+use Rattle.std.proofs.Common.{◌≡◌, inl, inr, ⊎_elim, ℕ, ◌+◌, ◌==◌, true, List, [], ◌++◌, length, Option, Vec, sym, ap, subst, ◌∙◌, arith, length-append}
 use Rattle.state_service.proofs.DurableLemmas.Common.{Global, nat_tests, length-map, nil_from_length, texts, PlantFields, Start, Step, Out, CoreView, IsAfterFrom, BehindEachRun, IsReachableFromStart, JournalContent, journal_content, with_lines, fresh, all_done, all_told, SaysState, saved_start, AreLinesDone, LineIsDone, LinesAreDone, LeadsTo, IsLeading, IsOpeningState, IsBegunWith}
 use Rattle.plant_restart.specs.Restarted.{IsRestarted}
 use Rattle.snapshot_format.specs.States.{states_of}
@@ -55,7 +55,7 @@ restarted_reached plant saved live is =
     let start = saved_start plant saved in
     (start, [], [], subst (λ (p : PlantFields). IsAfterFrom p start [] [] live) (sym (ap (λ (v : CoreView). v.plant) is.is_started)) is.reached)
 
-pub line_reached : (old new : CoreView) (number : ℕ) (line : List ℕ) (text added : Option (List ℕ)) → IsReachableFromStart old
+pub line_reached : (old new : CoreView) (number : ℕ) (line text added : List ℕ) → IsReachableFromStart old
     → BehindEachRun old (λ plant start before shown. LineIsDone plant start before shown number line new text added) → IsReachableFromStart new
 line_reached old new number line text added was done =
     reachable_on old new was (λ plant start before shown after.
@@ -64,7 +64,7 @@ line_reached old new number line text added was done =
 
 -- ---- a saved state, and the lines since
 
-pub leads_from : (plant : PlantFields) (saved : Snapshot) (first live : CoreView) (before count : ℕ) (lines : List (Vec ℕ Global)) (old new : Option (List ℕ))
+pub leads_from : (plant : PlantFields) (saved : Snapshot) (first live : CoreView) (before count : ℕ) (lines : List (Vec ℕ Global)) (old new : List ℕ)
     → IsRestarted plant saved.frame (states_of saved) first
     → BehindEachRun first (λ p start steps shown. LinesAreDone p start steps shown (before + 1) (texts lines) live old new) → count ≡ before + length lines
     → (content : JournalContent) → SaysState content.snapshot before plant saved → content.lines ≡ texts lines → LeadsTo content plant live count
@@ -81,9 +81,9 @@ leads_from plant saved first live before count lines old new restarted done coun
 
 -- the text alone
 pub text_alone : (plant : PlantFields) (start : Start) (before : List Step) (shown : List Out) (number : ℕ) (lines : List (List ℕ)) (live : CoreView) (old new : List ℕ)
-    → old ≡ [] → LinesAreDone plant start before shown number lines live (Some old) (Some new) → AreLinesDone plant start before shown number lines live new
+    → old ≡ [] → LinesAreDone plant start before shown number lines live old new → AreLinesDone plant start before shown number lines live new
 text_alone plant start before shown number lines live old new none done =
-    subst (λ (t : List ℕ). AreLinesDone plant start before shown number lines live t) (sym (done.written ∙ ap (λ (t : List ℕ). t ++ done.text) none)) done.done
+    subst (λ (t : List ℕ). AreLinesDone plant start before shown number lines live t) (sym (done.added ∙ ap (λ (t : List ℕ). t ++ done.text) none)) done.done
 
 -- ---- a journal that opens a plant
 

@@ -25,7 +25,7 @@ pub use Rattle.state_service.specs.resumed.LastStates.{IsLastState, IsServedTo, 
 pub use Rattle.state_service.specs.resumed.NewFrames.{asks_frame, NamesFrame, IsCoreRenumbered, IsNewFrameFault, IsStartRefusal, IsNotStarted, frame_text, frame_refusal_text, IsSavedCore, saved_core}
 pub use Rattle.state_service.specs.resumed.NewPlants.{IsChangeRefusal, IsNewFileFault, IsNewPlantFault, refusal_text}
 pub use Rattle.state_service.specs.resumed.PlantFiles.{IsNumberAfter, is_dashes, is_ended, lines_taken, file_text, most_bytes, most_kept, IsKeptUpTo, IsReadingFile, IsFileRead, IsWhole, IsPlantFileText, IsFileOf, break_after, IsFileKept}
-pub use Rattle.state_service.specs.resumed.Renumbering.{IsRunRenumbered, IsShown, AreRuns}
+pub use Rattle.state_service.specs.resumed.Renumbering.{IsRunRenumbered, AreRuns}
 pub use Rattle.state_service.specs.resumed.Resumed.{resumed_service, EndsInput}
 pub use Rattle.state_service.specs.resumed.Served.{AreServedSoFar, HoldsLine, AwaitsFrame, in_service, ItemIsAnswered, WritesSnapshot, AwaitsPlant, AwaitsCore, IsAfterItem}
 pub use Rattle.state_service.specs.declared.resumed.kept_text.Keeping.{Keeping}

@@ -1,8 +1,8 @@
 -- The periods of a service in which the plant is changed, or its frames get other numbers.
 use Rattle.std.proofs.Common.{◌≡◌, ℕ, ◌+◌, List, [], ◌∷◌, drop, Bool, true, false, ◌⊎◌, inl, inr, refl, sym, ap, ◌∙◌, subst}
-use Rattle.state_service.proofs.ResumedLemmas.Common.{CoreView, RunSoFar, IsPlantChange, AreChanges, IsRunRenumbered, IsShown, AreRuns, InService, ItemAnswer, IsRunSoFarOf, IsItemAnswer, AreItemAnswers, first_period, later_periods, KeepNumbers, ServiceIsOfChanges, ServiceIsOfRuns}
+use Rattle.state_service.proofs.ResumedLemmas.Common.{CoreView, RunSoFar, IsPlantChange, AreChanges, IsRunRenumbered, AreRuns, InService, ItemAnswer, IsRunSoFarOf, IsItemAnswer, AreItemAnswers, first_period, later_periods, KeepNumbers, ServiceIsOfChanges, ServiceIsOfRuns}
 use Rattle.run_model.specs.IsTraceOf.{IsTraceFrom}
-use Rattle.plant_core.proofs.LiveLemmas.LawLemmas.{live_shown, live_ordered}
+use Rattle.plant_core.proofs.LiveLemmas.LawLemmas.{live_shown}
 
 -- with nothing done yet
 abbrev begun : RunSoFar → RunSoFar
@@ -58,14 +58,11 @@ none_done old new (inr is) = is.nothing_done
 shown : (run : RunSoFar) (live : CoreView) → IsRunSoFarOf run live → IsTraceFrom run.plant run.start run.steps run.outs
 shown run live leads = live_shown run.plant run.start run.steps run.outs live leads
 
-shown_in_order : (run : RunSoFar) (live : CoreView) → IsRunSoFarOf run live → IsShown run
-shown_in_order run live leads = (shown run live leads, live_ordered run.plant run.start run.steps run.outs live leads)
-
 -- ---- all runs
 
 of_runs : (old : InService) (number : ℕ) (lines : List (List ℕ)) (answers : List ItemAnswer) (live : CoreView) → IsRunSoFarOf old.run live → AreItemAnswers old number lines answers
     → AreRuns (first_period old.run answers) (later_periods old.run answers)
-of_runs old number [] [] live leads are = shown_in_order old.run live leads
+of_runs old number [] [] live leads are = shown old.run live leads
 of_runs old number [] (answer ∷ more) live leads are = absurd are
 of_runs old number (line ∷ lines) [] live leads are = absurd are
 of_runs old number (line ∷ lines) (answer ∷ more) live leads are =
@@ -77,7 +74,7 @@ of_runs old number (line ∷ lines) (answer ∷ more) live leads are =
     by true e rest =
         let is = is_another old number line lines answer are.0 e in
         rw e (
-          shown_in_order old.run live leads,
+          shown old.run live leads,
           subst (λ (s : RunSoFar). IsPlantChange old.run s ⊎ IsRunRenumbered old.run s)
               (sym (begun_is answer.next.run (none_done old.run answer.next.run is)) ∙ sym (begins_alike answer.next (number + answer.lines) (drop answer.lines (line ∷ lines)) more are.1)) is,
           rest,

@@ -1,7 +1,6 @@
 -- What a journal stands for: a saved state, and the lines of a service that were done since (implementation-specific).
 use Rattle.std.specs.Prelude.{◌≡◌, ◌≢◌, ℕ, ◌+◌, List, [], ◌∷◌, ◌++◌, length, Option, Some, Ok, All, codes}
 use Rattle.std.specs.Fmt.{decimal}
-use Rattle.std.specs.Io.KnownBytes.{Appends}
 use Rattle.std.specs.List.{flat_map}
 use Rattle.toml.specs.Parse.{parse_document}
 use Rattle.plant.specs.declared.plant.PlantFields.{PlantFields}
@@ -53,28 +52,25 @@ pub record IsOpeningState (file : List ℕ) (plant : PlantFields) (saved : Snaps
 
 -- After these steps and outputs all of these lines are answered, for none of them memory ran out, this is the core then, and this the text
 -- of the answers.
-pub record AreLinesDone (plant : PlantFields) (start : Start) (before : List Step) (shown : List Out) (number : ℕ) (lines : List (List ℕ))
-    (live : CoreView) (text : List ℕ) : Type 0 where
+pub record AreLinesDone (plant : PlantFields) (start : Start) (before : List Step) (shown : List Out) (number : ℕ) (lines : List (List ℕ)) (live : CoreView) (text : List ℕ) : Type 0 where
   pub answers : List LineRun
   pub answered : AreAnswered plant start before shown number lines answers
   pub enough : All (λ answered. answered.end ≢ NoMemory) answers
   pub after : IsAfterFrom plant start (before ++ all_done answers) (shown ++ all_told answers) live
   pub text_is : text ≡ service_text plant number answers
 
--- one line is done, and its answer written
-pub record LineIsDone (plant : PlantFields) (start : Start) (before : List Step) (shown : List Out) (number : ℕ) (line : List ℕ)
-    (live : CoreView) (old new : Option (List ℕ)) : Type 0 where
+-- one line is done, and its answer added to a text
+pub record LineIsDone (plant : PlantFields) (start : Start) (before : List Step) (shown : List Out) (number : ℕ) (line : List ℕ) (live : CoreView) (old new : List ℕ) : Type 0 where
   pub answered : LineRun
   pub is : IsAnswer plant start before shown number line live answered
   pub enough : answered.end ≢ NoMemory
-  pub written : Appends old new (answer_text plant number answered)
+  pub added : new ≡ old ++ answer_text plant number answered
 
--- lines are done, and their answers written
-pub record LinesAreDone (plant : PlantFields) (start : Start) (before : List Step) (shown : List Out) (number : ℕ) (lines : List (List ℕ))
-    (live : CoreView) (old new : Option (List ℕ)) : Type 0 where
+-- lines are done, and their answers added
+pub record LinesAreDone (plant : PlantFields) (start : Start) (before : List Step) (shown : List Out) (number : ℕ) (lines : List (List ℕ)) (live : CoreView) (old new : List ℕ) : Type 0 where
   pub text : List ℕ
   pub done : AreLinesDone plant start before shown number lines live text
-  pub written : Appends old new text
+  pub added : new ≡ old ++ text
 
 -- ---- what a journal leads to
 
@@ -94,8 +90,7 @@ pub record IsLeading (content : Option JournalContent) (plant : PlantFields) (li
   pub leads : LeadsTo stored plant live count
 
 -- the file stands for this saved state, and for these lines since
-pub record StandsForState (content : Option JournalContent) (count : ℕ) (plant : PlantFields) (saved : Snapshot)
-    (lines : List (List ℕ)) : Type 0 where
+pub record StandsForState (content : Option JournalContent) (count : ℕ) (plant : PlantFields) (saved : Snapshot) (lines : List (List ℕ)) : Type 0 where
   pub snapshot : List (List ℕ)
   pub stands_for : content ≡ Some (record { snapshot = snapshot; lines = lines })
   pub says : SaysState snapshot count plant saved
@@ -117,8 +112,7 @@ pub record IsKeptSnapshot (saved : Snapshot) (count : ℕ) (snapshot : List (Lis
   pub says : SaysState snapshot count plant read
 
 -- these lines are the state of this core after so many lines
-pub record IsKeptState (live : CoreView) (file : List ℕ) (count : ℕ) (snapshot : List (List ℕ)) (plant : PlantFields)
-    (read : Snapshot) : Type 0 where
+pub record IsKeptState (live : CoreView) (file : List ℕ) (count : ℕ) (snapshot : List (List ℕ)) (plant : PlantFields) (read : Snapshot) : Type 0 where
   pub saved : Snapshot
   pub of_core : IsCoreSnapshot live file saved
   pub kept : IsKeptSnapshot saved count snapshot plant read

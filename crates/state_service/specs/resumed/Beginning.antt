@@ -1,6 +1,5 @@
 -- What is before the lines of a service: a plant file, or a snapshot in its place (implementation-specific).
-use Rattle.std.specs.Prelude.{◌≡◌, ◌≢◌, ⊤, ℕ, List, [], ◌∷◌, ◌++◌, Bool, true, false, MatchBool, Option, Some, map, take, Ok, Err}
-use Rattle.std.specs.Prelude.{if◌then◌else◌, codes}
+use Rattle.std.specs.Prelude.{◌≡◌, ◌≢◌, ⊤, ℕ, List, [], ◌∷◌, ◌++◌, Bool, true, false, MatchBool, Option, Some, map, take, Ok, Err, if◌then◌else◌, codes}
 use Rattle.std.specs.Str.{bytes_eq, is_utf8}
 use Rattle.toml.specs.Parse.{parse_document}
 use Rattle.plant.specs.declared.plant.PlantFields.{PlantFields}
@@ -15,8 +14,7 @@ use Rattle.plant_restart.specs.declared.fault.RestoreFault.TheVariants as restor
 use Rattle.plant_restart.specs.declared.fault.RestartFault.TheVariants as restart
 use Rattle.plant_restart.specs.Restarted.{IsRestoreFault}
 use Rattle.state_service.specs.declared.resumed.begin_fault.BeginFault.{BeginFault}
-use Rattle.state_service.specs.declared.resumed.begin_fault.BeginFault.TheVariants.{NotText, InvalidSnapshot, InvalidPlant, NotRestored}
-use Rattle.state_service.specs.declared.resumed.begin_fault.BeginFault.TheVariants.{NoMemory}
+use Rattle.state_service.specs.declared.resumed.begin_fault.BeginFault.TheVariants.{NotText, InvalidSnapshot, InvalidPlant, NotRestored, NoMemory}
 
 -- ---- the text of it
 
@@ -27,8 +25,7 @@ is_snapshot_head text = bytes_eq (take 18 text) (codes "melfjits-snapshot ")
 -- the text before the lines: a plant file up to the first line of three dashes; or a snapshot, which has one such line in itself, up to
 -- the second one
 abbrev pub front_text : List ℕ → List ℕ
-front_text input = if is_snapshot_head (plant_text input) then plant_text input ++ (codes "---" ++ 10 ∷ plant_text (script_text input))
-    else plant_text input
+front_text input = if is_snapshot_head (plant_text input) then plant_text input ++ (codes "---" ++ 10 ∷ plant_text (script_text input)) else plant_text input
 
 -- the lines of an input after the text before them
 abbrev pub lines_after : List ℕ → List ℕ

@@ -22,8 +22,7 @@ use Rattle.state_service.specs.declared.resumed.new_plant_fault.NewPlantFault.{N
 use Rattle.state_service.specs.resumed.PlantFiles.{file_text, lines_taken, IsFileOf}
 use Rattle.state_service.specs.resumed.NewPlants.{IsNewPlantFault, refusal_text}
 use Rattle.state_service.specs.resumed.Renumbering.{IsRunRenumbered, AreRuns}
-use Rattle.state_service.specs.resumed.NewFrames.{asks_frame, NamesFrame, saved_core, IsCoreRenumbered, IsNewFrameFault, frame_text}
-use Rattle.state_service.specs.resumed.NewFrames.{frame_refusal_text}
+use Rattle.state_service.specs.resumed.NewFrames.{asks_frame, NamesFrame, saved_core, IsCoreRenumbered, IsNewFrameFault, frame_text, frame_refusal_text}
 
 -- ---- what goes on from item to item
 
@@ -68,8 +67,7 @@ pub record IsLineAnswer (old : InService) (number : ℕ) (line : List ℕ) (answ
   pub one : answer.lines ≡ 1
   pub on : answer.changes ≡ false
   pub same_numbers : answer.renumbers ≡ false
-  pub next_is : answer.next
-      ≡ record { run = record old.run { steps = old.run.steps ++ answered.done; outs = old.run.outs ++ answered.told }; file = old.file }
+  pub next_is : answer.next ≡ record { run = record old.run { steps = old.run.steps ++ answered.done; outs = old.run.outs ++ answered.told }; file = old.file }
   pub text_is : answer.text ≡ answer_text old.run.plant number answered
 
 -- ---- a change of the plant
@@ -210,13 +208,11 @@ first_period run (answer ∷ more) = if answer.changes then run else first_perio
 -- the runs after the first change of plant or of frame numbers, in order
 abbrev pub later_periods : RunSoFar → List ItemAnswer → List RunSoFar
 later_periods run [] = []
-later_periods run (answer ∷ more) = if answer.changes then first_period answer.next.run more ∷ later_periods answer.next.run more
-    else later_periods answer.next.run more
+later_periods run (answer ∷ more) = if answer.changes then first_period answer.next.run more ∷ later_periods answer.next.run more else later_periods answer.next.run more
 
 -- the runs of a service are changes of plant and of frame numbers
 abbrev pub ServiceIsOfRuns : Type 0
-ServiceIsOfRuns = (first : InService) (live : CoreView) (input : List ℕ) (old new : Option (List ℕ)) → IsRunSoFarOf first.run live
-    → (served : IsServedFrom first input old new)
+ServiceIsOfRuns = (first : InService) (live : CoreView) (input : List ℕ) (old new : Option (List ℕ)) → IsRunSoFarOf first.run live → (served : IsServedFrom first input old new)
     → AreRuns (first_period first.run served.answers) (later_periods first.run served.answers)
 
 -- no answer gives frames other numbers
@@ -225,6 +221,5 @@ KeepNumbers answers = AllByRecursion (λ answer. answer.renumbers ≡ false) ans
 
 -- Where none does, the runs are changes of plant as `kept_rows_go_through` takes them, so `changes_are_not_noticed` holds of a service.
 abbrev pub ServiceIsOfChanges : Type 0
-ServiceIsOfChanges = (first : InService) (live : CoreView) (input : List ℕ) (old new : Option (List ℕ)) → IsRunSoFarOf first.run live
-    → (served : IsServedFrom first input old new)
+ServiceIsOfChanges = (first : InService) (live : CoreView) (input : List ℕ) (old new : Option (List ℕ)) → IsRunSoFarOf first.run live → (served : IsServedFrom first input old new)
     → KeepNumbers served.answers → AreChanges (first_period first.run served.answers) (later_periods first.run served.answers)

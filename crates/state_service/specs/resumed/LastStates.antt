@@ -56,6 +56,5 @@ pub record IsServedTo (first : InService) (input : List ℕ) (old new : Option (
 
 -- the plant serves its lines in the saved states; or it does not, for this reason, and nothing is written
 abbrev pub EndsBegun : AtEnd → PlantFields → Snapshot → Option (List ℕ) → Option (List ℕ) → Option (List ℕ) → BegunEnd → Type 0
-EndsBegun at_end plant saved read old new (Served last) =
-    IfSome read (λ lines. IsServedTo (resumed_service plant saved) lines old new at_end last)
+EndsBegun at_end plant saved read old new (Served last) = IfSome read (λ lines. IsServedTo (resumed_service plant saved) lines old new at_end last)
 EndsBegun at_end plant saved read old new (NotBegun fault) = IsRestoringFault plant saved fault × (new ≡ old)

@@ -19,8 +19,7 @@ use Rattle.plant_restart.specs.Saving.{saved_book}
 use Rattle.frame_numbers.specs.declared.fault.RenumberFault.{RenumberFault}
 use Rattle.frame_numbers.specs.Numbering.{renumber_refusal, IsRenumberedSnapshot}
 use Rattle.state_service.specs.declared.resumed.new_frame_fault.NewFrameFault.{NewFrameFault}
-use Rattle.state_service.specs.declared.resumed.new_frame_fault.NewFrameFault.TheVariants.{NoNumber, Unfinished, NotRenumbered}
-use Rattle.state_service.specs.declared.resumed.new_frame_fault.NewFrameFault.TheVariants.{BeforeFirstFrame, NotRestored, NoMemory}
+use Rattle.state_service.specs.declared.resumed.new_frame_fault.NewFrameFault.TheVariants.{NoNumber, Unfinished, NotRenumbered, BeforeFirstFrame, NotRestored, NoMemory}
 
 -- ---- the line
 

@@ -15,8 +15,7 @@ use Rattle.plant_restart.specs.declared.fault.ChangeFault.TheVariants.{Restart}
 use Rattle.plant_restart.specs.declared.fault.RestartFault.TheVariants as restart_faults
 use Rattle.plant_restart.specs.Changing.{IsChangeFault}
 use Rattle.state_service.specs.declared.resumed.new_plant_fault.NewPlantFault.{NewPlantFault}
-use Rattle.state_service.specs.declared.resumed.new_plant_fault.NewPlantFault.TheVariants.{NotEnded, TooLong, NotText, InvalidPlant}
-use Rattle.state_service.specs.declared.resumed.new_plant_fault.NewPlantFault.TheVariants.{NotChanged, NoMemory}
+use Rattle.state_service.specs.declared.resumed.new_plant_fault.NewPlantFault.TheVariants.{NotEnded, TooLong, NotText, InvalidPlant, NotChanged, NoMemory}
 use Rattle.state_service.specs.resumed.PlantFiles.{is_ended, file_text, most_bytes, IsWhole, IsPlantFileText, IsFileOf}
 
 -- what a fault says of these lines. Each is stated where none before it in the order of the faults is there, so of those but

@@ -76,8 +76,7 @@ abbrev pub most_kept : ℕ
 most_kept = 1048579
 
 -- some lines of the file are read, and of the next line this part; the rest of the input is left
-pub record IsReadingFile (input rest : List ℕ) (first number : ℕ) (held : List ℕ) (is_long : Bool) (keeping : Keeping)
-    (bytes : List ℕ) : Type 0 where
+pub record IsReadingFile (input rest : List ℕ) (first number : ℕ) (held : List ℕ) (is_long : Bool) (keeping : Keeping) (bytes : List ℕ) : Type 0 where
   pub before : List ℕ
   pub part : List ℕ
   pub is_held : IsHeld held is_long part
@@ -103,8 +102,7 @@ IsFileKept lines keeping bytes (Ended after) = (is_ended lines ≡ true) × IsKe
 IsFileKept lines keeping bytes NotEnded = is_ended lines ≡ false
 
 -- the file of these lines is read, with the line that ends it; the rest of the input is left
-pub record IsFileRead (lines : List (List ℕ)) (rest : List ℕ) (first number : ℕ) (keeping : Keeping) (bytes : List ℕ)
-    (end : PlantFileEnd) : Type 0 where
+pub record IsFileRead (lines : List (List ℕ)) (rest : List ℕ) (first number : ℕ) (keeping : Keeping) (bytes : List ℕ) (end : PlantFileEnd) : Type 0 where
   pub is_kept : IsFileKept lines keeping bytes end
   pub left : drop (lines_taken lines) lines ≡ lines_left (break_after end) rest
   pub counted : IsNumberAfter (break_after end) (first + lines_taken lines) number
@@ -112,5 +110,4 @@ pub record IsFileRead (lines : List (List ℕ)) (rest : List ℕ) (first number 
 -- after a byte that ends the file, or after any other
 abbrev pub ReadsFileOn : FileByte → List ℕ → List ℕ → ℕ → ℕ → List ℕ → Bool → Keeping → List ℕ → Type 0
 ReadsFileOn Within input rest first number held is_long keeping bytes = IsReadingFile input rest first number held is_long keeping bytes
-ReadsFileOn Last input rest first number held is_long keeping bytes =
-    IsFileRead (lines_of input) rest first number keeping bytes (Ended Another)
+ReadsFileOn Last input rest first number held is_long keeping bytes = IsFileRead (lines_of input) rest first number keeping bytes (Ended Another)

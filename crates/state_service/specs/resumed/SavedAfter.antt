@@ -32,8 +32,7 @@ pub record IsSnapshotAfter (text lines : List ℕ) (a0 a1 old new : Option (List
   pub snapshot : IsSnapshotWritten (after_items (resumed_service plant saved) performed.answers).file live old new end
 
 -- so it is; or the service does not begin, for this reason, and nothing is written
-abbrev pub SnapshotServiceEnds : List ℕ → List ℕ → Option (List ℕ) → Option (List ℕ) → Option (List ℕ) → Option (List ℕ) → SnapshotEnd
-    → Type 0
+abbrev pub SnapshotServiceEnds : List ℕ → List ℕ → Option (List ℕ) → Option (List ℕ) → Option (List ℕ) → Option (List ℕ) → SnapshotEnd → Type 0
 SnapshotServiceEnds text lines a0 a1 old new Saved = IsSnapshotAfter text lines a0 a1 old new Saved
 SnapshotServiceEnds text lines a0 a1 old new (Unfinished why operator) = IsSnapshotAfter text lines a0 a1 old new (Unfinished why operator)
 SnapshotServiceEnds text lines a0 a1 old new NoMemory = IsSnapshotAfter text lines a0 a1 old new NoMemory
@@ -42,5 +41,4 @@ SnapshotServiceEnds text lines a0 a1 old new (NotBegun fault) = IsBeginFault tex
 -- if the input could be read, its lines are performed and the snapshot after them is written, or the service does not begin for a fault of
 -- it
 abbrev pub EndsWithSnapshot : Option (List ℕ) → Option (List ℕ) → Option (List ℕ) → Option (List ℕ) → Option (List ℕ) → SnapshotEnd → Type 0
-EndsWithSnapshot read a0 a1 old new end = IfSome read
-    (λ input. SnapshotServiceEnds (front_text input) (lines_after input) a0 a1 old new end)
+EndsWithSnapshot read a0 a1 old new end = IfSome read (λ input. SnapshotServiceEnds (front_text input) (lines_after input) a0 a1 old new end)

@@ -18,8 +18,7 @@ use Rattle.state_service.specs.declared.resumed.new_plant.WaitingItem.{WaitingIt
 use Rattle.state_service.specs.declared.resumed.new_plant.WaitingItem.TheVariants.{NewPlant, NewFrame}
 use Rattle.state_service.specs.resumed.NewFrames.{asks_frame, NamesFrame, IsCoreRenumbered}
 use Rattle.state_service.specs.resumed.PlantFiles.{file_text, lines_taken, IsFileOf, IsNumberAfter}
-use Rattle.state_service.specs.resumed.Items.{InService, IsRunSoFarOf, ItemAnswer, begins_plant, IsItemAnswer, AreItemAnswers}
-use Rattle.state_service.specs.resumed.Items.{SnapshotIsAnswered, after_items, texts_of}
+use Rattle.state_service.specs.resumed.Items.{InService, IsRunSoFarOf, ItemAnswer, begins_plant, IsItemAnswer, AreItemAnswers, SnapshotIsAnswered, after_items, texts_of}
 
 -- a run so far, with the text of the plant file in force
 abbrev pub in_service : List ℕ → PlantFields → Start → List Step → List Out → InService
@@ -42,8 +41,7 @@ pub record WritesSnapshot (file : List ℕ) (live : CoreView) (number : ℕ) (be
 
 -- Items up to some line are answered, and these lines are left: whatever answers them makes answers of the whole input, and leads to
 -- the same.
-pub record AreServedSoFar (first : InService) (input : List ℕ) (left : List (List ℕ)) (number : ℕ) (live : CoreView) (file : List ℕ)
-    (before after : Option (List ℕ)) : Type 0 where
+pub record AreServedSoFar (first : InService) (input : List ℕ) (left : List (List ℕ)) (number : ℕ) (live : CoreView) (file : List ℕ) (before after : Option (List ℕ)) : Type 0 where
   pub now : InService
   pub text : List ℕ
   pub leads : IsRunSoFarOf now.run live
@@ -54,8 +52,7 @@ pub record AreServedSoFar (first : InService) (input : List ℕ) (left : List (L
   pub written : Appends before after text
 
 -- A line `P` and the plant file after it are read, and not answered yet. The file is valid.
-pub record AwaitsPlant (first : InService) (input rest : List ℕ) (end : LineBreak) (number next : ℕ) (live : CoreView) (file text : List ℕ)
-    (plant : PlantFields) (before after : Option (List ℕ)) : Type 0 where
+pub record AwaitsPlant (first : InService) (input rest : List ℕ) (end : LineBreak) (number next : ℕ) (live : CoreView) (file text : List ℕ) (plant : PlantFields) (before after : Option (List ℕ)) : Type 0 where
   pub line : List ℕ
   pub lines : List (List ℕ)
   pub so_far : AreServedSoFar first input (line ∷ lines) number live file before after
@@ -66,15 +63,13 @@ pub record AwaitsPlant (first : InService) (input rest : List ℕ) (end : LineBr
   pub counted : IsNumberAfter end (number + 1 + lines_taken lines) next
 
 -- A line is read, and held, and not answered yet.
-pub record HoldsLine (first : InService) (input rest : List ℕ) (end : LineBreak) (number : ℕ) (live : CoreView) (file bytes : List ℕ)
-    (is_long : Bool) (before after : Option (List ℕ)) : Type 0 where
+pub record HoldsLine (first : InService) (input rest : List ℕ) (end : LineBreak) (number : ℕ) (live : CoreView) (file bytes : List ℕ) (is_long : Bool) (before after : Option (List ℕ)) : Type 0 where
   pub line : List ℕ
   pub so_far : AreServedSoFar first input (line ∷ lines_left end rest) number live file before after
   pub is_held : IsHeld bytes is_long line
 
 -- A line `N` is read, and not answered yet. This is the core's snapshot under the number that it names.
-pub record AwaitsFrame (first : InService) (input rest : List ℕ) (end : LineBreak) (number next : ℕ) (live : CoreView) (file : List ℕ)
-    (other : Snapshot) (plant : PlantFields) (before after : Option (List ℕ)) : Type 0 where
+pub record AwaitsFrame (first : InService) (input rest : List ℕ) (end : LineBreak) (number next : ℕ) (live : CoreView) (file : List ℕ) (other : Snapshot) (plant : PlantFields) (before after : Option (List ℕ)) : Type 0 where
   pub line : List ℕ
   pub so_far : AreServedSoFar first input (line ∷ lines_left end rest) number live file before after
   pub requests : asks_frame line ≡ true
@@ -85,17 +80,13 @@ pub record AwaitsFrame (first : InService) (input rest : List ℕ) (end : LineBr
   pub counted : IsNumberAfter end (number + 1) next
 
 -- an item waits for a core of this plant
-abbrev pub AwaitsCore : InService → List ℕ → List ℕ → LineBreak → ℕ → CoreView → List ℕ → WaitingItem → PlantFields → Option (List ℕ)
-    → Option (List ℕ) → Type 0
+abbrev pub AwaitsCore : InService → List ℕ → List ℕ → LineBreak → ℕ → CoreView → List ℕ → WaitingItem → PlantFields → Option (List ℕ) → Option (List ℕ) → Type 0
 AwaitsCore first input rest end number live file (NewPlant line) plant before after =
     AwaitsPlant first input rest end line.number number live file line.text.items plant before after
 AwaitsCore first input rest end number live file (NewFrame line) plant before after =
     AwaitsFrame first input rest end line.number number live file line.saved plant before after
 
 -- what is done of an item that was read
-abbrev pub IsAfterItem : InService → List ℕ → List ℕ → LineBreak → ℕ → CoreView → List ℕ → Option (List ℕ) → Option (List ℕ) → ItemOutcome
-    → Type 0
-IsAfterItem first input rest end number live file before after Answered =
-    AreServedSoFar first input (lines_left end rest) number live file before after
-IsAfterItem first input rest end number live file before after (Awaits waiting plant) =
-    AwaitsCore first input rest end number live file waiting plant before after
+abbrev pub IsAfterItem : InService → List ℕ → List ℕ → LineBreak → ℕ → CoreView → List ℕ → Option (List ℕ) → Option (List ℕ) → ItemOutcome → Type 0
+IsAfterItem first input rest end number live file before after Answered = AreServedSoFar first input (lines_left end rest) number live file before after
+IsAfterItem first input rest end number live file before after (Awaits waiting plant) = AwaitsCore first input rest end number live file waiting plant before after

@@ -14,7 +14,6 @@ use crate::durable::doing::do_lines;
 use crate::durable::fault::{DurableFault, JournalStateFault};
 use crate::durable::opening::DurableState;
 use line_journal::{Batch, Device, Journal};
-use line_service::Observer;
 use std::alloc::Global;
 
 /// Returns a batch of lines.
@@ -32,23 +31,20 @@ fn batch_of(alloc: Global, lines: &[Vec<u8>]) -> Result<Batch, JournalStateFault
 /// core. At `Err` no answer is given: end, and open the state again. The journal then has all of the lines or none.
 ///
 /// If memory runs out for a line, that is an `Err` too, since a journal that has the line would not lead to a core that has not done it.
-pub fn do_batch<D: Device, O: Observer<Vec<u8>>>(
+pub fn do_batch<D: Device>(
     alloc: Global,
     journal: &mut Journal<D>,
     service: &mut DurableState,
     lines: &[Vec<u8>],
-    observer: &mut O,
 ) -> Result<Vec<u8>, DurableFault>
     requires settled { IsJournalSettled D.seen D.may_leave journal.old.device journal.old.gate }
     requires reached { IsReachableFromStart (live_view service.old.core) }
 
     // The lines are on the disk.
     ensures acknowledged { OnOk result (IsJournalSettled D.seen D.may_leave journal.new.device journal.new.gate
-        × (journal_content (D.seen journal.new.device)
-        ≡ with_lines (texts lines.now) (journal_content (D.seen journal.old.device)))) }
+        × (journal_content (D.seen journal.new.device) ≡ with_lines (texts lines.now) (journal_content (D.seen journal.old.device)))) }
     // After whatever run led to the core, they are done, and the text is exactly that of their answers, by number.
-    ensures done { IfOk result (λ text. BehindEachRun (live_view service.old.core)
-        (λ plant start before shown. AreLinesDone plant start before shown
+    ensures done { IfOk result (λ text. BehindEachRun (live_view service.old.core) (λ plant start before shown. AreLinesDone plant start before shown
         (service.old.count + 1) (texts lines.now) (live_view service.new.core) text.items)) }
     ensures reached { OnOk result (IsReachableFromStart (live_view service.new.core)) }
     ensures count { OnOk result (service.new.count ≡ service.old.count + length lines.now) }
@@ -56,13 +52,11 @@ pub fn do_batch<D: Device, O: Observer<Vec<u8>>>(
     // The journal still leads to the core.
     ensures leads { OnOk result ((plant : PlantFields)
         → IsLeading (journal_content (D.seen journal.old.device)) plant (live_view service.old.core) service.old.count
-        → IsLeading (journal_content (D.seen journal.new.device)) plant (live_view service.new.core)
-        service.new.count) }
+        → IsLeading (journal_content (D.seen journal.new.device)) plant (live_view service.new.core) service.new.count) }
 
     // A crash at any moment of the call leaves the lines from before it, with all the new ones or with none.
     ensures any_moment { LeavesOnly D.moment D.left_since journal.old.device journal.new.device
-        (IsBeforeOrAfter (journal_content (D.seen journal.old.device))
-        (with_lines (texts lines.now) (journal_content (D.seen journal.old.device)))) }
+        (IsBeforeOrAfter (journal_content (D.seen journal.old.device)) (with_lines (texts lines.now) (journal_content (D.seen journal.old.device)))) }
 
     // `Disk` comes only if the disk has failed.
     ensures disk { result ≡ Err faults.Disk → D.faults journal.old.device < D.faults journal.new.device }
@@ -78,7 +72,6 @@ pub fn do_batch<D: Device, O: Observer<Vec<u8>>>(
         &mut service.count,
         lines,
         &mut text,
-        observer,
     )?;
     Ok(text)
 }

@@ -14,10 +14,8 @@ ghost use Rattle.state_service.specs.durable.Durable.{SaysState, LeadsTo};
 
 use crate::durable::doing::do_lines;
 use crate::durable::fault::LineFailure;
-use line_service::NoNotes;
 use plant_core::LiveCore;
 use std::alloc::Global;
-use std::io::sink;
 use tlv24::Bytes;
 
 /// Holds a service whose lines are kept in a journal.
@@ -30,8 +28,8 @@ pub struct DurableState {
     pub count: u64,
 }
 
-/// Does the lines since a saved state again, with a core that was restored from it. Their answers are written to nothing, so that no
-/// memory is needed for them. A line for which memory runs out ends it.
+/// Does the lines since a saved state again, with a core that was restored from it, and writes nothing. A line for which memory runs out
+/// ends it.
 #[tactic(auto, using(crate::proofs::DurableLemmas::LeadLemmas::restarted_reached))]
 pub fn redo_lines(
     alloc: Global,
@@ -39,8 +37,7 @@ pub fn redo_lines(
     lines: &[Vec<u8>],
 ) -> Result<(), LineFailure>
     // The core is that of a restart from a saved state.
-    requires restarted { (plant : PlantFields) × (saved : Snapshot)
-        × IsRestarted plant saved.frame (states_of saved) (live_view service.old.core) }
+    requires restarted { (plant : PlantFields) × (saved : Snapshot) × IsRestarted plant saved.frame (states_of saved) (live_view service.old.core) }
     ensures reached { OnOk result (IsReachableFromStart (live_view service.new.core)) }
     // What the journal stands for leads to the core.
     ensures leads { OnOk result ((content : JournalContent) (plant : PlantFields) (saved : Snapshot)
@@ -52,13 +49,13 @@ pub fn redo_lines(
     ensures many { result ≡ Err failures.TooManyLines → 18446744073709551615 ≤ service.old.count + length lines.now }
     ensures same { service.new.file ≡ service.old.file }
 {
+    let mut text = Vec::new(alloc);
     do_lines(
         alloc,
         &mut service.core,
         &mut service.count,
         lines,
-        &mut sink(),
-        &mut NoNotes,
+        &mut text,
     )?;
     Ok(())
 }

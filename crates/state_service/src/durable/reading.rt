@@ -96,8 +96,7 @@ pub fn read_state<D: Device>(alloc: Global, device: &mut D) -> Result<SavedState
     requires { Only (D.seen device.old) (D.may_leave device.old) }
 
     // The state and the lines that the journal has.
-    ensures found { IfOk result (λ state. StandsForState (journal_content (D.seen device.new)) state.start.count
-        state.start.plant
+    ensures found { IfOk result (λ state. StandsForState (journal_content (D.seen device.new)) state.start.count state.start.plant
         state.start.saved (texts state.lines.items)) }
     ensures same { OnOk result (journal_content (D.seen device.new) ≡ journal_content (D.seen device.old)) }
     ensures settled { IfOk result (λ state. IsJournalSettled D.seen D.may_leave device.new state.gate) }

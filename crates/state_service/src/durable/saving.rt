@@ -85,8 +85,7 @@ pub fn begin_state<D: Device>(
     file: Bytes,
 ) -> Result<SavedState, DurableFault>
     // The file has the state that is returned, and no line since.
-    ensures found { IfOk result (λ state. StandsForState (journal_content (D.seen device.new)) 0 state.start.plant
-        state.start.saved []) }
+    ensures found { IfOk result (λ state. StandsForState (journal_content (D.seen device.new)) 0 state.start.plant state.start.saved []) }
     ensures settled { IfOk result (λ state. IsJournalSettled D.seen D.may_leave device.new state.gate) }
     ensures new { IfOk result (λ state. (state.start.count ≡ 0) × (state.lines.items ≡ [])) }
     // The state opens the plant of the plant file.
@@ -143,8 +142,7 @@ pub fn snapshot_to_keep(
 pub fn state_to_keep(alloc: Global, service: &DurableState) -> Result<KeptState, JournalStateFault>
     // The state is that of the core, as it was read back. It is what the core has, if the values fit the types of a
     // machine.
-    ensures { IfOk result (λ kept. IsKeptState (live_view service.now.core) service.now.file service.now.count
-        kept.snapshot
+    ensures { IfOk result (λ kept. IsKeptState (live_view service.now.core) service.now.file service.now.count kept.snapshot
         kept.start.plant kept.start.saved) }
 {
     let saved = state_of_core(alloc, &service.core, &service.file)?;
@@ -166,11 +164,9 @@ pub fn put_snapshot<D: Device>(
     ensures acknowledged { OnOk result (IsJournalSettled D.seen D.may_leave journal.new.device journal.new.gate
         × (journal_content (D.seen journal.new.device) ≡ fresh snapshot.now)) }
     // And it leads to the core.
-    ensures leads { OnOk result ((plant : PlantFields) (saved : Snapshot)
-        → SaysState snapshot.now service.now.count plant saved
+    ensures leads { OnOk result ((plant : PlantFields) (saved : Snapshot) → SaysState snapshot.now service.now.count plant saved
         → IsAfterFrom plant (saved_start plant saved) [] [] (live_view service.now.core)
-        → IsLeading (journal_content (D.seen journal.new.device)) plant (live_view service.now.core)
-        service.now.count) }
+        → IsLeading (journal_content (D.seen journal.new.device)) plant (live_view service.now.core) service.now.count) }
 
     // A crash at any moment leaves the old state with all its lines, or the new one with none.
     ensures any_moment { LeavesOnly D.moment D.left_since journal.old.device journal.new.device

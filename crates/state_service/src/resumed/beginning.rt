@@ -8,14 +8,13 @@ ghost use Rattle.state_service.specs.resumed.Beginning.{is_snapshot_head, front_
 
 use crate::resumed::begin_fault::BeginFault;
 use crate::resumed::reading::read_front;
-use crate::resumed::watching::ServiceObserver;
 use lists::Listed;
 use plant::Plant;
 use slice_table::{PlantFault, read_plant};
 use snapshot_format::{Snapshot, SnapshotFault, read_snapshot};
 use std::alloc::Global;
 use std::io;
-use std::io::{Read, Write};
+use std::io::Read;
 use tlv24::Bytes;
 
 /// The first bytes of a snapshot of any version.
@@ -53,23 +52,12 @@ fn plant_of_file(alloc: Global, file: &[u8]) -> Result<Plant, BeginFault>
     }
 }
 
-/// Returns what a plant file begins with. The file is noted.
-fn begin_anew<W: Write, O: ServiceObserver<W>>(
-    alloc: Global,
-    text: Vec<u8>,
-    observer: &mut O,
-) -> Result<Beginning, BeginFault>
+/// Returns what a plant file begins with.
+fn begin_anew(alloc: Global, text: Vec<u8>) -> Result<Beginning, BeginFault>
     ensures ok { IfOk result (λ begun. BeginsAnew text.items begun.plant begun.saved) }
     ensures fault { IfErr result (IsFileFault text.items) }
 {
-    let plant = match plant_of_file(alloc, text.as_slice()) {
-        Ok(plant) => plant,
-        Err(fault) => {
-            observer.note_plant_file(alloc, text.as_slice(), Some(&fault));
-            return Err(fault);
-        }
-    };
-    observer.note_plant_file(alloc, text.as_slice(), None);
+    let plant = plant_of_file(alloc, text.as_slice())?;
     let frame = plant.consts().get_fields().channel.first_frame;
     let saved = Snapshot {
         plant: Bytes::from_vec(text),
@@ -101,18 +89,14 @@ fn go_on_from(alloc: Global, text: &[u8]) -> Result<Beginning, BeginFault>
 
 /// Returns the plant and the states that a text says: a snapshot where it begins as one, else a plant file.
 #[tactic(auto, using(crate::proofs::ResumedLemmas::BeginLemmas::file_fault, crate::proofs::ResumedLemmas::BeginLemmas::own_file, crate::proofs::ResumedLemmas::BeginLemmas::goes_on, crate::proofs::ResumedLemmas::BeginLemmas::anew))]
-pub(crate) fn beginning_of<W: Write, O: ServiceObserver<W>>(
-    alloc: Global,
-    text: Vec<u8>,
-    observer: &mut O,
-) -> Result<Beginning, BeginFault>
+pub(crate) fn beginning_of(alloc: Global, text: Vec<u8>) -> Result<Beginning, BeginFault>
     ensures ok { IfOk result (λ begun. IsBeginning text.items begun.plant begun.saved) }
     ensures fault { IfErr result (IsTextFault text.items) }
 {
     if is_snapshot_head(text.as_slice()) {
         go_on_from(alloc, text.as_slice())
     } else {
-        begin_anew(alloc, text, observer)
+        begin_anew(alloc, text)
     }
 }
 
@@ -127,18 +111,16 @@ fn fault_of_failed_read(error: io::Error) -> io::Result<BeginFault>
 }
 
 /// Reads the text before the lines. Returns the plant and the states that it says, or why it says none.
-pub(crate) fn read_beginning<R: Read, W: Write, O: ServiceObserver<W>>(
+pub(crate) fn read_beginning<R: Read>(
     alloc: Global,
     reader: &mut R,
-    observer: &mut O,
 ) -> io::Result<Result<Beginning, BeginFault>>
     ensures begun { IfOk result (λ read. IfOk read (λ begun. IfSome (R.remaining reader.old) (λ input.
         IsBeginningRead input (R.remaining reader.new) begun.plant begun.saved))) }
-    ensures fault { IfOk result (λ read. IfErr read
-        (λ fault. IfSome (R.remaining reader.old) (λ input. IsTextFault (front_text input) fault))) }
+    ensures fault { IfOk result (λ read. IfErr read (λ fault. IfSome (R.remaining reader.old) (λ input. IsTextFault (front_text input) fault))) }
 {
     match read_front(alloc, reader) {
-        Ok(text) => Ok(beginning_of(alloc, text, observer)),
+        Ok(text) => Ok(beginning_of(alloc, text)),
         Err(error) => Ok(Err(fault_of_failed_read(error)?)),
     }
 }

@@ -15,8 +15,8 @@ ghost use Rattle.state_service.specs.resumed.Served.{AreServedSoFar, AwaitsPlant
 
 use crate::resumed::new_plant::WaitingLine;
 use crate::resumed::new_plant_fault::NewPlantFault;
+use crate::resumed::notes::RefusalNotes;
 use crate::resumed::service::ServiceState;
-use crate::resumed::watching::ServiceObserver;
 use line_service::{LineOutcome, write_end};
 use plant_core::{LiveCore, RestFault};
 use plant_restart::{ChangeFault, RestartFault};
@@ -36,18 +36,18 @@ fn refusal_outcome(fault: &NewPlantFault) -> LineOutcome
 }
 
 /// Notes why the plant is not changed, and writes `fault: line n` or `fault: memory`.
-pub(crate) fn answer_refusal<W: Write, O: ServiceObserver<W>>(
+pub(crate) fn answer_refusal<W: Write, N: RefusalNotes>(
     alloc: Global,
     core: &LiveCore,
     number: u64,
     file: &[u8],
     fault: &NewPlantFault,
     writer: &mut W,
-    observer: &mut O,
+    notes: &mut N,
 ) -> io::Result<()>
     ensures { OnOk result (Appends (W.contents writer.old) (W.contents writer.new) (refusal_text number fault.now)) }
 {
-    observer.note_plant_refused(alloc, core, number, file, fault);
+    notes.note_refused(alloc, core, number, file, fault);
     write_end(writer, number, refusal_outcome(fault))?;
     writer.flush()
 }
@@ -56,8 +56,7 @@ pub(crate) fn answer_refusal<W: Write, O: ServiceObserver<W>>(
 #[tactic(auto, using(crate::proofs::ResumedLemmas::RefusalLemmas::not_changed, crate::proofs::ResumedLemmas::RefusalLemmas::out_of_memory))]
 fn refusal_of(why: ChangeFault) -> NewPlantFault
     // `change` runs out of memory only if the core rests and the constants are kept.
-    ensures { (live : CoreView) (plant : PlantFields) → IsChangeFault live plant why
-        → IsChangeRefusal live plant result }
+    ensures { (live : CoreView) (plant : PlantFields) → IsChangeFault live plant why → IsChangeRefusal live plant result }
 {
     match why {
         ChangeFault::Restart {
@@ -69,8 +68,7 @@ fn refusal_of(why: ChangeFault) -> NewPlantFault
 
 /// Writes `P frame N`, N being the frame before which a core rests.
 fn write_change<W: Write>(frame: Result<u32, RestFault>, writer: &mut W) -> io::Result<()>
-    ensures { OnOk result
-        (IfOk frame (λ number. Appends (W.contents writer.old) (W.contents writer.new) (change_text number))) }
+    ensures { OnOk result (IfOk frame (λ number. Appends (W.contents writer.old) (W.contents writer.new) (change_text number))) }
 {
     if let Ok(number) = frame {
         write!(writer, "P frame {number}\n")?;
@@ -81,13 +79,13 @@ fn write_change<W: Write>(frame: Result<u32, RestFault>, writer: &mut W) -> io::
 /// Answers the line `P` of this number, whose plant file has this text. If the plant was changed, the new core takes the place of
 /// the old one, the text is that of the plant file in force, and `P frame N` is written. Otherwise all stays as it is, and the
 /// fault is written.
-pub(crate) fn answer_change<W: Write, O: ServiceObserver<W>>(
+pub(crate) fn answer_change<W: Write, N: RefusalNotes>(
     alloc: Global,
     service: &mut ServiceState,
     waiting: WaitingLine,
     changed: Result<LiveCore, ChangeFault>,
     writer: &mut W,
-    observer: &mut O,
+    notes: &mut N,
 ) -> io::Result<()>
     requires reached { IsReachableFromStart (live_view service.old.core) }
     requires core { IfOk changed (λ core. IsReachableFromStart (live_view core)) }
@@ -95,11 +93,9 @@ pub(crate) fn answer_change<W: Write, O: ServiceObserver<W>>(
     ensures on { OnOk result ((first : InService) (known read written : Option (List ℕ)) (plant : PlantFields)
         → IfOk changed (λ core. IsChangeOf (live_view service.old.core) plant (live_view core))
         → IfErr changed (IsChangeFault (live_view service.old.core) plant)
-        → WhereKnown known read (λ input rest. AwaitsPlant first input rest service.old.after waiting.number
-        service.old.number
+        → WhereKnown known read (λ input rest. AwaitsPlant first input rest service.old.after waiting.number service.old.number
         (live_view service.old.core) service.old.file waiting.text.items plant written (W.contents writer.old))
-        → WhereKnown known read (λ input rest. AreServedSoFar first input (lines_left service.new.after rest)
-        service.new.number
+        → WhereKnown known read (λ input rest. AreServedSoFar first input (lines_left service.new.after rest) service.new.number
         (live_view service.new.core) service.new.file written (W.contents writer.new))) }
 {
     match changed {
@@ -117,7 +113,7 @@ pub(crate) fn answer_change<W: Write, O: ServiceObserver<W>>(
             waiting.text.as_slice(),
             &refusal_of(why),
             writer,
-            observer,
+            notes,
         ),
     }
 }

@@ -3,8 +3,7 @@
 ghost use Rattle.state_service.specs.resumed.Items.{ServiceIsOfChanges, ServiceIsOfRuns};
 
 /// States that a service is one run after the other, each from where the one before it ended: its plant is changed, or its frames
-/// get other numbers, of which an operator notices these numbers alone (`renumbering_is_not_noticed`). What a run has output is
-/// shown to each operator as its own machine run alone has it, and in order, whatever lines of others were invalid.
+/// get other numbers, of which an operator notices these numbers alone (`renumbering_is_not_noticed`).
 pub fn service_is_of_runs()
     ensures { ServiceIsOfRuns }
 {}

@@ -19,8 +19,8 @@ ghost use Rattle.state_service.specs.resumed.Served.{AreServedSoFar, HoldsLine, 
 use crate::resumed::items::saved_core;
 use crate::resumed::new_frame_fault::NewFrameFault;
 use crate::resumed::new_plant::{ItemOutcome, WaitingFrame, WaitingItem};
+use crate::resumed::notes::RefusalNotes;
 use crate::resumed::service::{ServiceState, number_after};
-use crate::resumed::watching::ServiceObserver;
 use frame_numbers::{RenumberFault, renumber};
 use itoa::Buffer;
 use line_service::{LineBreak, LineBuffer, LineOutcome, write_end};
@@ -131,37 +131,34 @@ fn frame_refusal_outcome(fault: &NewFrameFault) -> LineOutcome
 }
 
 /// Notes why the next frame does not get the number, and writes `fault: line n` or `fault: memory`.
-fn answer_frame_refusal<W: Write, O: ServiceObserver<W>>(
+fn answer_frame_refusal<W: Write, N: RefusalNotes>(
     alloc: Global,
     number: u64,
     plant: &Plant,
     fault: &NewFrameFault,
     writer: &mut W,
-    observer: &mut O,
+    notes: &mut N,
 ) -> io::Result<()>
-    ensures { OnOk result (Appends (W.contents writer.old) (W.contents writer.new)
-        (frame_refusal_text number fault.now)) }
+    ensures { OnOk result (Appends (W.contents writer.old) (W.contents writer.new) (frame_refusal_text number fault.now)) }
 {
-    observer.note_frame_refused(alloc, number, plant, fault);
+    notes.note_frame_refused(alloc, number, plant, fault);
     write_end(writer, number, frame_refusal_outcome(fault))?;
     writer.flush()
 }
 
 /// Answers the line `N` that was read, unless the core can have the number that it names.
-pub(crate) fn take_frame<W: Write, O: ServiceObserver<W>>(
+pub(crate) fn take_frame<W: Write, N: RefusalNotes>(
     alloc: Global,
     service: &mut ServiceState,
     after: LineBreak,
     writer: &mut W,
-    observer: &mut O,
+    notes: &mut N,
 ) -> io::Result<ItemOutcome>
-    requires asks { (line : List ℕ) → IsHeld service.old.held.bytes.items service.old.held.is_long line
-        → asks_frame line ≡ true }
+    requires asks { (line : List ℕ) → IsHeld service.old.held.bytes.items service.old.held.is_long line → asks_frame line ≡ true }
     requires whole { service.old.held.is_long ≡ false }
     ensures core { OnOk result (service.new.core ≡ service.old.core) }
     ensures on { IfOk result (λ outcome. (first : InService) (known read written : Option (List ℕ))
-        → WhereKnown known read (λ input rest. HoldsLine first input rest after service.old.number
-        (live_view service.old.core)
+        → WhereKnown known read (λ input rest. HoldsLine first input rest after service.old.number (live_view service.old.core)
         service.old.file service.old.held.bytes.items service.old.held.is_long written (W.contents writer.old))
         → WhereKnown known read (λ input rest. IsAfterItem first input rest service.new.after service.new.number
         (live_view service.new.core) service.new.file written (W.contents writer.new) outcome)) }
@@ -185,14 +182,7 @@ pub(crate) fn take_frame<W: Write, O: ServiceObserver<W>>(
             plant: other.plant,
         }),
         Err(fault) => {
-            answer_frame_refusal(
-                alloc,
-                number,
-                service.core.plant(),
-                &fault,
-                writer,
-                observer,
-            )?;
+            answer_frame_refusal(alloc, number, service.core.plant(), &fault, writer, notes)?;
             Ok(ItemOutcome::Answered)
         }
     }
@@ -222,13 +212,13 @@ fn write_frame<W: Write>(frame: u32, writer: &mut W) -> io::Result<()>
 /// Answers the line `N` of this number, of which this is the snapshot of the core under the number that it names. If a core is
 /// restored from it, that core takes the place of the old one, and `N frame n` is written. Otherwise all stays as it is, and the
 /// fault is written.
-pub(crate) fn answer_frame<W: Write, O: ServiceObserver<W>>(
+pub(crate) fn answer_frame<W: Write, N: RefusalNotes>(
     alloc: Global,
     service: &mut ServiceState,
     waiting: WaitingFrame,
     restored: Result<LiveCore, RestoreFault>,
     writer: &mut W,
-    observer: &mut O,
+    notes: &mut N,
 ) -> io::Result<()>
     requires reached { IsReachableFromStart (live_view service.old.core) }
     requires core { IfOk restored (λ core. IsReachableFromStart (live_view core)) }
@@ -236,11 +226,9 @@ pub(crate) fn answer_frame<W: Write, O: ServiceObserver<W>>(
     ensures on { OnOk result ((first : InService) (known read written : Option (List ℕ)) (plant : PlantFields)
         → IfOk restored (λ core. IsRestarted plant waiting.saved.frame (states_of waiting.saved) (live_view core))
         → IfErr restored (IsRestoreFault plant waiting.saved.frame (states_of waiting.saved))
-        → WhereKnown known read (λ input rest. AwaitsFrame first input rest service.old.after waiting.number
-        service.old.number
+        → WhereKnown known read (λ input rest. AwaitsFrame first input rest service.old.after waiting.number service.old.number
         (live_view service.old.core) service.old.file waiting.saved plant written (W.contents writer.old))
-        → WhereKnown known read (λ input rest. AreServedSoFar first input (lines_left service.new.after rest)
-        service.new.number
+        → WhereKnown known read (λ input rest. AreServedSoFar first input (lines_left service.new.after rest) service.new.number
         (live_view service.new.core) service.new.file written (W.contents writer.new))) }
 {
     match restored {
@@ -255,7 +243,7 @@ pub(crate) fn answer_frame<W: Write, O: ServiceObserver<W>>(
             service.core.plant(),
             &start_refusal(why),
             writer,
-            observer,
+            notes,
         ),
     }
 }

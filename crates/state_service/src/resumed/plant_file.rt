@@ -54,10 +54,8 @@ fn take_byte(
     byte: u8,
 ) -> io::Result<FileByte>
     ensures { IfOk result (λ taken. (first : ℕ) (input rest : List ℕ)
-        → IsReadingFile input (byte ∷ rest) first number.old held.old.bytes.items held.old.is_long text.old.keeping
-        text.old.bytes.items
-        → ReadsFileOn taken input rest first number.new held.new.bytes.items held.new.is_long text.new.keeping
-        text.new.bytes.items) }
+        → IsReadingFile input (byte ∷ rest) first number.old held.old.bytes.items held.old.is_long text.old.keeping text.old.bytes.items
+        → ReadsFileOn taken input rest first number.new held.new.bytes.items held.new.is_long text.new.keeping text.new.bytes.items) }
 {
     if byte != b'\n' {
         held.push(byte)?;
@@ -77,8 +75,7 @@ fn take_byte(
 /// Returns how a plant file ends at the end of the input, after this part of its last line.
 fn end_of_input(held: &LineBuffer, text: &mut KeptText) -> PlantFileEnd
     ensures { (first number : ℕ) (input : List ℕ)
-        → IsReadingFile input [] first number held.now.bytes.items held.now.is_long text.old.keeping
-        text.old.bytes.items
+        → IsReadingFile input [] first number held.now.bytes.items held.now.is_long text.old.keeping text.old.bytes.items
         → IsFileRead (lines_of input) [] first number text.new.keeping text.new.bytes.items result }
 {
     if is_held(held, b"---") {
@@ -129,8 +126,7 @@ pub(crate) fn read_plant_file<R: Read>(
 ) -> io::Result<PlantFileEnd>
     requires { IsKeptUpTo most_kept text.old.keeping text.old.bytes.items [] }
     ensures { IfOk result (λ end. WhereKnown (R.remaining reader.old) (R.remaining reader.new) (λ input rest.
-        IsFileRead (lines_left after input) rest (number.old + 1) number.new text.new.keeping text.new.bytes.items
-        end)) }
+        IsFileRead (lines_left after input) rest (number.old + 1) number.new text.new.keeping text.new.bytes.items end)) }
 {
     match after {
         LineBreak::End => Ok(PlantFileEnd::NotEnded),
@@ -145,10 +141,8 @@ pub(crate) fn read_plant_file<R: Read>(
 /// Parses the text of a plant file that is ended and whole.
 #[tactic(auto, using(crate::proofs::ResumedLemmas::BeginLemmas::no_text, crate::proofs::ResumedLemmas::PlantFileLemmas::valid_file, crate::proofs::ResumedLemmas::PlantFileLemmas::invalid_file))]
 fn plant_of_text(alloc: Global, text: &[u8]) -> Result<Plant, NewPlantFault>
-    ensures ok { IfOk result (λ plant. (lines : List (List ℕ)) → IsWhole lines → text.now ≡ file_text lines
-        → IsFileOf lines plant) }
-    ensures fault { IfErr result (λ fault. (lines : List (List ℕ)) → IsWhole lines → text.now ≡ file_text lines
-        → IsNewFileFault lines fault) }
+    ensures ok { IfOk result (λ plant. (lines : List (List ℕ)) → IsWhole lines → text.now ≡ file_text lines → IsFileOf lines plant) }
+    ensures fault { IfErr result (λ fault. (lines : List (List ℕ)) → IsWhole lines → text.now ≡ file_text lines → IsNewFileFault lines fault) }
 {
     let text = match str::from_utf8(text) {
         Ok(text) => text,
@@ -167,11 +161,9 @@ pub(crate) fn plant_of_file(
     text: &KeptText,
     end: PlantFileEnd,
 ) -> Result<Plant, NewPlantFault>
-    ensures ok { IfOk result (λ plant. (lines : List (List ℕ))
-        → IsFileKept lines text.now.keeping text.now.bytes.items end
+    ensures ok { IfOk result (λ plant. (lines : List (List ℕ)) → IsFileKept lines text.now.keeping text.now.bytes.items end
         → IsFileOf lines plant × (text.now.bytes.items ≡ file_text lines)) }
-    ensures fault { IfErr result (λ fault. (lines : List (List ℕ))
-        → IsFileKept lines text.now.keeping text.now.bytes.items end
+    ensures fault { IfErr result (λ fault. (lines : List (List ℕ)) → IsFileKept lines text.now.keeping text.now.bytes.items end
         → IsNewFileFault lines fault) }
 {
     match (end, text.keeping) {

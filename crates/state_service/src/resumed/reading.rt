@@ -23,8 +23,7 @@ const MOST_RECORD_BYTES: usize = 1_073_741_824;
 /// bytes, or states of more than 1 GiB.
 pub(crate) fn read_front<R: Read>(alloc: Global, reader: &mut R) -> io::Result<Vec<u8>>
     ensures text { IfOk result (λ text. IfSome (R.remaining reader.old) (λ input. text.items ≡ front_text input)) }
-    ensures lines { OnOk result (IfSome (R.remaining reader.old)
-        (λ input. R.remaining reader.new ≡ Some (lines_after input))) }
+    ensures lines { OnOk result (IfSome (R.remaining reader.old) (λ input. R.remaining reader.new ≡ Some (lines_after input))) }
 {
     let mut text = read_to_bar(alloc, reader, MOST_FRONT_BYTES)?;
     if !is_snapshot_head(text.as_slice()) {

@@ -9,8 +9,8 @@ ghost use Rattle.state_service.specs.resumed.SavedAfter.{IsSnapshotWritten, Ends
 use crate::resumed::begin_fault::BeginFault;
 use crate::resumed::beginning::read_beginning;
 use crate::resumed::last_state::{AtEnd, BegunEnd, LastState};
+use crate::resumed::notes::RefusalNotes;
 use crate::resumed::serving::serve_begun;
-use crate::resumed::watching::ServiceObserver;
 use plant::OperatorName;
 use plant_core::RestFault;
 use std::alloc::Global;
@@ -58,24 +58,23 @@ fn write_last<W: Write>(last: LastState, writer: &mut W) -> io::Result<SnapshotE
 ///
 /// If the plant does not rest before a frame then, no snapshot is written. So it is where memory runs out for the snapshot, and where
 /// the service does not begin. An error is one of the reader's or of a writer's; then no clause says what is written.
-pub fn snapshot_after<R: BufRead, A: Write, W: Write, O: ServiceObserver<A>>(
+pub fn snapshot_after<R: BufRead, A: Write, W: Write, N: RefusalNotes>(
     alloc: Global,
     reader: &mut R,
     answers: &mut A,
     writer: &mut W,
-    observer: &mut O,
+    notes: &mut N,
 ) -> io::Result<SnapshotEnd>
     // The lines have the answers of `resume`, and the snapshot is that of the core after the last one. If it does not
     // rest, the reason and the operator's name are returned.
-    ensures { IfOk result (λ end. EndsWithSnapshot (R.remaining reader.old) (A.contents answers.old)
-        (A.contents answers.new)
+    ensures { IfOk result (λ end. EndsWithSnapshot (R.remaining reader.old) (A.contents answers.old) (A.contents answers.new)
         (W.contents writer.old) (W.contents writer.new) end) }
 {
-    let begun = match read_beginning(alloc, reader, observer)? {
+    let begun = match read_beginning(alloc, reader)? {
         Ok(begun) => begun,
         Err(fault) => return Ok(SnapshotEnd::NotBegun { fault }),
     };
-    match serve_begun(alloc, begun, AtEnd::Snapshot, reader, answers, observer)? {
+    match serve_begun(alloc, begun, AtEnd::Snapshot, reader, answers, notes)? {
         BegunEnd::Served { last } => write_last(last, writer),
         BegunEnd::NotBegun { fault } => Ok(SnapshotEnd::NotBegun { fault }),
     }

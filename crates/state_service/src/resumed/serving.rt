@@ -29,9 +29,9 @@ use crate::resumed::kept_text::KeptText;
 use crate::resumed::last_state::{AtEnd, BegunEnd, last_state};
 use crate::resumed::new_frame::{answer_frame, asks_frame, take_frame};
 use crate::resumed::new_plant::{ItemOutcome, WaitingItem, WaitingLine};
+use crate::resumed::notes::RefusalNotes;
 use crate::resumed::plant_file::{break_after, plant_of_file, read_plant_file};
 use crate::resumed::service::{ServiceState, number_after};
-use crate::resumed::watching::ServiceObserver;
 use line_service::{LineBreak, LineBuffer, read_line};
 use plant_restart::{RestartFault, RestoreFault, change, restore};
 use std::alloc::Global;
@@ -48,21 +48,19 @@ pub enum ServiceEnd {
 }
 
 /// Reads the plant file after a line `P`, and answers that line unless the file is valid.
-fn take_plant_file<R: BufRead, W: Write, O: ServiceObserver<W>>(
+fn take_plant_file<R: BufRead, W: Write, N: RefusalNotes>(
     alloc: Global,
     service: &mut ServiceState,
     after: LineBreak,
     reader: &mut R,
     writer: &mut W,
-    observer: &mut O,
+    notes: &mut N,
 ) -> io::Result<ItemOutcome>
     ensures core { OnOk result (service.new.core ≡ service.old.core) }
     ensures on { IfOk result (λ outcome. (first : InService) (known written : Option (List ℕ))
-        → WhereKnown known (R.remaining reader.old)
-        (λ input rest. AreServedSoFar first input (codes "P" ∷ lines_left after rest)
+        → WhereKnown known (R.remaining reader.old) (λ input rest. AreServedSoFar first input (codes "P" ∷ lines_left after rest)
         service.old.number (live_view service.old.core) service.old.file written (W.contents writer.old))
-        → WhereKnown known (R.remaining reader.new)
-        (λ input rest. IsAfterItem first input rest service.new.after service.new.number
+        → WhereKnown known (R.remaining reader.new) (λ input rest. IsAfterItem first input rest service.new.after service.new.number
         (live_view service.new.core) service.new.file written (W.contents writer.new) outcome)) }
 {
     let number = service.number;
@@ -87,37 +85,35 @@ fn take_plant_file<R: BufRead, W: Write, O: ServiceObserver<W>>(
         }),
         Err(fault) => {
             let file = text.bytes.as_slice();
-            answer_refusal(alloc, &service.core, number, file, &fault, writer, observer)?;
+            answer_refusal(alloc, &service.core, number, file, &fault, writer, notes)?;
             Ok(ItemOutcome::Answered)
         }
     }
 }
 
 /// Reads an item of the input, and answers it unless it waits for another core.
-fn serve_item<R: BufRead, W: Write, O: ServiceObserver<W>>(
+fn serve_item<R: BufRead, W: Write, N: RefusalNotes>(
     alloc: Global,
     service: &mut ServiceState,
     reader: &mut R,
     writer: &mut W,
-    observer: &mut O,
+    notes: &mut N,
 ) -> io::Result<ItemOutcome>
     requires reached { IsReachableFromStart (live_view service.old.core) }
     ensures reached { OnOk result (IsReachableFromStart (live_view service.new.core)) }
     ensures on { IfOk result (λ outcome. (first : InService) (known written : Option (List ℕ))
         → WhereKnown known (R.remaining reader.old) (λ input rest. AreServedSoFar first input (lines_of rest)
         service.old.number (live_view service.old.core) service.old.file written (W.contents writer.old))
-        → WhereKnown known (R.remaining reader.new)
-        (λ input rest. IsAfterItem first input rest service.new.after service.new.number
+        → WhereKnown known (R.remaining reader.new) (λ input rest. IsAfterItem first input rest service.new.after service.new.number
         (live_view service.new.core) service.new.file written (W.contents writer.new) outcome)) }
 {
     service.held.clear();
     let after = read_line(reader, &mut service.held)?;
-    observer.note_line(service.number, writer);
     if is_held(&service.held, b"P") {
-        return take_plant_file(alloc, service, after, reader, writer, observer);
+        return take_plant_file(alloc, service, after, reader, writer, notes);
     }
     if asks_frame(&service.held) {
-        return take_frame(alloc, service, after, writer, observer);
+        return take_frame(alloc, service, after, writer, notes);
     }
     answer_item(
         alloc,
@@ -125,7 +121,6 @@ fn serve_item<R: BufRead, W: Write, O: ServiceObserver<W>>(
         &service.file,
         service.number,
         &service.held,
-        observer,
         writer,
     )?;
     service.number = number_after(after, service.number)?;
@@ -146,7 +141,7 @@ fn is_memory(why: &RestoreFault) -> bool
 }
 
 /// Returns the reason for which a service does not begin, if its states are refused.
-pub(crate) fn restore_fault(why: RestoreFault) -> BeginFault
+fn restore_fault(why: RestoreFault) -> BeginFault
     ensures { (plant : PlantFields) (saved : Snapshot)
         → IsRestoreFault plant saved.frame (states_of saved) why → IsRestoringFault plant saved result }
 {
@@ -168,16 +163,15 @@ fn end_without_memory() -> io::Result<BegunEnd>
 
 /// Serves a plant that goes on in its saved states, each operator by the policy of its row. Makes of the last core what `at_end`
 /// says.
-pub(crate) fn serve_begun<R: BufRead, W: Write, O: ServiceObserver<W>>(
+pub(crate) fn serve_begun<R: BufRead, W: Write, N: RefusalNotes>(
     alloc: Global,
     begun: Beginning,
     at_end: AtEnd,
     reader: &mut R,
     writer: &mut W,
-    observer: &mut O,
+    notes: &mut N,
 ) -> io::Result<BegunEnd>
-    ensures { IfOk result (λ end. EndsBegun at_end begun.plant begun.saved (R.remaining reader.old)
-        (W.contents writer.old)
+    ensures { IfOk result (λ end. EndsBegun at_end begun.plant begun.saved (R.remaining reader.old) (W.contents writer.old)
         (W.contents writer.new) end) }
 {
     let Beginning { plant, saved } = begun;
@@ -201,7 +195,7 @@ pub(crate) fn serve_begun<R: BufRead, W: Write, O: ServiceObserver<W>>(
             }
             LineBreak::Another => {}
         }
-        let (waiting, plant) = match serve_item(alloc, &mut service, reader, writer, observer)? {
+        let (waiting, plant) = match serve_item(alloc, &mut service, reader, writer, notes)? {
             ItemOutcome::Answered => continue,
             ItemOutcome::Awaits { waiting, plant } => (waiting, plant),
         };
@@ -209,47 +203,46 @@ pub(crate) fn serve_begun<R: BufRead, W: Write, O: ServiceObserver<W>>(
             WaitingItem::NewPlant { line } => line,
             WaitingItem::NewFrame { line } => {
                 let restored = restore(alloc, plant, &line.saved);
-                answer_frame(alloc, &mut service, line, restored, writer, observer)?;
+                answer_frame(alloc, &mut service, line, restored, writer, notes)?;
                 continue;
             }
         };
         let changed = change(alloc, &service.core, plant);
-        answer_change(alloc, &mut service, line, changed, writer, observer)?;
+        answer_change(alloc, &mut service, line, changed, writer, notes)?;
     }
     Err(io::Error::from(io::ErrorKind::Other))
 }
 
 /// Serves a plant that begins with a plant file or with a snapshot, up to the end of the input. Reads the text before the first
 /// line of three dashes, and if it is a snapshot, that before the second one. Answers each line after it before it reads the
-/// next. A line of a script is answered as `answer_line` does, and the line `K` by a snapshot with the text of the plant file. Lines are counted
+/// next. A line of a script is answered as `serve` does, and the line `K` by a snapshot with the text of the plant file. Lines are counted
 /// from 1, empty ones too.
 ///
 /// The line `P` begins a plant file, up to the next line of three dashes. The plant is changed to that of the file, with `change`,
-/// and `P frame N` is answered. If it cannot be changed, it stays as it is: the observer is shown the reason, and the answer is the
+/// and `P frame N` is answered. If it cannot be changed, it stays as it is: `notes` has the reason, and the answer is the
 /// line `P` as an invalid line, or `fault: memory`. In each case the lines of the file are counted and no lines of a script.
 ///
 /// A line that begins with `N` names a number, which the next frame gets: the plant goes on from its snapshot under that number,
-/// with `renumber`, and `N frame n` is answered. If it cannot have that number, all stays as it is, the observer is shown the reason,
-/// and the line is answered as an invalid one, or by `fault: memory`.
+/// with `renumber`, and `N frame n` is answered. If it cannot have that number, all stays as it is, `notes` has the reason, and
+/// the line is answered as an invalid one, or by `fault: memory`.
 ///
 /// Where the service does not begin, nothing is written. An error is one of the reader's or of the writer's; then no clause says
 /// what is written.
-pub fn resume<R: BufRead, W: Write, O: ServiceObserver<W>>(
+pub fn resume<R: BufRead, W: Write, N: RefusalNotes>(
     alloc: Global,
     reader: &mut R,
     writer: &mut W,
-    observer: &mut O,
+    notes: &mut N,
 ) -> io::Result<ServiceEnd>
     // The service runs, or it does not begin and the fault holds. This is if no read and no write fails. No clause says
-    // what the observer is shown, or which texts before the lines are too long.
-    ensures { IfOk result (λ end. EndsInput (R.remaining reader.old) (W.contents writer.old) (W.contents writer.new)
-        end) }
+    // which reasons `notes` gets, or which texts before the lines are too long.
+    ensures { IfOk result (λ end. EndsInput (R.remaining reader.old) (W.contents writer.old) (W.contents writer.new) end) }
 {
-    let begun = match read_beginning(alloc, reader, observer)? {
+    let begun = match read_beginning(alloc, reader)? {
         Ok(begun) => begun,
         Err(fault) => return Ok(ServiceEnd::NotBegun { fault }),
     };
-    match serve_begun(alloc, begun, AtEnd::Nothing, reader, writer, observer)? {
+    match serve_begun(alloc, begun, AtEnd::Nothing, reader, writer, notes)? {
         BegunEnd::Served { last: _last } => Ok(ServiceEnd::Served),
         BegunEnd::NotBegun { fault } => Ok(ServiceEnd::NotBegun { fault }),
     }

@@ -60,8 +60,8 @@ fn both_begin(alloc: Global, kept: &mut Kept) -> Result<bool, AllocError> {
 /// Returns whether a tick sends so many responses again, and abandons so many.
 fn ticks(alloc: Global, kept: &mut Kept, resent: usize, given_up: usize) -> bool {
     match &again!(kept.tick(alloc)) {
-        Ok(tick) => {
-            tick.resend.as_slice().len() == resent && tick.given_up.as_slice().len() == given_up
+        Ok(told) => {
+            told.resend.as_slice().len() == resent && told.given_up.as_slice().len() == given_up
         }
         Err(_) => false,
     }

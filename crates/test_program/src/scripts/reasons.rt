@@ -1,7 +1,8 @@
 //! Reasons of the library that no case of `tests/` has: of statuses, and of an invalid plant that
 //! is said to be well.
 
-use diagnostics::{BatchWord, RunReport, Trouble, reason_of, reason_of_trouble};
+use command_line::{BatchWord, RunReport, Word};
+use diagnostics::{Trouble, reason_of, reason_of_trouble};
 use std::test::Fail;
 use test_plants::{PLANT, replace_first};
 
@@ -14,7 +15,12 @@ fn a_key_of_a_flow_that_nothing_reads(rt: HostRuntime) -> Result<(), Fail> {
         "policy = \"strict\"\nflow = [{ modem = \"020000000001\", encoding = \"\", colour = 1 }]\n";
     let plant = replace_first(alloc, PLANT, policy, flow)?;
     let input = format!(in alloc; "{plant}---\nT\n")?;
-    let reason = reason_of(alloc, BatchWord::Run(RunReport::Outputs), input.as_str(), 0)?;
+    let reason = reason_of(
+        alloc,
+        Word::Batch(BatchWord::Run(RunReport::Outputs)),
+        input.as_str(),
+        0,
+    )?;
     let wanted = "warning: line 21: unknown key operator[0].flow[0].colour\n";
     assert_eq!(rt; reason.as_str(), wanted);
     Ok(())

@@ -35,11 +35,11 @@ fn refuses_stranger<R: Wait>(rt: &R, alloc: Global, cell: &PassedCell, pass: &mu
     requires { IsOfCell (cell_of cell.now) (pass_of pass.old) }
     ensures { IsOfCell (cell_of cell.now) (pass_of pass.new) }
 {
-    let request = Heard::Request {
+    let heard = Heard::Request {
         sid: 257,
         minislots: 1,
     };
-    let answer = cell.arrive(rt, alloc, pass, STRANGER, request);
+    let answer = cell.arrive(rt, alloc, pass, STRANGER, heard);
     answer.err() == Some(CellFault::Book(BookFault::NotMine { modem: STRANGER }))
 }
 
@@ -48,8 +48,8 @@ fn arrives<R: Wait>(rt: &R, alloc: Global, cell: &PassedCell, pass: &mut Pass) -
     requires { IsOfCell (cell_of cell.now) (pass_of pass.old) }
     ensures { IsOfCell (cell_of cell.now) (pass_of pass.new) }
 {
-    let message = addition(alloc)?;
-    let receipt = cell.arrive(rt, alloc, pass, MODEM, message).ok()?;
+    let heard = addition(alloc)?;
+    let receipt = cell.arrive(rt, alloc, pass, MODEM, heard).ok()?;
     if receipt.outputs.as_slice().is_empty() {
         Some(receipt.index)
     } else {
@@ -119,23 +119,23 @@ fn meets<R: Wait>(
     alloc: Global,
     cell: &PassedCell,
     teller: &mut Pass,
-    other: &mut Pass,
+    told: &mut Pass,
 ) -> Option<(usize, usize, usize)>
-    requires { IsOfCell (cell_of cell.now) (pass_of teller.old) × IsOfCell (cell_of cell.now) (pass_of other.old) }
+    requires { IsOfCell (cell_of cell.now) (pass_of teller.old) × IsOfCell (cell_of cell.now) (pass_of told.old) }
 {
     let first = place(cell.work(rt, alloc, teller))?;
     let second = place(cell.tick(rt, alloc, teller))?;
-    cell.meet(other, teller).ok()?;
-    Some((first, second, place(cell.tick(rt, alloc, other))?))
+    cell.meet(told, teller).ok()?;
+    Some((first, second, place(cell.tick(rt, alloc, told))?))
 }
 
 #[test]
 fn a_pass_is_told_what_another_saw(rt: HostRuntime) -> Result<(), Fail> {
     let alloc = rt.alloc();
     let book = book_from(alloc, FIRST, strict!(alloc)).ok_or("no book")?;
-    let (cell, mut teller, mut other) = with_two(alloc, book).ok_or("no cell")?;
+    let (cell, mut teller, mut told) = with_two(alloc, book).ok_or("no cell")?;
     assert_eq!(rt;
-        meets(&rt, alloc, &cell, &mut teller, &mut other),
+        meets(&rt, alloc, &cell, &mut teller, &mut told),
         Some((0, 1, 2))
     );
     Ok(())

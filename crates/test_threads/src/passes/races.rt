@@ -21,17 +21,17 @@ fn stands(alloc: Global, history: &[Entry], receipt: &Receipt) -> Option<bool> {
     let Some(entry) = history.get(receipt.index) else {
         return Some(false);
     };
-    let reported = format!(in alloc; "{:?} {:?}", receipt.action, receipt.outputs).ok()?;
-    let recorded = format!(in alloc; "{:?} {:?}", entry.action, entry.outputs).ok()?;
-    Some(reported.as_str() == recorded.as_str())
+    let told = format!(in alloc; "{:?} {:?}", receipt.action, receipt.outputs).ok()?;
+    let kept = format!(in alloc; "{:?} {:?}", entry.action, entry.outputs).ok()?;
+    Some(told.as_str() == kept.as_str())
 }
 
 /// Returns whether each receipt is in a history, and each entry has one.
 fn fit(alloc: Global, history: &[Entry], receipts: &[Receipt]) -> Option<bool> {
-    let mut has_receipt = vec![in alloc; false; history.len()].ok()?;
+    let mut told = vec![in alloc; false; history.len()].ok()?;
     for receipt in receipts {
-        match has_receipt.get_mut(receipt.index) {
-            Some(seen) if !*seen => *seen = true,
+        match told.get_mut(receipt.index) {
+            Some(place) if !*place => *place = true,
             _ => return Some(false),
         }
         if !stands(alloc, history, receipt)? {
@@ -154,16 +154,16 @@ fn eight_threads_with_sixty_four_passes(rt: HostRuntime) -> Result<(), Fail> {
 }
 
 /// Shows a pass what two others have seen, so that what it has seen begins with what either had.
-fn tell_both(cell: &PassedCell, third: &mut Pass, one: &mut Pass, other: &mut Pass) -> Option<()>
-    requires third { IsOfCell (cell_of cell.now) (pass_of third.old) }
+fn tell_both(cell: &PassedCell, told: &mut Pass, one: &mut Pass, other: &mut Pass) -> Option<()>
+    requires told { IsOfCell (cell_of cell.now) (pass_of told.old) }
     requires one { IsOfCell (cell_of cell.now) (pass_of one.old) }
     requires other { IsOfCell (cell_of cell.now) (pass_of other.old) }
-    ensures of { IsOfCell (cell_of cell.now) (pass_of third.new) }
-    ensures one { IfSome result (λ _. StartsWith (pass_of third.new).seen (pass_of one.old).seen) }
-    ensures other { IfSome result (λ _. StartsWith (pass_of third.new).seen (pass_of other.old).seen) }
+    ensures of { IsOfCell (cell_of cell.now) (pass_of told.new) }
+    ensures one { IfSome result (λ _. StartsWith (pass_of told.new).seen (pass_of one.old).seen) }
+    ensures other { IfSome result (λ _. StartsWith (pass_of told.new).seen (pass_of other.old).seen) }
 {
-    cell.meet(third, one).ok()?;
-    cell.meet(third, other).ok()?;
+    cell.meet(told, one).ok()?;
+    cell.meet(told, other).ok()?;
     Some(())
 }
 
@@ -172,16 +172,16 @@ fn after_both<R: Wait>(
     rt: &R,
     alloc: Global,
     cell: &PassedCell,
-    mut third: Pass,
+    mut told: Pass,
     mut passes: Vec<Pass>,
 ) -> Option<usize>
-    requires third { IsOfCell (cell_of cell.now) (pass_of third) }
+    requires told { IsOfCell (cell_of cell.now) (pass_of told) }
     requires passes { All (λ p. IsOfCell (cell_of cell.now) (pass_of p)) passes.items }
 {
     let mut one = next_of(cell, &mut passes)?;
     let mut other = next_of(cell, &mut passes)?;
-    tell_both(cell, &mut third, &mut one, &mut other)?;
-    Some(cell.tick(rt, alloc, &mut third).ok()?.index)
+    tell_both(cell, &mut told, &mut one, &mut other)?;
+    Some(cell.tick(rt, alloc, &mut told).ok()?.index)
 }
 
 #[test]

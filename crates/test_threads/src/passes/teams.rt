@@ -33,7 +33,7 @@ fn call<R: Wait>(
 {
     match turn % 3 {
         0 => match addition(alloc) {
-            Some(message) => cell.arrive(rt, alloc, pass, MODEM, message),
+            Some(heard) => cell.arrive(rt, alloc, pass, MODEM, heard),
             None => Err(CellFault::Book(BookFault::NoMemory)),
         },
         1 => cell.work(rt, alloc, pass),
@@ -160,8 +160,7 @@ fn next_team(cell: &PassedCell, teams: &mut Vec<Team>) -> Option<Team>
 
 /// Returns some passes, and more of the same cell.
 fn with_more(cell: &PassedCell, mut passes: Vec<Pass>, mut more: Vec<Pass>) -> Option<Vec<Pass>>
-    requires { All (λ p. IsOfCell (cell_of cell.now) (pass_of p)) passes.items
-        × All (λ p. IsOfCell (cell_of cell.now) (pass_of p)) more.items }
+    requires { All (λ p. IsOfCell (cell_of cell.now) (pass_of p)) passes.items × All (λ p. IsOfCell (cell_of cell.now) (pass_of p)) more.items }
     ensures { IfSome result (λ all. All (λ p. IsOfCell (cell_of cell.now) (pass_of p)) all.items) }
 {
     match passes.append(&mut more) {

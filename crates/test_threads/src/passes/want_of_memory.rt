@@ -40,11 +40,11 @@ fn arrive<R: Wait>(
     requires { IsOfCell (cell_of cell.now) (pass_of pass.old) }
     ensures { IsOfCell (cell_of cell.now) (pass_of pass.new) }
 {
-    let request = Heard::Request {
+    let heard = Heard::Request {
         sid: 257,
         minislots: 1,
     };
-    cell.arrive(rt, alloc, pass, MODEM, request)
+    cell.arrive(rt, alloc, pass, MODEM, heard)
 }
 
 /// Returns whether a receipt is reported at this place: nothing where it is reported at another.

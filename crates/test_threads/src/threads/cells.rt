@@ -37,8 +37,8 @@ pub(crate) fn arrives<R: Wait>(
     cell: &OperatorCell,
     index: usize,
 ) -> Result<bool, AllocError> {
-    let message = Heard::Message(Bytes::from_slice(alloc, &ADDITION)?);
-    Ok(has_arrived(&cell.arrive(rt, alloc, modem(1), message), index))
+    let heard = Heard::Message(Bytes::from_slice(alloc, &ADDITION)?);
+    Ok(has_arrived(&cell.arrive(rt, alloc, modem(1), heard), index))
 }
 
 /// Returns whether this is a receipt at this place that outputs nothing.

@@ -16,7 +16,7 @@ use std::time::{Clock, Duration};
 #[derive(Drop)]
 struct HoldingGate<'a, C: Clock> {
     clock: &'a C,
-    held_operator: Op,
+    held: Op,
     other: Op,
     /// How often the operator was held.
     holds: AtomicU64,
@@ -45,7 +45,7 @@ impl<R: Wait, C: Clock> Gate<R> for HoldingGate<'_, C> {
         if op == self.other && index == 0 {
             let _held = is_counted(self.clock, &self.holds, LONG);
         }
-        if op == self.held_operator && index == 1 {
+        if op == self.held && index == 1 {
             let is_first = self.releases.load(Ordering::SeqCst) == 0;
             self.holds.fetch_add(1, Ordering::SeqCst);
             if is_counted(self.clock, &self.releases, LONG) && is_first {
@@ -65,13 +65,13 @@ impl<R: Wait, C: Clock> Gate<R> for HoldingGate<'_, C> {
 fn work_overlaps<R: Threads + Wait + Sync + Clock>(
     rt: &R,
     alloc: Global,
-    held_operator: Op,
+    held: Op,
     other: Op,
     order: FirstModem,
 ) -> Result<bool, AllocError> {
     let gate = HoldingGate {
         clock: rt,
-        held_operator,
+        held,
         other,
         holds: AtomicU64::new(0),
         releases: AtomicU64::new(0),

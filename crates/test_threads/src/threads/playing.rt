@@ -64,9 +64,9 @@ fn is_settled(settled: &Result<Settled, RunFault>, wanted: Result<usize, RunFaul
     }
 }
 
-/// Returns what a run of the steps on threads results in, over a plant with these rankings, if they
-/// are those of its rows.
-fn settled_run<R: Threads + Wait + Sync, G: Gate<R> + Sync>(
+/// Returns whether a run of the steps on threads, over a plant with these rankings, results in
+/// that.
+fn run_comes_to<R: Threads + Wait + Sync, G: Gate<R> + Sync>(
     rt: &R,
     alloc: Global,
     plant: Plant,
@@ -74,11 +74,13 @@ fn settled_run<R: Threads + Wait + Sync, G: Gate<R> + Sync>(
     steps: Vec<Step>,
     gate: &G,
     stacks: &[usize],
-) -> Option<Result<Settled, RunFault>> {
+    wanted: Result<usize, RunFault>,
+) -> Result<bool, AllocError> {
     if are_ranked(&plant, rankings.as_slice()) {
-        Some(run_workers_on(rt, alloc, plant, rankings, steps, gate, stacks))
+        let settled = run_workers_on(rt, alloc, plant, rankings, steps, gate, stacks);
+        Ok(is_settled(&settled, wanted))
     } else {
-        None
+        Ok(false)
     }
 }
 
@@ -93,10 +95,7 @@ pub(crate) fn steps_come_to<R: Threads + Wait + Sync, G: Gate<R> + Sync>(
 ) -> Result<bool, AllocError> {
     let rankings = Vec::from_array(alloc, [strict!(alloc), strict!(alloc)])?;
     match read_plant(alloc, PLANT) {
-        Ok(plant) => match settled_run(rt, alloc, plant, rankings, steps, gate, stacks) {
-            Some(settled) => Ok(is_settled(&settled, wanted)),
-            None => Ok(false),
-        },
+        Ok(plant) => run_comes_to(rt, alloc, plant, rankings, steps, gate, stacks, wanted),
         Err(_) => Ok(false),
     }
 }

@@ -27,12 +27,12 @@ fn keeps(receipts: &mut Receipts, answer: Result<Receipt, CellFault>) -> bool {
 
 impl<R: Wait> PlaysShared<R> for OperatorCell {
     fn play(&self, rt: &R, alloc: Global, modem: Modem) -> Option<Receipts> {
-        let request = Heard::Request {
+        let heard = Heard::Request {
             sid: 257,
             minislots: 1,
         };
         let mut receipts = Receipts::new(alloc);
-        let done = keeps(&mut receipts, self.arrive(rt, alloc, modem, request))
+        let done = keeps(&mut receipts, self.arrive(rt, alloc, modem, heard))
             && keeps(&mut receipts, self.work(rt, alloc))
             && keeps(&mut receipts, self.tick(rt, alloc));
         if done { Some(receipts) } else { None }

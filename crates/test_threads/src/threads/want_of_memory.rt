@@ -25,8 +25,8 @@ fn is_refused(answer: &Result<Receipt, CellFault>) -> bool {
 
 /// Returns whether an addition is the first entry.
 fn arrives_again<R: Wait>(rt: &R, alloc: Global, cell: &OperatorCell) -> Result<bool, AllocError> {
-    let message = Heard::Message(Bytes::from_slice(alloc, &ADDITION)?);
-    let answer = cell.arrive(rt, alloc, modem(1), message);
+    let heard = Heard::Message(Bytes::from_slice(alloc, &ADDITION)?);
+    let answer = cell.arrive(rt, alloc, modem(1), heard);
     if is_refused(&answer) {
         arrives(rt, alloc, cell, 0)
     } else {

@@ -1,8 +1,8 @@
 -- An addition is decided.
 use Rattle.std.proofs.Common.{◌≡◌, ◌≢◌, ℕ, ◌<◌, List, [], ◌∷◌, ◌++◌, length, nat_le, Option, Some, None, Result, Ok, Err, refl, ap, subst, arith, ◌∙◌}
-use Rattle.trace_report.proofs.TableLemmas.Common.{Any, MatchResult, AllByRecursion, cond_both, leb-true, leb-false, reference_subtype, FlowFields, Modem, Dsa, Dsd, RejectRequiredParameterNotPresent, CheckRefusal, IsLeastFree, least_free_of, ParamFields, SetsFields, Flow, sfids_of, sids_of, flow_at, with_flow, AskedSets, Addition, Refused, Put, Operator, IsSound, none-there, Said, said_by, IsAbout, Admits, IsSetWhere, would_commit, UnknownFlow, NotOwner, FlowWaits, NoIdentifier, FlowsFull, NoSfidFree, NoSidFree, ElementsOver, MinislotsOver, Accepted}
+use Rattle.trace_report.proofs.TableLemmas.Common.{Any, MatchResult, AllByRecursion, cond_both, leb-true, leb-false, reference_subtype, FlowFields, Modem, Dsa, Dsd, RejectRequiredParameterNotPresent, ReplyFields, IsLeastFree, least_free_of, ParamFields, SetsFields, Flow, sfids_of, sids_of, flow_at, with_flow, AskedSets, Addition, Refused, Put, Operator, IsSound, none-there, Said, said_by, IsAbout, Admits, IsSetWhere, would_commit, UnknownFlow, NotOwner, FlowWaits, FlowsFull, NoSfidFree, NoSidFree, ElementsOver, MinislotsOver, Accepted}
 use Rattle.dsx_messages.specs.declared.message.Request.TheVariants as requests
-use Rattle.operator_model.specs.Asked.{transaction, refused_by, refusal_naming, stated_or_refusal, first_encoding, asked_sets, nested_sets, addition_of}
+use Rattle.operator_model.specs.Asked.{transaction, refusal_naming, stated_or_refusal, first_encoding, asked_sets, nested_sets, addition_of}
 use Rattle.operator_model.specs.Verdict.{new_flow, added_reply, added_under, addition_within_limit, addition_verdict, verdict}
 use Rattle.trace_report.proofs.TableLemmas.ListLemmas.{any_from, all_more, all_append}
 use Rattle.trace_report.proofs.TableLemmas.TableLemmas.{of_encodings, up_to_flow, up_to_sets, up_to_room, Fails, IsDecided, decided}
@@ -33,8 +33,8 @@ module _ (op : Operator) (sound : IsSound op) (modem : Modem) (tid : ℕ) (encod
     reference : Any (λ encoding. encoding.reference ≡ Some addition.reference) encodings
     none : AllByRecursion (Fails op modem said) up_to_sets
 
-  abbrev Decided : CheckRefusal → Type 0
-  Decided r = IsDecided op modem said (Refused r)
+  abbrev Decided : ReplyFields → Type 0
+  Decided reply = IsDecided op modem said (Refused reply)
 
   addition-view : MatchResult (addition_of op.consts (transaction modem Dsa tid) encodings) IsAsked Decided
   unfolding addition_of
@@ -42,7 +42,7 @@ module _ (op : Operator) (sound : IsSound op) (modem : Modem) (tid : ℕ) (encod
       match_then (IsReady op modem Dsa tid an_addition encodings) IsAsked Decided (first_encoding (transaction modem Dsa tid) op.consts.classes encodings) _
       (encodings-view op modem Dsa tid an_addition encodings) (λ first ready.
       match_then (IsIdentified op modem Dsa tid an_addition encodings first) IsAsked Decided
-      (stated_or_refusal first.reference (refused_by NoIdentifier (refusal_naming (transaction modem Dsa tid) RejectRequiredParameterNotPresent first reference_subtype))) _
+      (stated_or_refusal first.reference (refusal_naming (transaction modem Dsa tid) RejectRequiredParameterNotPresent first reference_subtype)) _
       (identifier-view op modem Dsa tid an_addition encodings first ready) (λ reference identified.
       match_then (AreAsked op modem Dsa tid an_addition encodings) IsAsked Decided (asked_sets (transaction modem Dsa tid) op.consts encodings) _
       (asked-view op modem Dsa tid an_addition encodings first ready (no_flow identified.none)) (λ asked are.
@@ -120,6 +120,6 @@ module _ (op : Operator) (sound : IsSound op) (modem : Modem) (tid : ℕ) (encod
   unfolding verdict
   addition-decided = go (addition_of op.consts (transaction modem Dsa tid) encodings) addition-view
     where
-      go : (r : Result Addition CheckRefusal) → MatchResult r IsAsked Decided → IsDecided op modem said (addition_verdict op modem tid r)
+      go : (r : Result Addition ReplyFields) → MatchResult r IsAsked Decided → IsDecided op modem said (addition_verdict op modem tid r)
       go (Err reply) is = is
       go (Ok addition) is = added-decided addition is

@@ -1,8 +1,8 @@
 -- A change is decided.
 use Rattle.std.proofs.Common.{◌≡◌, ◌≢◌, ℕ, ◌&&◌, Bool, true, false, List, [], ◌∷◌, ◌++◌, Option, Some, None, Result, Ok, Err, is_some, is_none, refl, ap, subst, sym, ◌∙◌}
-use Rattle.trace_report.proofs.TableLemmas.Common.{MatchResult, if◌then◌else◌, AllByRecursion, cond_both, true≢false, false≢true, sfid_subtype, FlowFields, Modem, Dsc, Dsd, Okay, RejectRequiredParameterNotPresent, Given, CheckRefusal, least_free_of, ParamFields, SetsFields, Flow, sids_of, sid_if, flow_at, with_flow, AskedSets, Change, Refused, Put, Operator, IsSound, Said, said_by, NamesFlow, IsOfFlow, IsAbout, IsSetWhere, Admits, would_commit, GetsSid, told_sid, NoIdentifier, FlowsFull, NoSfidFree, NoSidFree, ElementsOver, MinislotsOver, Accepted}
+use Rattle.trace_report.proofs.TableLemmas.Common.{MatchResult, if◌then◌else◌, AllByRecursion, cond_both, true≢false, false≢true, sfid_subtype, FlowFields, Modem, Dsc, Dsd, Okay, RejectRequiredParameterNotPresent, Given, ReplyFields, least_free_of, ParamFields, SetsFields, Flow, sids_of, sid_if, flow_at, with_flow, AskedSets, Change, Refused, Put, Operator, IsSound, Said, said_by, NamesFlow, IsOfFlow, IsAbout, IsSetWhere, Admits, would_commit, GetsSid, told_sid, FlowsFull, NoSfidFree, NoSidFree, ElementsOver, MinislotsOver, Accepted}
 use Rattle.dsx_messages.specs.declared.message.Request.TheVariants as requests
-use Rattle.operator_model.specs.Asked.{transaction, refused_by, refusal_naming, stated_or_refusal, first_encoding, free_flow, asked_sets, nested_sets, change_of}
+use Rattle.operator_model.specs.Asked.{transaction, refusal_naming, stated_or_refusal, first_encoding, free_flow, asked_sets, nested_sets, change_of}
 use Rattle.operator_model.specs.Verdict.{changed_flow, changed_reply, changed_with, changed_with_new, wants_sid, change_within_limit, change_verdict, verdict}
 use Rattle.trace_report.proofs.TableLemmas.ListLemmas.{any_from, all_more, all_append}
 use Rattle.trace_report.proofs.TableLemmas.TableLemmas.{up_to_sets, up_to_room, Fails, IsDecided, decided}
@@ -27,8 +27,8 @@ module _ (op : Operator) (sound : IsSound op) (modem : Modem) (tid : ℕ) (encod
   abbrev said : Said
   said = said_by (requests.Dsc tid encodings)
 
-  abbrev Decided : CheckRefusal → Type 0
-  Decided r = IsDecided op modem said (Refused r)
+  abbrev Decided : ReplyFields → Type 0
+  Decided reply = IsDecided op modem said (Refused reply)
 
   -- the flow is the one that is named, the sets are those that are asked for, and none of the checks of the sets holds
   record IsAsked (change : Change) : Type 0 where
@@ -46,7 +46,7 @@ module _ (op : Operator) (sound : IsSound op) (modem : Modem) (tid : ℕ) (encod
       match_then (IsReady op modem Dsc tid a_change encodings) IsAsked Decided (first_encoding (transaction modem Dsc tid) op.consts.classes encodings) _
       (encodings-view op modem Dsc tid a_change encodings) (λ first ready.
       match_then (IsIdentified op modem Dsc tid a_change encodings first) IsAsked Decided
-      (stated_or_refusal first.sfid (refused_by NoIdentifier (refusal_naming (transaction modem Dsc tid) RejectRequiredParameterNotPresent first sfid_subtype))) _
+      (stated_or_refusal first.sfid (refusal_naming (transaction modem Dsc tid) RejectRequiredParameterNotPresent first sfid_subtype)) _
       (identifier-view op modem Dsc tid a_change encodings first ready) (λ sfid identified.
       let named : NamesFlow Dsc encodings None sfid = any_from (λ (e : FlowFields). e.sfid ≡ Some sfid) encodings first ready.has identified.is in
       let one : ((n : ℕ) → NamesFlow Dsc encodings None n → n ≡ sfid) = only ready sfid identified in
@@ -155,6 +155,6 @@ module _ (op : Operator) (sound : IsSound op) (modem : Modem) (tid : ℕ) (encod
   unfolding verdict
   change-decided = go (change_of op.consts op.state.flows (transaction modem Dsc tid) encodings) change-view
     where
-      go : (r : Result Change CheckRefusal) → MatchResult r IsAsked Decided → IsDecided op modem said (change_verdict op tid r)
+      go : (r : Result Change ReplyFields) → MatchResult r IsAsked Decided → IsDecided op modem said (change_verdict op tid r)
       go (Err reply) is = is
       go (Ok change) is = changed-decided change is

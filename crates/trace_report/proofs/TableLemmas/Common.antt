@@ -5,13 +5,13 @@ pub use Rattle.trace_report.specs.table.Answering.{GetsSid, told_sid, refusal_ve
 pub use Rattle.trace_report.specs.table.Awaited.{AreOfTwo, AreAwaited, IsAwaited}
 pub use Rattle.trace_report.specs.table.Examples.{worked_operator, one_added, full_added, provisioned_row}
 pub use Rattle.trace_report.specs.table.Holding.{would_commit, NamesUnknownClass, GivesNoSet, AreAdmittedAndActive, AcceptsSetType, CheckApplies, IsUsedUp, IsOverBudget}
-pub use Rattle.trace_report.specs.table.Messages.{Reading, ReadsAsRequest, IsCachedEntry, IsUnread, IsRefusedFor, IsRepeatOf, HoldsOf, AnswersOf, IsHandledBy, IsNoAck}
+pub use Rattle.trace_report.specs.table.Messages.{Reading, ReadsAsRequest, IsCachedEntry, IsUnread, IsRefusedFor, IsRepeatOf, HoldsOf, AnswersOf, message_table, IsHandledBy, IsNoAck}
 pub use Rattle.trace_report.specs.table.Said.{Said, said_by, IsAbout, Admits, IsSetWhere, NamesFlow, IsOfFlow, Activates, EncodingAsksFor, identifier, told_identifier, identifier_subtype, IsSetType, EncodingIsRefused, IsToBeAdmitted}
-pub use Rattle.trace_report.specs.table.Table.{IsDecidedBy}
-pub use Rattle.operator_model.specs.declared.check.Check.{Check}
-pub use Rattle.operator_model.specs.declared.check.Check.TheVariants.{UnknownFlow, NotOwner, FlowWaits, FlowsFull, NoSfidFree, NoSidFree, ElementsOver, MinislotsOver, Accepted, UnknownClass, NoEncoding, IdentifiersDiffer, NotTogether, NoIdentifier, WrongSetType, NoParameterSet, ActiveNotWithin, AdmittedNotWithin}
-pub use Rattle.operator_model.specs.declared.check.MessageCheck.{MessageCheck}
-pub use Rattle.operator_model.specs.declared.check.MessageCheck.TheVariants.{Unread, OfCmts, Repeated, KeptFull, Faulty, Judged}
+pub use Rattle.trace_report.specs.table.Table.{IsDecidedBy, table}
+pub use Rattle.trace_report.specs.declared.table.check.Check.{Check}
+pub use Rattle.trace_report.specs.declared.table.check.Check.TheVariants.{UnknownFlow, NotOwner, FlowWaits, FlowsFull, NoSfidFree, NoSidFree, ElementsOver, MinislotsOver, Accepted, UnknownClass, NoEncoding, IdentifiersDiffer, NotTogether, NoIdentifier, WrongSetType, NoParameterSet, ActiveNotWithin, AdmittedNotWithin}
+pub use Rattle.trace_report.specs.declared.table.check.MessageCheck.{MessageCheck}
+pub use Rattle.trace_report.specs.declared.table.check.MessageCheck.TheVariants.{Unread, OfCmts, Repeated, KeptFull, Faulty, Judged}
 pub use Rattle.dsx_messages.specs.Reading.{message_of}
 pub use Rattle.dsx_messages.specs.declared.code.Code.{Code}
 pub use Rattle.dsx_messages.specs.declared.code.Code.TheVariants.{RejectRequiredParameterNotPresent, Okay, RejectPermanent, RejectTemporary, RejectInvalidForContext, RejectAuthorizationFailure, RejectNotOwner, RejectFlowNotFound, RejectDuplicateReference, RejectMultipleUpstreamFlows, RejectOther, RejectUnrecognizedSetting}
@@ -24,6 +24,7 @@ pub use Rattle.dsx_messages.specs.declared.modem.Modem.{Modem}
 pub use Rattle.dsx_messages.specs.declared.reply.Detail.{Detail}
 pub use Rattle.dsx_messages.specs.declared.reply.Detail.TheVariants.{Given, Errored, Nothing}
 pub use Rattle.dsx_messages.specs.declared.reply.FlowId.{FlowId}
+pub use Rattle.dsx_messages.specs.declared.reply.ReplyFields.{ReplyFields}
 pub use Rattle.flow_table.specs.Flow.{with_pending, flow_after_ack, without_pending, taken_back, flow_after_grant, committed_of, asks_for_grants, flow_after_request}
 pub use Rattle.flow_table.specs.Table.{sfids_of, sids_of, flow_at, with_flow, sid_if, committed_minislots, committed_elements, flow_with, is_sid, flowing_in}
 pub use Rattle.flow_table.specs.declared.flow.Flow.{Flow}
@@ -34,8 +35,7 @@ pub use Rattle.operator_model.proofs.EntryLemmas.{sum-insert, sum-remove, at-fin
 pub use Rattle.operator_model.proofs.FreshLemmas.{none-there, used_sfid}
 pub use Rattle.operator_model.proofs.KeptLemmas.{HaveFlows, All-find, passes-find, given_up-HaveFlows, pairs-head, pairs-tail, pairs-map}
 pub use Rattle.operator_model.proofs.MapLemmas.{nat_cmp_equal, is_at_other, Ascends, at, at-above, found_as, at-insert_same, at-remove_same, at-insert_other, at-remove_other}
-pub use Rattle.operator_model.specs.Checks.{table, message_table}
-pub use Rattle.operator_model.specs.Asked.{faulty, refused_by, transaction, free_flow, is_same, stand_together, refusal}
+pub use Rattle.operator_model.specs.Asked.{transaction, free_flow, is_same, stand_together, refusal}
 pub use Rattle.operator_model.specs.Frame.{all_undone, all_granted, at_frame, flows_left, tick_result}
 pub use Rattle.operator_model.specs.Handle.{StepResult, silent, repeat_result, new_unless, transaction_result, carried_out, is_of_cmts, message_handled, handle, without_flow, undone, flows_acked, reply_of, sfid_of, does_wait, acked_if, ack_result, kind_of, tid_of, asked_of_flow}
 pub use Rattle.operator_model.specs.Sound.{IsSound, IsWaitingOf, HasItsFlow}
@@ -45,7 +45,6 @@ pub use Rattle.operator_model.specs.Worked.{first_modem, second_modem, worked_ro
 pub use Rattle.operator_model.specs.declared.verdict.Addition.{Addition}
 pub use Rattle.operator_model.specs.declared.verdict.AskedSets.{AskedSets}
 pub use Rattle.operator_model.specs.declared.verdict.Change.{Change}
-pub use Rattle.operator_model.specs.declared.verdict.CheckRefusal.{CheckRefusal}
 pub use Rattle.operator_model.specs.declared.verdict.Verdict.{Verdict}
 pub use Rattle.operator_model.specs.declared.verdict.Verdict.TheVariants.{Refused, Put, Deleted}
 pub use Rattle.param_sets.proofs.WithinLemmas.{within_self, nothing_fails, is_within}

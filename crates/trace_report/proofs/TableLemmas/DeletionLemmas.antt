@@ -1,6 +1,6 @@
 -- A deletion is decided.
 use Rattle.std.proofs.Common.{◌≡◌, ℕ, [], None, Result, Ok, Err, refl, arith}
-use Rattle.trace_report.proofs.TableLemmas.Common.{MatchResult, AllByRecursion, Modem, Dsd, CheckRefusal, Flow, flow_at, Refused, Operator, IsSound, transaction, free_flow, Said, said_by, Admits, Activates, EncodingAsksFor, NamesUnknownClass, GivesNoSet, Accepted}
+use Rattle.trace_report.proofs.TableLemmas.Common.{MatchResult, AllByRecursion, Modem, Dsd, ReplyFields, Flow, flow_at, Refused, Operator, IsSound, transaction, free_flow, Said, said_by, Admits, Activates, EncodingAsksFor, NamesUnknownClass, GivesNoSet, Accepted}
 use Rattle.dsx_messages.specs.declared.message.Request.TheVariants as requests
 use Rattle.operator_model.specs.Verdict.{deletion_verdict, verdict}
 use Rattle.trace_report.proofs.TableLemmas.ListLemmas.{contains-nothing, none_any, all_append}
@@ -60,6 +60,6 @@ module _ (op : Operator) (sound : IsSound op) (modem : Modem) (tid sfid : ℕ) w
   unfolding verdict
   deletion-decided = go (free_flow (transaction modem Dsd tid) (flow_at sfid op.state.flows)) (free-found op modem said sound.ascending no_encodings sfid refl (λ n is. cc))
     where
-      go : (r : Result Flow CheckRefusal) → MatchResult r (IsFound op modem said sfid) (λ refused. IsDecided op modem said (Refused refused)) → IsDecided op modem said (deletion_verdict tid sfid r)
+      go : (r : Result Flow ReplyFields) → MatchResult r (IsFound op modem said sfid) (λ reply. IsDecided op modem said (Refused reply)) → IsDecided op modem said (deletion_verdict tid sfid r)
       go (Err reply) is = is
       go (Ok flow) found = decided op modem said up_to_room Accepted [] _ refl (nothing_asked found.none) tt (record { sfid = sfid; named = refl; is = refl })

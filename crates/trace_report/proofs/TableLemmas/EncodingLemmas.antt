@@ -1,12 +1,11 @@
 -- The checks of the encodings of an addition or a change: their classes, their identifiers, and which stand together.
 use Rattle.std.proofs.Common.{◌≡◌, ◌≢◌, ℕ, ◌<◌, ◌&&◌, Bool, not, true, false, List, [], ◌∷◌, ◌⊎◌, length, map, Option, Some, None, Result, is_none, option_map, refl, sym, ap, ◌∙◌, subst, arith, inl, inr}
-use Rattle.trace_report.proofs.TableLemmas.Common.{Contains, find, MatchOption, MatchResult, AllByRecursion, list_all, cond_both, and_parts, and_from, or_cases, or_left, or_right, eqb-true, eq-eqb, true≢false, false≢true, All-from_recursion, All-contains, bytes_eq-Decides, set_type_number, FlowFields, Admitted, Active, Modem, Kind, Dsa, Dsc, Dsd, Code, RejectPermanent, RejectRequiredParameterNotPresent, FlowId, Errored, CheckRefusal, is_class_named, asked_over, Refused, Operator, IsFirst, Said, identifier, told_identifier, identifier_subtype, IsSetType, NamesUnknownClass, AreAdmittedAndActive, refusal_verdict, naming, UnknownClass, NoEncoding, IdentifiersDiffer, NotTogether, NoIdentifier, UnknownFlow, NotOwner, FlowWaits, WrongSetType, NoParameterSet, ActiveNotWithin, AdmittedNotWithin, FlowsFull, NoSfidFree, NoSidFree, ElementsOver, MinislotsOver, Accepted}
+use Rattle.trace_report.proofs.TableLemmas.Common.{Contains, find, MatchOption, MatchResult, AllByRecursion, list_all, cond_both, and_parts, and_from, or_cases, or_left, or_right, eqb-true, eq-eqb, true≢false, false≢true, All-from_recursion, All-contains, bytes_eq-Decides, set_type_number, FlowFields, Admitted, Active, Modem, Kind, Dsa, Dsc, Dsd, Code, RejectPermanent, RejectRequiredParameterNotPresent, FlowId, Errored, ReplyFields, is_class_named, asked_over, Refused, Operator, IsFirst, Said, identifier, told_identifier, identifier_subtype, IsSetType, NamesUnknownClass, AreAdmittedAndActive, refusal_verdict, naming, UnknownClass, NoEncoding, IdentifiersDiffer, NotTogether, NoIdentifier, UnknownFlow, NotOwner, FlowWaits, WrongSetType, NoParameterSet, ActiveNotWithin, AdmittedNotWithin, FlowsFull, NoSfidFree, NoSidFree, ElementsOver, MinislotsOver, Accepted}
 use Rattle.dsx_messages.specs.declared.reply.FlowId.TheVariants as ids
 use Rattle.param_sets.specs.Overridden.{overridden_of}
 use Rattle.plant.specs.declared.class_table.Class.{Class}
-use Rattle.operator_model.specs.declared.check.Check.{Check}
 use Rattle.operator_model.specs.declared.verdict.Transaction.{Transaction}
-use Rattle.operator_model.specs.Asked.{transaction, id_of, refused_by, refusal_naming, stated_or_refusal, id_number, is_same, has_set_type, stand_together, first_of, is_unclassed, first_unless, first_encoding}
+use Rattle.operator_model.specs.Asked.{transaction, id_of, refusal_naming, stated_or_refusal, id_number, is_same, has_set_type, stand_together, first_of, is_unclassed, first_unless, first_encoding}
 use Rattle.trace_report.proofs.TableLemmas.ListLemmas.{contains-here, contains-later, contains_cases, any_from, none_any, all_more, find-first, first_contains, all_pass, one_fails}
 use Rattle.trace_report.proofs.TableLemmas.TableLemmas.{of_shape, of_encodings, Fails, IsDecided, decided}
 
@@ -155,14 +154,13 @@ module _ (op : Operator) (modem : Modem) (kind : Kind) (tid : ℕ) (not_dsd : ki
     pub same : (e : FlowFields) → Contains encodings e → identifier kind e ≡ identifier kind first
     pub none : AllByRecursion (Fails op modem (said_of encodings)) of_shape
 
-  abbrev View : List FlowFields → Result FlowFields CheckRefusal → Type 0
-  View encodings r = MatchResult r (IsReady encodings) (λ refused. IsDecided op modem (said_of encodings) (Refused refused))
+  abbrev View : List FlowFields → Result FlowFields ReplyFields → Type 0
+  View encodings r = MatchResult r (IsReady encodings) (λ reply. IsDecided op modem (said_of encodings) (Refused reply))
 
-  -- a refusal by a check, with a reply that names an encoding
-  pub named_refusal : (check : Check) (encodings : List FlowFields) (code : Code) (e : FlowFields) (subtype : ℕ)
-      → Refused (refused_by check (refusal_naming trans code e subtype)) ≡ refusal_verdict check (said_of encodings) code (naming (said_of encodings) e subtype)
-  named_refusal check encodings code e subtype =
-      ap (λ (id : Option FlowId). Refused (refused_by check (record { kind = kind; tid = tid; code = code; detail = Errored id subtype }))) (same_id kind e)
+  -- a refusal that names an encoding
+  pub named_refusal : (encodings : List FlowFields) (code : Code) (e : FlowFields) (subtype : ℕ) → Refused (refusal_naming trans code e subtype) ≡ refusal_verdict (said_of encodings) code (naming (said_of encodings) e subtype)
+  named_refusal encodings code e subtype =
+      ap (λ (id : Option FlowId). Refused (record { kind = kind; tid = tid; code = code; detail = Errored id subtype })) (same_id kind e)
 
   module _ (first : FlowFields) (others : List FlowFields) (known : AllByRecursion (λ e. ¬ NamesUnknownClass op.consts.classes e) (first ∷ others)) where
     abbrev es : List FlowFields
@@ -239,7 +237,7 @@ module _ (op : Operator) (modem : Modem) (kind : Kind) (tid : ℕ) (not_dsd : ki
           decided op modem (said_of encodings) [] UnknownClass
           (NoEncoding ∷ IdentifiersDiffer ∷ NotTogether ∷ NoIdentifier ∷ UnknownFlow ∷ NotOwner ∷ FlowWaits ∷ WrongSetType ∷ NoParameterSet ∷ ActiveNotWithin ∷ AdmittedNotWithin ∷ FlowsFull ∷ NoSfidFree ∷ NoSidFree ∷ ElementsOver ∷ MinislotsOver ∷ Accepted ∷ [])
           _ refl tt (any_from (NamesUnknownClass op.consts.classes) encodings e (first_contains (NamesUnknownClass op.consts.classes) encodings e first) first.holds)
-          (e, first, named_refusal UnknownClass encodings RejectPermanent e 4)
+          (e, first, named_refusal encodings RejectPermanent e 4)
       by None known = first-of-view encodings known
 
   -- ---- the identifier
@@ -250,18 +248,18 @@ module _ (op : Operator) (modem : Modem) (kind : Kind) (tid : ℕ) (not_dsd : ki
     pub none : AllByRecursion (Fails op modem (said_of encodings)) of_encodings
 
   pub identifier-view : (encodings : List FlowFields) (first : FlowFields) → IsReady encodings first
-      → MatchResult (stated_or_refusal (identifier kind first) (refused_by NoIdentifier (refusal_naming trans RejectRequiredParameterNotPresent first (identifier_subtype kind)))) (IsIdentified encodings first)
-      (λ refused. IsDecided op modem (said_of encodings) (Refused refused))
+      → MatchResult (stated_or_refusal (identifier kind first) (refusal_naming trans RejectRequiredParameterNotPresent first (identifier_subtype kind))) (IsIdentified encodings first)
+      (λ reply. IsDecided op modem (said_of encodings) (Refused reply))
   identifier-view encodings first ready = by (identifier kind first) refl
     where
       by : (o : Option ℕ) → identifier kind first ≡ o
-          → MatchResult (stated_or_refusal o (refused_by NoIdentifier (refusal_naming trans RejectRequiredParameterNotPresent first (identifier_subtype kind)))) (IsIdentified encodings first)
-          (λ refused. IsDecided op modem (said_of encodings) (Refused refused))
+          → MatchResult (stated_or_refusal o (refusal_naming trans RejectRequiredParameterNotPresent first (identifier_subtype kind))) (IsIdentified encodings first)
+          (λ reply. IsDecided op modem (said_of encodings) (Refused reply))
       by None is =
           decided op modem (said_of encodings) of_shape NoIdentifier
           (UnknownFlow ∷ NotOwner ∷ FlowWaits ∷ WrongSetType ∷ NoParameterSet ∷ ActiveNotWithin ∷ AdmittedNotWithin ∷ FlowsFull ∷ NoSfidFree ∷ NoSidFree ∷ ElementsOver ∷ MinislotsOver ∷ Accepted ∷ [])
           _ refl ready.none (any_from (λ (e : FlowFields). identifier kind e ≡ None) encodings first ready.has is)
-          (ap (λ (id : Option FlowId). Refused (refused_by NoIdentifier (record { kind = kind; tid = tid; code = RejectRequiredParameterNotPresent; detail = Errored id (identifier_subtype kind) }))) (no_id kind first is))
+          (ap (λ (id : Option FlowId). Refused (record { kind = kind; tid = tid; code = RejectRequiredParameterNotPresent; detail = Errored id (identifier_subtype kind) })) (no_id kind first is))
       by (Some n) is = record {
         is = is;
         none = all_more (Fails op modem (said_of encodings)) of_shape NoIdentifier ready.none

@@ -15,11 +15,11 @@ module _ (op : Operator) (modem : Modem) (tid : ℕ) where
   abbrev adds : List FlowFields → Said
   adds es = said_by (requests.Dsa tid es)
 
-  pub nothing_added : IsDecidedBy op modem (adds []) NoEncoding (refusal_verdict NoEncoding (adds []) RejectRequiredParameterNotPresent Nothing)
+  pub nothing_added : IsDecidedBy op modem (adds []) NoEncoding (refusal_verdict (adds []) RejectRequiredParameterNotPresent Nothing)
   nothing_added =
       decided_by op modem (adds []) (UnknownClass ∷ []) NoEncoding
       (IdentifiersDiffer ∷ NotTogether ∷ NoIdentifier ∷ UnknownFlow ∷ NotOwner ∷ FlowWaits ∷ WrongSetType ∷ NoParameterSet ∷ ActiveNotWithin ∷ AdmittedNotWithin ∷ FlowsFull ∷ NoSfidFree ∷ NoSidFree ∷ ElementsOver ∷ MinislotsOver ∷ Accepted ∷ [])
-      (refusal_verdict NoEncoding (adds []) RejectRequiredParameterNotPresent Nothing) refl
+      (refusal_verdict (adds []) RejectRequiredParameterNotPresent Nothing) refl
       (none_any (NamesUnknownClass op.consts.classes) [] tt, tt) ((λ h. cc), refl) refl
 
   unclassed_fails : (e : FlowFields) → e.class_name ≡ None → ¬ NamesUnknownClass op.consts.classes e
@@ -32,19 +32,19 @@ module _ (op : Operator) (modem : Modem) (tid : ℕ) where
     two_named : AllByRecursion (Fails op modem (adds two)) (UnknownClass ∷ NoEncoding ∷ [])
     two_named = (none_any (NamesUnknownClass op.consts.classes) two (unclassed_fails a plain_a, (unclassed_fails b plain_b, tt)), ((λ h. cc (h.1)), tt))
 
-    pub two_differ : a.reference ≢ b.reference → IsDecidedBy op modem (adds two) IdentifiersDiffer (refusal_verdict IdentifiersDiffer (adds two) RejectMultipleUpstreamFlows Nothing)
+    pub two_differ : a.reference ≢ b.reference → IsDecidedBy op modem (adds two) IdentifiersDiffer (refusal_verdict (adds two) RejectMultipleUpstreamFlows Nothing)
     two_differ apart =
         decided_by op modem (adds two) (UnknownClass ∷ NoEncoding ∷ []) IdentifiersDiffer
         (NotTogether ∷ NoIdentifier ∷ UnknownFlow ∷ NotOwner ∷ FlowWaits ∷ WrongSetType ∷ NoParameterSet ∷ ActiveNotWithin ∷ AdmittedNotWithin ∷ FlowsFull ∷ NoSfidFree ∷ NoSidFree ∷ ElementsOver ∷ MinislotsOver ∷ Accepted ∷ [])
-        (refusal_verdict IdentifiersDiffer (adds two) RejectMultipleUpstreamFlows Nothing) refl two_named
+        (refusal_verdict (adds two) RejectMultipleUpstreamFlows Nothing) refl two_named
         (a, b, contains-here a (b ∷ []), contains-later a (b ∷ []) b (contains-here b []), apart) refl
 
     pub two_apart : AllByRecursion (λ e. e.reference ≡ a.reference) two → ¬ AreAdmittedAndActive (a.set_type ∷ b.set_type ∷ [])
-        → IsDecidedBy op modem (adds two) NotTogether (refusal_verdict NotTogether (adds two) RejectDuplicateReference Nothing)
+        → IsDecidedBy op modem (adds two) NotTogether (refusal_verdict (adds two) RejectDuplicateReference Nothing)
     two_apart same apart =
         decided_by op modem (adds two) (UnknownClass ∷ NoEncoding ∷ IdentifiersDiffer ∷ []) NotTogether
         (NoIdentifier ∷ UnknownFlow ∷ NotOwner ∷ FlowWaits ∷ WrongSetType ∷ NoParameterSet ∷ ActiveNotWithin ∷ AdmittedNotWithin ∷ FlowsFull ∷ NoSfidFree ∷ NoSidFree ∷ ElementsOver ∷ MinislotsOver ∷ Accepted ∷ [])
-        (refusal_verdict NotTogether (adds two) RejectDuplicateReference Nothing) refl
+        (refusal_verdict (adds two) RejectDuplicateReference Nothing) refl
         (all_more (Fails op modem (adds two)) (UnknownClass ∷ NoEncoding ∷ []) IdentifiersDiffer two_named
         (λ h. h.4 (each h.0 h.2 ∙ sym (each h.1 h.3)))) (omega arith, apart) refl
       where
@@ -83,11 +83,11 @@ module _ (op : Operator) (modem : Modem) (tid : ℕ) where
           )
 
       pub two_beyond : (subtype : ℕ) → first_failing y x ≡ Some subtype
-          → IsDecidedBy op modem (adds two) ActiveNotWithin (refusal_verdict ActiveNotWithin (adds two) RejectInvalidForContext (naming (adds two) a subtype))
+          → IsDecidedBy op modem (adds two) ActiveNotWithin (refusal_verdict (adds two) RejectInvalidForContext (naming (adds two) a subtype))
       two_beyond subtype fails =
           decided_by op modem (adds two) (up_to_flow ++ WrongSetType ∷ NoParameterSet ∷ []) ActiveNotWithin
           (AdmittedNotWithin ∷ FlowsFull ∷ NoSfidFree ∷ NoSidFree ∷ ElementsOver ∷ MinislotsOver ∷ Accepted ∷ [])
-          (refusal_verdict ActiveNotWithin (adds two) RejectInvalidForContext (naming (adds two) a subtype)) refl two_sets
+          (refusal_verdict (adds two) RejectInvalidForContext (naming (adds two) a subtype)) refl two_sets
           (y, x, active, admitted, λ within. let nothing = nothing_fails y x within in cc)
           (a, y, x, subtype, contains-here a (b ∷ []), active, admitted, fails, refl)
         where
@@ -113,11 +113,11 @@ module _ (op : Operator) (modem : Modem) (tid : ℕ) where
       ),
     )
 
-    pub one_unnamed : e.reference ≡ None → IsDecidedBy op modem (adds one) NoIdentifier (refusal_verdict NoIdentifier (adds one) RejectRequiredParameterNotPresent (Errored None 1))
+    pub one_unnamed : e.reference ≡ None → IsDecidedBy op modem (adds one) NoIdentifier (refusal_verdict (adds one) RejectRequiredParameterNotPresent (Errored None 1))
     one_unnamed none =
         decided_by op modem (adds one) of_shape NoIdentifier
         (UnknownFlow ∷ NotOwner ∷ FlowWaits ∷ WrongSetType ∷ NoParameterSet ∷ ActiveNotWithin ∷ AdmittedNotWithin ∷ FlowsFull ∷ NoSfidFree ∷ NoSidFree ∷ ElementsOver ∷ MinislotsOver ∷ Accepted ∷ [])
-        (refusal_verdict NoIdentifier (adds one) RejectRequiredParameterNotPresent (Errored None 1)) refl one_shape
+        (refusal_verdict (adds one) RejectRequiredParameterNotPresent (Errored None 1)) refl one_shape
         (any_from (λ (x : FlowFields). x.reference ≡ None) one e (contains-here e []) none) refl
 
     module _ (n : ℕ) (is : e.reference ≡ Some n) where
@@ -127,22 +127,22 @@ module _ (op : Operator) (modem : Modem) (tid : ℕ) where
           (all_more (Fails op modem (adds one)) of_shape NoIdentifier one_shape (none_any (λ (x : FlowFields). x.reference ≡ None) one ((λ h. cc), tt)))
           ((λ h. h.1), ((λ h. h.2.0), ((λ h. h.2.0), tt)))
 
-      pub one_mistyped : ¬ AcceptsSetType Dsa e.set_type → IsDecidedBy op modem (adds one) WrongSetType (refusal_verdict WrongSetType (adds one) (set_type_code e.set_type) (naming (adds one) e 6))
+      pub one_mistyped : ¬ AcceptsSetType Dsa e.set_type → IsDecidedBy op modem (adds one) WrongSetType (refusal_verdict (adds one) (set_type_code e.set_type) (naming (adds one) e 6))
       one_mistyped untaken =
           decided_by op modem (adds one) up_to_flow WrongSetType
           (NoParameterSet ∷ ActiveNotWithin ∷ AdmittedNotWithin ∷ FlowsFull ∷ NoSfidFree ∷ NoSidFree ∷ ElementsOver ∷ MinislotsOver ∷ Accepted ∷ [])
-          (refusal_verdict WrongSetType (adds one) (set_type_code e.set_type) (naming (adds one) e 6)) refl one_flow (e, refl, untaken) (e, refl, refl)
+          (refusal_verdict (adds one) (set_type_code e.set_type) (naming (adds one) e 6)) refl one_flow (e, refl, untaken) (e, refl, refl)
 
       pub one_typed : IsSetType AdmittedAndActive e.set_type → AllByRecursion (Fails op modem (adds one)) (up_to_flow ++ WrongSetType ∷ [])
       one_typed six = all_more (Fails op modem (adds one)) up_to_flow WrongSetType one_flow
           (λ h. let same : e ≡ h.0 = cc in h.2 (inr (inl (sym (ap (λ (x : FlowFields). x.set_type) same) ∙ six))))
 
       pub one_refused : IsSetType AdmittedAndActive e.set_type → (r : Refusal) → EncodingIsRefused op.consts e r
-          → IsDecidedBy op modem (adds one) NoParameterSet (refusal_verdict NoParameterSet (adds one) r.code (naming (adds one) e r.subtype))
+          → IsDecidedBy op modem (adds one) NoParameterSet (refusal_verdict (adds one) r.code (naming (adds one) e r.subtype))
       one_refused six r is_refused =
           decided_by op modem (adds one) (up_to_flow ++ WrongSetType ∷ []) NoParameterSet
           (ActiveNotWithin ∷ AdmittedNotWithin ∷ FlowsFull ∷ NoSfidFree ∷ NoSidFree ∷ ElementsOver ∷ MinislotsOver ∷ Accepted ∷ [])
-          (refusal_verdict NoParameterSet (adds one) r.code (naming (adds one) e r.subtype)) refl (one_typed six)
+          (refusal_verdict (adds one) r.code (naming (adds one) e r.subtype)) refl (one_typed six)
           (any_from (GivesNoSet op.consts) one e (contains-here e []) gives) (e, r, first-here (GivesNoSet op.consts) e [] gives, is_refused, refl)
         where
           gives : GivesNoSet op.consts e
@@ -175,29 +175,29 @@ module _ (op : Operator) (modem : Modem) (tid : ℕ) where
               ),
             )
 
-        pub too_many_flows : op.row.flows ≤ length op.state.flows → IsDecidedBy op modem (adds one) FlowsFull (refusal_verdict FlowsFull (adds one) RejectTemporary Nothing)
+        pub too_many_flows : op.row.flows ≤ length op.state.flows → IsDecidedBy op modem (adds one) FlowsFull (refusal_verdict (adds one) RejectTemporary Nothing)
         too_many_flows many =
             decided_by op modem (adds one) up_to_sets FlowsFull (NoSfidFree ∷ NoSidFree ∷ ElementsOver ∷ MinislotsOver ∷ Accepted ∷ [])
-            (refusal_verdict FlowsFull (adds one) RejectTemporary Nothing) refl one_set_read (refl, many) refl
+            (refusal_verdict (adds one) RejectTemporary Nothing) refl one_set_read (refl, many) refl
 
         module _ (few : length op.state.flows < op.row.flows) where
           with_room : AllByRecursion (Fails op modem (adds one)) (up_to_sets ++ FlowsFull ∷ [])
           with_room = all_more (Fails op modem (adds one)) up_to_sets FlowsFull one_set_read (λ h. let many = h.1 in absurd (omega arith))
 
-          pub sfids_used : least_free_of op.row.sfids (sfids_of op.state.flows) ≡ None → IsDecidedBy op modem (adds one) NoSfidFree (refusal_verdict NoSfidFree (adds one) RejectTemporary Nothing)
+          pub sfids_used : least_free_of op.row.sfids (sfids_of op.state.flows) ≡ None → IsDecidedBy op modem (adds one) NoSfidFree (refusal_verdict (adds one) RejectTemporary Nothing)
           sfids_used none =
               decided_by op modem (adds one) (up_to_sets ++ FlowsFull ∷ []) NoSfidFree (NoSidFree ∷ ElementsOver ∷ MinislotsOver ∷ Accepted ∷ [])
-              (refusal_verdict NoSfidFree (adds one) RejectTemporary Nothing) refl with_room (refl, used_up op.row.sfids (sfids_of op.state.flows) none) refl
+              (refusal_verdict (adds one) RejectTemporary Nothing) refl with_room (refl, used_up op.row.sfids (sfids_of op.state.flows) none) refl
 
           module _ (sfid : ℕ) (some_sfid : least_free_of op.row.sfids (sfids_of op.state.flows) ≡ Some sfid) where
             with_sfid : AllByRecursion (Fails op modem (adds one)) (up_to_sets ++ FlowsFull ∷ NoSfidFree ∷ [])
             with_sfid = all_more (Fails op modem (adds one)) (up_to_sets ++ FlowsFull ∷ []) NoSfidFree with_room
                 (λ h. not_used_up op.row.sfids (sfids_of op.state.flows) sfid (least_one op.row.sfids (sfids_of op.state.flows) sfid some_sfid) h.1)
 
-            pub sids_used : least_free_of op.row.sids (sids_of op.state.flows) ≡ None → IsDecidedBy op modem (adds one) NoSidFree (refusal_verdict NoSidFree (adds one) RejectTemporary Nothing)
+            pub sids_used : least_free_of op.row.sids (sids_of op.state.flows) ≡ None → IsDecidedBy op modem (adds one) NoSidFree (refusal_verdict (adds one) RejectTemporary Nothing)
             sids_used none =
                 decided_by op modem (adds one) (up_to_sets ++ FlowsFull ∷ NoSfidFree ∷ []) NoSidFree (ElementsOver ∷ MinislotsOver ∷ Accepted ∷ [])
-                (refusal_verdict NoSidFree (adds one) RejectTemporary Nothing) refl with_sfid
+                (refusal_verdict (adds one) RejectTemporary Nothing) refl with_sfid
                 (None, set, refl, is_set, refl, used_up op.row.sids (sids_of op.state.flows) none) refl
 
             module _ (sid : ℕ) (some_sid : least_free_of op.row.sids (sids_of op.state.flows) ≡ Some sid) where
@@ -206,10 +206,10 @@ module _ (op : Operator) (modem : Modem) (tid : ℕ) where
                   (λ h. not_used_up op.row.sids (sids_of op.state.flows) sid (least_one op.row.sids (sids_of op.state.flows) sid some_sid) h.5)
 
               pub elements_over : op.row.elements < would_commit (λ need. need.elements) op None (Some set)
-                  → IsDecidedBy op modem (adds one) ElementsOver (refusal_verdict ElementsOver (adds one) RejectTemporary Nothing)
+                  → IsDecidedBy op modem (adds one) ElementsOver (refusal_verdict (adds one) RejectTemporary Nothing)
               elements_over over =
                   decided_by op modem (adds one) (up_to_sets ++ FlowsFull ∷ NoSfidFree ∷ NoSidFree ∷ []) ElementsOver (MinislotsOver ∷ Accepted ∷ [])
-                  (refusal_verdict ElementsOver (adds one) RejectTemporary Nothing) refl with_sid
+                  (refusal_verdict (adds one) RejectTemporary Nothing) refl with_sid
                   (would_commit (λ need. need.elements) op None (Some set), (λ h. cc), (None, Some set, refl, is_set, refl), over) refl
 
               none_about : (o : Option Flow) → IsAbout op (adds one) o → o ≡ None
@@ -218,10 +218,10 @@ module _ (op : Operator) (modem : Modem) (tid : ℕ) where
 
               pub minislots_over : would_commit (λ need. need.elements) op None (Some set) ≤ op.row.elements
                   → op.state.share.budget < would_commit (λ need. need.minislots) op None (Some set)
-                  → IsDecidedBy op modem (adds one) MinislotsOver (refusal_verdict MinislotsOver (adds one) RejectTemporary Nothing)
+                  → IsDecidedBy op modem (adds one) MinislotsOver (refusal_verdict (adds one) RejectTemporary Nothing)
               minislots_over within over =
                   decided_by op modem (adds one) (up_to_sets ++ FlowsFull ∷ NoSfidFree ∷ NoSidFree ∷ ElementsOver ∷ []) MinislotsOver (Accepted ∷ [])
-                  (refusal_verdict MinislotsOver (adds one) RejectTemporary Nothing) refl
+                  (refusal_verdict (adds one) RejectTemporary Nothing) refl
                   (all_more (Fails op modem (adds one)) (up_to_sets ++ FlowsFull ∷ NoSfidFree ∷ NoSidFree ∷ []) ElementsOver with_sid
                   (λ h. let n = h.3 in
                   let same : h.0 ≡ would_commit (λ need. need.elements) op None (Some set) =
@@ -304,11 +304,11 @@ module _ (op : Operator) (modem : Modem) (tid : ℕ) where
     )
 
     pub change_beyond : (provisioned : ParamFields) → flow.sets.provisioned ≡ Some provisioned → (subtype : ℕ) → first_failing set provisioned ≡ Some subtype
-        → IsDecidedBy op modem changes AdmittedNotWithin (refusal_verdict AdmittedNotWithin changes RejectAuthorizationFailure (naming changes e subtype))
+        → IsDecidedBy op modem changes AdmittedNotWithin (refusal_verdict changes RejectAuthorizationFailure (naming changes e subtype))
     change_beyond provisioned is_provisioned subtype fails =
         decided_by op modem changes (up_to_flow ++ WrongSetType ∷ NoParameterSet ∷ ActiveNotWithin ∷ []) AdmittedNotWithin
         (FlowsFull ∷ NoSfidFree ∷ NoSidFree ∷ ElementsOver ∷ MinislotsOver ∷ Accepted ∷ [])
-        (refusal_verdict AdmittedNotWithin changes RejectAuthorizationFailure (naming changes e subtype)) refl change_within
+        (refusal_verdict changes RejectAuthorizationFailure (naming changes e subtype)) refl change_within
         (flow, set, provisioned, about, admitted, is_provisioned, λ within. let nothing = nothing_fails set provisioned within in cc)
         (e, flow, set, provisioned, subtype, contains-here e [], about, admitted, is_provisioned, fails, refl)
       where
@@ -330,11 +330,11 @@ module _ (op : Operator) (modem : Modem) (tid : ℕ) where
       ((λ h. h.0 refl), ((λ h. contains-nothing h.0 h.2), ((λ h. absurd (omega (arith, h.0))), (none_any (λ (x : FlowFields). identifier Dsd x ≡ None) [] tt, tt)))),
     )
 
-    pub none_deleted : ¬ Contains (sfids_of op.state.flows) sfid → IsDecidedBy op modem deletes UnknownFlow (refusal_verdict UnknownFlow deletes RejectFlowNotFound Nothing)
+    pub none_deleted : ¬ Contains (sfids_of op.state.flows) sfid → IsDecidedBy op modem deletes UnknownFlow (refusal_verdict deletes RejectFlowNotFound Nothing)
     none_deleted unknown =
         decided_by op modem deletes of_encodings UnknownFlow
         (NotOwner ∷ FlowWaits ∷ WrongSetType ∷ NoParameterSet ∷ ActiveNotWithin ∷ AdmittedNotWithin ∷ FlowsFull ∷ NoSfidFree ∷ NoSidFree ∷ ElementsOver ∷ MinislotsOver ∷ Accepted ∷ [])
-        (refusal_verdict UnknownFlow deletes RejectFlowNotFound Nothing) refl no_encodings (sfid, refl, unknown) refl
+        (refusal_verdict deletes RejectFlowNotFound Nothing) refl no_encodings (sfid, refl, unknown) refl
 
     module _ (flow : Flow) (there : op.state.flows ≡ (sfid, flow) ∷ []) where
       has : Contains op.state.flows (sfid, flow)
@@ -350,17 +350,17 @@ module _ (op : Operator) (modem : Modem) (tid : ℕ) where
           by (inl same) = sym (ap (λ (entry : ℕ × Flow). entry.1) same)
           by (inr none) = absurd (contains-nothing (n, f) none)
 
-      pub not_owned : flow.modem ≢ modem → IsDecidedBy op modem deletes NotOwner (refusal_verdict NotOwner deletes RejectNotOwner Nothing)
+      pub not_owned : flow.modem ≢ modem → IsDecidedBy op modem deletes NotOwner (refusal_verdict deletes RejectNotOwner Nothing)
       not_owned other =
           decided_by op modem deletes (of_encodings ++ UnknownFlow ∷ []) NotOwner
           (FlowWaits ∷ WrongSetType ∷ NoParameterSet ∷ ActiveNotWithin ∷ AdmittedNotWithin ∷ FlowsFull ∷ NoSfidFree ∷ NoSidFree ∷ ElementsOver ∷ MinislotsOver ∷ Accepted ∷ [])
-          (refusal_verdict NotOwner deletes RejectNotOwner Nothing) refl (all_more (Fails op modem deletes) of_encodings UnknownFlow no_encodings known) (sfid, flow, (refl, has), other) refl
+          (refusal_verdict deletes RejectNotOwner Nothing) refl (all_more (Fails op modem deletes) of_encodings UnknownFlow no_encodings known) (sfid, flow, (refl, has), other) refl
 
-      pub waits : flow.modem ≡ modem → IsSome flow.pending → IsDecidedBy op modem deletes FlowWaits (refusal_verdict FlowWaits deletes RejectTemporary Nothing)
+      pub waits : flow.modem ≡ modem → IsSome flow.pending → IsDecidedBy op modem deletes FlowWaits (refusal_verdict deletes RejectTemporary Nothing)
       waits mine pending =
           decided_by op modem deletes (of_encodings ++ UnknownFlow ∷ NotOwner ∷ []) FlowWaits
           (WrongSetType ∷ NoParameterSet ∷ ActiveNotWithin ∷ AdmittedNotWithin ∷ FlowsFull ∷ NoSfidFree ∷ NoSidFree ∷ ElementsOver ∷ MinislotsOver ∷ Accepted ∷ [])
-          (refusal_verdict FlowWaits deletes RejectTemporary Nothing) refl
+          (refusal_verdict deletes RejectTemporary Nothing) refl
           (all_more (Fails op modem deletes) (of_encodings ++ UnknownFlow ∷ []) NotOwner (all_more (Fails op modem deletes) of_encodings UnknownFlow no_encodings known)
           (λ h. h.3 (ap (λ (f : Flow). f.modem) (one_flow_there h.0 h.1 h.2.1) ∙ mine)))
           (sfid, flow, (refl, has), pending) refl

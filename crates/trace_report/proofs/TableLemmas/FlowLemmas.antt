@@ -1,6 +1,6 @@
 -- The checks of the flow that a request names.
 use Rattle.std.proofs.Common.{◌≡◌, ℕ, Bool, not, true, false, List, [], ◌∷◌, ◌++◌, ◌⊎◌, Option, Some, None, Result, is_some, refl, sym, ap, ◌∙◌, subst, inl, inr}
-use Rattle.trace_report.proofs.TableLemmas.Common.{Contains, MatchResult, AllByRecursion, cond_both, cases_eq, true≢false, none-some, is_eq, bytes_eq-Decides, Modem, CheckRefusal, same_modem, Flow, sfids_of, flow_at, Refused, Operator, transaction, free_flow, Ascends, nat_cmp_equal, is_at_other, found_as, used_sfid, Said, NamesFlow, IsOfFlow, UnknownFlow, NotOwner, FlowWaits, WrongSetType, NoParameterSet, ActiveNotWithin, AdmittedNotWithin, FlowsFull, NoSfidFree, NoSidFree, ElementsOver, MinislotsOver, Accepted}
+use Rattle.trace_report.proofs.TableLemmas.Common.{Contains, MatchResult, AllByRecursion, cond_both, cases_eq, true≢false, none-some, is_eq, bytes_eq-Decides, Modem, ReplyFields, same_modem, Flow, sfids_of, flow_at, Refused, Operator, transaction, free_flow, Ascends, nat_cmp_equal, is_at_other, found_as, used_sfid, Said, NamesFlow, IsOfFlow, UnknownFlow, NotOwner, FlowWaits, WrongSetType, NoParameterSet, ActiveNotWithin, AdmittedNotWithin, FlowsFull, NoSfidFree, NoSidFree, ElementsOver, MinislotsOver, Accepted}
 use Rattle.trace_report.proofs.TableLemmas.ListLemmas.{contains_cases, contains-nothing, all_more}
 use Rattle.trace_report.proofs.TableLemmas.EntryLemmas.{at_contains, contained_at}
 use Rattle.trace_report.proofs.TableLemmas.TableLemmas.{of_encodings, up_to_flow, Fails, IsDecided, decided}
@@ -54,7 +54,7 @@ module _ (op : Operator) (modem : Modem) (said : Said) (s : Ascends op.state.flo
     at_rest : is_some flow.pending ≡ false → Fails op modem said FlowWaits
     at_rest is h = true≢false (sym h.3 ∙ (ap (λ (f : Flow). is_some f.pending) (the_flow h.0 h.1 h.2) ∙ is))
 
-    flow-found : MatchResult (free_flow (transaction modem said.kind said.tid) (Some flow)) (IsFound op modem said sfid) (λ refused. IsDecided op modem said (Refused refused))
+    flow-found : MatchResult (free_flow (transaction modem said.kind said.tid) (Some flow)) (IsFound op modem said sfid) (λ reply. IsDecided op modem said (Refused reply))
     flow-found =
         cond_both (not (same_modem flow.modem modem)) _ _ View
         (λ other. decided op modem said (of_encodings ++ UnknownFlow ∷ []) NotOwner
@@ -67,19 +67,19 @@ module _ (op : Operator) (modem : Modem) (said : Said) (s : Ascends op.state.flo
         _ refl (up_to_owner own) (sfid, flow, is_of_flow, waits) refl)
         (λ rests. record { there = there; none = all_more (Fails op modem said) (of_encodings ++ UnknownFlow ∷ NotOwner ∷ []) FlowWaits (up_to_owner own) (at_rest rests) }))
       where
-        View : Result Flow CheckRefusal → Type 0
-        View r = MatchResult r (IsFound op modem said sfid) (λ refused. IsDecided op modem said (Refused refused))
+        View : Result Flow ReplyFields → Type 0
+        View r = MatchResult r (IsFound op modem said sfid) (λ reply. IsDecided op modem said (Refused reply))
 
         up_to_owner : not (same_modem flow.modem modem) ≡ false → AllByRecursion (Fails op modem said) (of_encodings ++ UnknownFlow ∷ NotOwner ∷ [])
         up_to_owner own =
             all_more (Fails op modem said) (of_encodings ++ UnknownFlow ∷ []) NotOwner (all_more (Fails op modem said) of_encodings UnknownFlow none known)
             (mine (true_from_not (same_modem flow.modem modem) own))
 
-  pub free-found : MatchResult (free_flow (transaction modem said.kind said.tid) (flow_at sfid op.state.flows)) (IsFound op modem said sfid) (λ refused. IsDecided op modem said (Refused refused))
+  pub free-found : MatchResult (free_flow (transaction modem said.kind said.tid) (flow_at sfid op.state.flows)) (IsFound op modem said sfid) (λ reply. IsDecided op modem said (Refused reply))
   free-found = go (flow_at sfid op.state.flows) refl
     where
       go : (o : Option Flow) → flow_at sfid op.state.flows ≡ o
-          → MatchResult (free_flow (transaction modem said.kind said.tid) o) (IsFound op modem said sfid) (λ refused. IsDecided op modem said (Refused refused))
+          → MatchResult (free_flow (transaction modem said.kind said.tid) o) (IsFound op modem said sfid) (λ reply. IsDecided op modem said (Refused reply))
       go None is =
           decided op modem said of_encodings UnknownFlow
           (NotOwner ∷ FlowWaits ∷ WrongSetType ∷ NoParameterSet ∷ ActiveNotWithin ∷ AdmittedNotWithin ∷ FlowsFull ∷ NoSfidFree ∷ NoSidFree ∷ ElementsOver ∷ MinislotsOver ∷ Accepted ∷ [])

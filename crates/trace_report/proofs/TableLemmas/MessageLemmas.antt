@@ -1,6 +1,6 @@
 -- A message is decided.
 use Rattle.std.proofs.Common.{◌≡◌, ◌≢◌, ℕ, ◌<◌, ◌⊎◌, ◌==◌, true, false, List, [], ◌∷◌, ◌++◌, length, nat_le, Option, Some, None, Result, Ok, Err, refl, sym, ap, ◌∙◌, subst, arith, inl, inr}
-use Rattle.trace_report.proofs.TableLemmas.Common.{find, MatchOption, AllByRecursion, cond_both, and_parts, and_from, eqb-true, eq-eqb, leb-true, leb-false, true≢false, false≢true, All-from_recursion, Modem, Kind, Dsa, Dsc, Dsd, Code, RejectOther, RejectUnrecognizedSetting, RejectInvalidForContext, FlowId, Detail, Nothing, Errored, Request, Message, MessageFault, message_of, KeptEntry, same_kind, is_of, Verdict, Refused, Operator, IsSound, faulty, verdict, encoding_refusal, StepResult, repeat_result, new_unless, transaction_result, carried_out, is_of_cmts, message_handled, handle, MessageCheck, Unread, OfCmts, Repeated, KeptFull, Faulty, Judged, IsFirst, said_by, IsNoAck, ReadsAsRequest, IsCachedEntry, IsUnread, IsRefusedFor, IsRepeatOf, HoldsOf, AnswersOf, message_table, IsHandledBy}
+use Rattle.trace_report.proofs.TableLemmas.Common.{find, MatchOption, AllByRecursion, cond_both, and_parts, and_from, eqb-true, eq-eqb, leb-true, leb-false, true≢false, false≢true, All-from_recursion, Modem, Kind, Dsa, Dsc, Dsd, Code, RejectOther, RejectUnrecognizedSetting, RejectInvalidForContext, FlowId, Detail, Nothing, Errored, Request, Message, MessageFault, message_of, KeptEntry, same_kind, is_of, Verdict, Refused, Operator, IsSound, verdict, encoding_refusal, StepResult, repeat_result, new_unless, transaction_result, carried_out, is_of_cmts, message_handled, handle, MessageCheck, Unread, OfCmts, Repeated, KeptFull, Faulty, Judged, IsFirst, said_by, IsNoAck, ReadsAsRequest, IsCachedEntry, IsUnread, IsRefusedFor, IsRepeatOf, HoldsOf, AnswersOf, message_table, IsHandledBy}
 use Rattle.tlv24.specs.Law.{AreBytes}
 use Rattle.tlv24.specs.Flow.{GoesWrong}
 use Rattle.tlv24.specs.declared.tlv.TlvFault.{TlvFault}
@@ -18,24 +18,17 @@ use Rattle.trace_report.proofs.TableLemmas.RequestLemmas.{request-decided}
 use Rattle.trace_report.proofs.TableLemmas.TableLemmas.{IsDecided}
 
 module _ (op : Operator) (modem : Modem) where
-  abbrev pub Off : Result Message MessageFault → MessageCheck → Type 0
+  abbrev Off : Result Message MessageFault → MessageCheck → Type 0
   Off reading check = ¬ HoldsOf check op modem reading
 
   abbrev Handled : Result Message MessageFault → StepResult → Type 0
   Handled reading ran = (check : MessageCheck) × IsHandledBy op modem reading check ran
 
-  -- a check that holds, and of which none before it holds, is the first
-  pub first_so : (reading : Result Message MessageFault) (before : List MessageCheck) (check : MessageCheck) (after : List MessageCheck)
-      → message_table ≡ before ++ check ∷ after → AllByRecursion (Off reading) before → HoldsOf check op modem reading
-      → IsFirst (λ c. HoldsOf c op modem reading) message_table check
-  first_so reading before check after split none holds =
-      record { before = before; after = after; split = split; none = All-from_recursion (Off reading) before none; holds = holds }
-
   pub handled_by : (reading : Result Message MessageFault) (before : List MessageCheck) (check : MessageCheck) (after : List MessageCheck) (ran : StepResult)
       → message_table ≡ before ++ check ∷ after → AllByRecursion (Off reading) before → HoldsOf check op modem reading → AnswersOf check op modem reading ran
       → IsHandledBy op modem reading check ran
   handled_by reading before check after ran split none holds answers = record {
-    first = first_so reading before check after split none holds;
+    first = record { before = before; after = after; split = split; none = All-from_recursion (Off reading) before none; holds = holds };
     answers = answers;
   }
 
@@ -69,57 +62,47 @@ module _ (op : Operator) (modem : Modem) where
 
   -- ---- a request
 
-  abbrev pub IsOfTransaction : ℕ → KeptEntry → Type 0
-  IsOfTransaction tid e = (e.modem ≡ modem) × (e.tid ≡ tid)
-
-  -- the response of a transaction that is cached, if there is one
-  pub kept_of : (tid : ℕ) → MatchOption (find (is_of modem tid) op.state.kept) (AllByRecursion (λ e. ¬ IsOfTransaction tid e) op.state.kept) (IsFirst (IsOfTransaction tid) op.state.kept)
-  kept_of tid = find-first (IsOfTransaction tid) (is_of modem tid) (mine tid) (not_mine tid) op.state.kept
-
-  -- of this kind under this transaction ID alone, and read as far as that
-  module _ (reading : Result Message MessageFault) (kind : Kind) (tid : ℕ) (is : ReadsAsRequest reading kind tid)
-      (only : (k : Kind) (n : ℕ) → ReadsAsRequest reading k n → (k ≡ kind) × (n ≡ tid)) (was_read : Off reading Unread) where
-    pub of_modem : is_of_cmts tid ≡ false → AllByRecursion (Off reading) (Unread ∷ OfCmts ∷ [])
+  -- of this kind under this transaction ID alone, and read as far as that; the rest of the table makes this of it
+  module _ (reading : Result Message MessageFault) (kind : Kind) (tid : ℕ) (v : Verdict) (is : ReadsAsRequest reading kind tid)
+      (only : (k : Kind) (n : ℕ) → ReadsAsRequest reading k n → (k ≡ kind) × (n ≡ tid)) (was_read : Off reading Unread)
+      (rest : AllByRecursion (Off reading) (Unread ∷ OfCmts ∷ Repeated ∷ KeptFull ∷ []) → Handled reading (carried_out op modem kind tid v)) where
+    of_modem : is_of_cmts tid ≡ false → AllByRecursion (Off reading) (Unread ∷ OfCmts ∷ [])
     of_modem low = (was_read, ((λ h. let same = (only h.0 h.1 h.2).1 in let high = h.3 in let least = leb-false 32768 tid low in absurd (omega arith)), tt))
-
-    pub is_new : is_of_cmts tid ≡ false → AllByRecursion (λ e. ¬ IsOfTransaction tid e) op.state.kept → AllByRecursion (Off reading) (Unread ∷ OfCmts ∷ Repeated ∷ [])
-    is_new low none = all_more (Off reading) (Unread ∷ OfCmts ∷ []) Repeated (of_modem low)
-        (λ h. first_none (IsOfTransaction tid) op.state.kept none h.2 (subst (λ (n : ℕ). IsCachedEntry op modem n h.2) (only h.0 h.1 h.3).1 h.4))
-
-    pub has_room : is_of_cmts tid ≡ false → AllByRecursion (λ e. ¬ IsOfTransaction tid e) op.state.kept → nat_le op.row.transactions (length op.state.kept) ≡ false
-        → AllByRecursion (Off reading) (Unread ∷ OfCmts ∷ Repeated ∷ KeptFull ∷ [])
-    has_room low none few = all_more (Off reading) (Unread ∷ OfCmts ∷ Repeated ∷ []) KeptFull (is_new low none)
-        (λ h. let many = h.3 in let least = leb-false op.row.transactions (length op.state.kept) few in absurd (omega arith))
 
     repeat_told : (entry : KeptEntry) → IsRepeatOf op modem kind entry (repeat_result op.state modem kind entry)
     repeat_told entry =
         cond_both (same_kind entry.kind kind) _ _ (IsRepeatOf op modem kind entry) (λ same. inl (kind_same entry.kind kind same, refl))
         (λ other. inr ((λ equal. true≢false (sym (ap (λ (k : Kind). same_kind k kind) equal ∙ kind_itself kind) ∙ other)), refl))
 
-    -- the rest of the table makes this of it
-    module _ (v : Verdict) (rest : AllByRecursion (Off reading) (Unread ∷ OfCmts ∷ Repeated ∷ KeptFull ∷ []) → Handled reading (carried_out op modem kind tid v)) where
-      new-handled : is_of_cmts tid ≡ false → (o : Option KeptEntry)
-          → MatchOption o (AllByRecursion (λ e. ¬ IsOfTransaction tid e) op.state.kept) (IsFirst (IsOfTransaction tid) op.state.kept)
-          → Handled reading (new_unless op modem kind tid v o)
-      new-handled low (Some entry) first =
-          handled reading (Unread ∷ OfCmts ∷ []) Repeated (KeptFull ∷ Faulty ∷ Judged ∷ []) _ refl (of_modem low)
-          (kind, tid, entry, is, first) (kind, tid, entry, is, first, repeat_told entry)
-      new-handled low None none =
-          cond_both (nat_le op.row.transactions (length op.state.kept)) _ _ (Handled reading)
-          (λ many. handled reading (Unread ∷ OfCmts ∷ Repeated ∷ []) KeptFull (Faulty ∷ Judged ∷ []) _ refl (is_new low none)
-          (kind, tid, is, leb-true op.row.transactions (length op.state.kept) many) (kind, tid, is, refl))
-          (λ few. rest (has_room low none few))
+    new-handled : is_of_cmts tid ≡ false → (o : Option KeptEntry)
+        → MatchOption o (AllByRecursion (λ e. ¬ ((e.modem ≡ modem) × (e.tid ≡ tid))) op.state.kept) (IsFirst (λ e. (e.modem ≡ modem) × (e.tid ≡ tid)) op.state.kept)
+        → Handled reading (new_unless op modem kind tid v o)
+    new-handled low (Some entry) first =
+        handled reading (Unread ∷ OfCmts ∷ []) Repeated (KeptFull ∷ Faulty ∷ Judged ∷ []) _ refl (of_modem low)
+        (kind, tid, entry, is, first) (kind, tid, entry, is, first, repeat_told entry)
+    new-handled low None none =
+        cond_both (nat_le op.row.transactions (length op.state.kept)) _ _ (Handled reading)
+        (λ many. handled reading (Unread ∷ OfCmts ∷ Repeated ∷ []) KeptFull (Faulty ∷ Judged ∷ []) _ refl is_new
+        (kind, tid, is, leb-true op.row.transactions (length op.state.kept) many) (kind, tid, is, refl))
+        (λ few. rest (all_more (Off reading) (Unread ∷ OfCmts ∷ Repeated ∷ []) KeptFull is_new
+        (λ h. let many = h.3 in let least = leb-false op.row.transactions (length op.state.kept) few in absurd (omega arith))))
+      where
+        is_new : AllByRecursion (Off reading) (Unread ∷ OfCmts ∷ Repeated ∷ [])
+        is_new = all_more (Off reading) (Unread ∷ OfCmts ∷ []) Repeated (of_modem low)
+            (λ h. first_none (λ (e : KeptEntry). (e.modem ≡ modem) × (e.tid ≡ tid)) op.state.kept none h.2
+            (subst (λ (n : ℕ). IsCachedEntry op modem n h.2) (only h.0 h.1 h.3).1 h.4))
 
-      transacted-handled : Handled reading (transaction_result op modem kind tid v)
-      transacted-handled =
-          cond_both (is_of_cmts tid) _ _ (Handled reading)
-          (λ high. handled reading (Unread ∷ []) OfCmts (Repeated ∷ KeptFull ∷ Faulty ∷ Judged ∷ []) _ refl (was_read, tt)
-          (kind, tid, is, leb-true 32768 tid high) (kind, tid, is, refl))
-          (λ low. new-handled low (find (is_of modem tid) op.state.kept) (kept_of tid))
+    transacted-handled : Handled reading (transaction_result op modem kind tid v)
+    transacted-handled =
+        cond_both (is_of_cmts tid) _ _ (Handled reading)
+        (λ high. handled reading (Unread ∷ []) OfCmts (Repeated ∷ KeptFull ∷ Faulty ∷ Judged ∷ []) _ refl (was_read, tt)
+        (kind, tid, is, leb-true 32768 tid high) (kind, tid, is, refl))
+        (λ low. new-handled low (find (is_of modem tid) op.state.kept)
+        (find-first (λ (e : KeptEntry). (e.modem ≡ modem) × (e.tid ≡ tid)) (is_of modem tid) (mine tid) (not_mine tid) op.state.kept))
 
   -- ---- by what is read
 
-  pub read_so : (message : Message) → Off (Ok message) Unread
+  read_so : (message : Message) → Off (Ok message) Unread
   read_so message h = by h.1
     where
       by : IsUnread (Ok message) h.0 → ⊥
@@ -130,8 +113,8 @@ module _ (op : Operator) (modem : Modem) where
   module _ (sound : IsSound op) (request : Request) (kind : Kind) (tid : ℕ) (is_kind : (said_by request).kind ≡ kind) (is_tid : (said_by request).tid ≡ tid) where
     judged : Handled (Ok (messages.Request request)) (transaction_result op modem kind tid (verdict op modem request))
     judged =
-        transacted-handled (Ok (messages.Request request)) kind tid (is_kind, is_tid) (λ k n is. (sym is.0 ∙ is_kind, sym is.1 ∙ is_tid))
-        (read_so (messages.Request request)) (verdict op modem request) (λ none. by none (request-decided op modem request sound))
+        transacted-handled (Ok (messages.Request request)) kind tid (verdict op modem request) (is_kind, is_tid) (λ k n is. (sym is.0 ∙ is_kind, sym is.1 ∙ is_tid))
+        (read_so (messages.Request request)) (λ none. by none (request-decided op modem request sound))
       where
         by : AllByRecursion (Off (Ok (messages.Request request))) (Unread ∷ OfCmts ∷ Repeated ∷ KeptFull ∷ []) → IsDecided op modem (said_by request) (verdict op modem request)
             → Handled (Ok (messages.Request request)) (carried_out op modem kind tid (verdict op modem request))
@@ -150,13 +133,13 @@ module _ (op : Operator) (modem : Modem) where
   -- a fault behind the fixed part
   module _ (fault : MessageFault) (kind : Kind) (tid : ℕ) (code : Code) (detail : Detail) (is : ReadsAsRequest (Err fault) kind tid)
       (only : (k : Kind) (n : ℕ) → ReadsAsRequest (Err fault) k n → (k ≡ kind) × (n ≡ tid)) (was_read : Off (Err fault) Unread) (refused : IsRefusedFor fault code detail) where
-    fault-handled : Handled (Err fault) (transaction_result op modem kind tid (Refused (faulty (record { kind = kind; tid = tid; code = code; detail = detail }))))
-    fault-handled =
-        transacted-handled (Err fault) kind tid is only was_read (Refused (faulty (record { kind = kind; tid = tid; code = code; detail = detail })))
+    faulty : Handled (Err fault) (transaction_result op modem kind tid (Refused (record { kind = kind; tid = tid; code = code; detail = detail })))
+    faulty =
+        transacted-handled (Err fault) kind tid (Refused (record { kind = kind; tid = tid; code = code; detail = detail })) is only was_read
         (λ none. handled (Err fault) (Unread ∷ OfCmts ∷ Repeated ∷ KeptFull ∷ []) Faulty (Judged ∷ []) _ refl none
         (kind, tid, fault, is, refl) (kind, tid, fault, code, detail, is, refl, refused, refl))
 
-  pub tlv_read : (tid : ℕ) (kind : Kind) (id : Option FlowId) (fault : TlvFault) → Off (Err (faults.Tlv tid kind id fault)) Unread
+  tlv_read : (tid : ℕ) (kind : Kind) (id : Option FlowId) (fault : TlvFault) → Off (Err (faults.Tlv tid kind id fault)) Unread
   tlv_read tid kind id fault h = by h.1
     where
       by : IsUnread (Err (faults.Tlv tid kind id fault)) h.0 → ⊥
@@ -164,7 +147,7 @@ module _ (op : Operator) (modem : Modem) where
       by (inr (inl is)) = cc (is.0)
       by (inr (inr is)) = cc (is.1)
 
-  pub left_out_read : (tid : ℕ) (kind : Kind) (found : ℕ) → Off (Err (faults.LeftOut tid kind found)) Unread
+  left_out_read : (tid : ℕ) (kind : Kind) (found : ℕ) → Off (Err (faults.LeftOut tid kind found)) Unread
   left_out_read tid kind found h = by h.1
     where
       by : IsUnread (Err (faults.LeftOut tid kind found)) h.0 → ⊥
@@ -173,18 +156,18 @@ module _ (op : Operator) (modem : Modem) where
       by (inr (inr is)) = cc (is.1)
 
   tlv-handled : (tid : ℕ) (kind : Kind) (id : Option FlowId) (fault : TlvFault) → fault ≢ tlv_faults.NoMemory
-      → Handled (Err (faults.Tlv tid kind id fault)) (transaction_result op modem kind tid (Refused (faulty (encoding_refusal kind tid id fault))))
+      → Handled (Err (faults.Tlv tid kind id fault)) (transaction_result op modem kind tid (Refused (encoding_refusal kind tid id fault)))
   tlv-handled tid kind id (tlv_faults.Cut place) some =
-      fault-handled (faults.Tlv tid kind id (tlv_faults.Cut place)) kind tid RejectOther Nothing (refl, refl) (λ k n is. (sym is.0, sym is.1))
+      faulty (faults.Tlv tid kind id (tlv_faults.Cut place)) kind tid RejectOther Nothing (refl, refl) (λ k n is. (sym is.0, sym is.1))
       (tlv_read tid kind id (tlv_faults.Cut place)) (refl, refl)
   tlv-handled tid kind id (tlv_faults.WrongLength subtype) some =
-      fault-handled (faults.Tlv tid kind id (tlv_faults.WrongLength subtype)) kind tid RejectUnrecognizedSetting (Errored id subtype) (refl, refl) (λ k n is. (sym is.0, sym is.1))
+      faulty (faults.Tlv tid kind id (tlv_faults.WrongLength subtype)) kind tid RejectUnrecognizedSetting (Errored id subtype) (refl, refl) (λ k n is. (sym is.0, sym is.1))
       (tlv_read tid kind id (tlv_faults.WrongLength subtype)) (refl, refl)
   tlv-handled tid kind id (tlv_faults.Twice subtype) some =
-      fault-handled (faults.Tlv tid kind id (tlv_faults.Twice subtype)) kind tid RejectInvalidForContext (Errored id subtype) (refl, refl) (λ k n is. (sym is.0, sym is.1))
+      faulty (faults.Tlv tid kind id (tlv_faults.Twice subtype)) kind tid RejectInvalidForContext (Errored id subtype) (refl, refl) (λ k n is. (sym is.0, sym is.1))
       (tlv_read tid kind id (tlv_faults.Twice subtype)) (refl, refl)
   tlv-handled tid kind id (tlv_faults.Range subtype) some =
-      fault-handled (faults.Tlv tid kind id (tlv_faults.Range subtype)) kind tid RejectInvalidForContext (Errored id subtype) (refl, refl) (λ k n is. (sym is.0, sym is.1))
+      faulty (faults.Tlv tid kind id (tlv_faults.Range subtype)) kind tid RejectInvalidForContext (Errored id subtype) (refl, refl) (λ k n is. (sym is.0, sym is.1))
       (tlv_read tid kind id (tlv_faults.Range subtype)) (refl, refl)
   tlv-handled tid kind id tlv_faults.NoMemory some = absurd (some refl)
 
@@ -203,7 +186,7 @@ module _ (op : Operator) (modem : Modem) where
     read-handled (Err (faults.Tlv tid kind id fault)) no_ack no_memory no_tlv =
         tlv-handled tid kind id fault (λ is. no_tlv tid kind id (ap (λ (f : TlvFault). Err (faults.Tlv tid kind id f)) is))
     read-handled (Err (faults.LeftOut tid kind found)) no_ack no_memory no_tlv =
-        fault-handled (faults.LeftOut tid kind found) kind tid RejectUnrecognizedSetting Nothing (refl, refl) (λ k n is. (sym is.0, sym is.1))
+        faulty (faults.LeftOut tid kind found) kind tid RejectUnrecognizedSetting Nothing (refl, refl) (λ k n is. (sym is.0, sym is.1))
         (left_out_read tid kind found) (refl, refl)
     read-handled (Err faults.NoMemory) no_ack no_memory no_tlv = absurd (no_memory refl)
     read-handled (Ok (messages.Ack kind tid code)) no_ack no_memory no_tlv = absurd (no_ack kind tid code refl)
@@ -228,10 +211,10 @@ bytes-handled op modem bytes sound are no_ack = read-handled op modem sound (mes
 -- a type that is left out, where nothing is kept
 pub left_out_handled : (op : Operator) (modem : Modem) (tid : ℕ) (kind : Kind) (found : ℕ) → tid < 32768 → op.state.kept ≡ [] → 0 < op.row.transactions
     → IsHandledBy op modem (Err (faults.LeftOut tid kind found)) Faulty
-    (carried_out op modem kind tid (Refused (faulty (record { kind = kind; tid = tid; code = RejectUnrecognizedSetting; detail = Nothing }))))
+    (carried_out op modem kind tid (Refused (record { kind = kind; tid = tid; code = RejectUnrecognizedSetting; detail = Nothing })))
 left_out_handled op modem tid kind found low nothing some =
     handled_by op modem (Err (faults.LeftOut tid kind found)) (Unread ∷ OfCmts ∷ Repeated ∷ KeptFull ∷ []) Faulty (Judged ∷ [])
-    (carried_out op modem kind tid (Refused (faulty (record { kind = kind; tid = tid; code = RejectUnrecognizedSetting; detail = Nothing })))) refl (
+    (carried_out op modem kind tid (Refused (record { kind = kind; tid = tid; code = RejectUnrecognizedSetting; detail = Nothing }))) refl (
       left_out_read op modem tid kind found,
       (
         (λ h. let high = h.3 in let same = h.2.1 in absurd (omega arith)),

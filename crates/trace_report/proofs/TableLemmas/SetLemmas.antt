@@ -1,10 +1,10 @@
 -- The checks of the sets that an addition or a change asks for.
 use Rattle.std.proofs.Common.{◌≡◌, ◌≢◌, ℕ, ◌==◌, true, List, [], ◌∷◌, ◌++◌, ◌⊎◌, Option, Some, None, IfSome, Result, Ok, Err, is_none, option_map, find, refl, sym, ap, ◌∙◌, subst, inl, inr}
-use Rattle.trace_report.proofs.TableLemmas.Common.{Contains, MatchResult, AllByRecursion, cond_both, cond-true, cond-false, eqb-true, true≢false, false≢true, All-from_recursion, All-contains, set_type_subtype, set_type_number, known_set_types, set_type_of, FlowFields, Null, Provisioned, Admitted, ProvisionedAndAdmitted, Active, AdmittedAndActive, AllSets, Modem, Kind, Dsa, Dsc, Dsd, Code, RejectRequiredParameterNotPresent, RejectInvalidForContext, RejectAuthorizationFailure, CheckRefusal, ParamFields, SetsFields, Refusal, is_within, nothing_fails, asked_of, Flow, AskedSets, Refused, Operator, IsAbout, EncodingAsksFor, EncodingIsRefused, Admits, Activates, IsSetWhere, IsSetType, NamesUnknownClass, AcceptsSetType, GivesNoSet, set_type_code, Check, WrongSetType, NoParameterSet, ActiveNotWithin, AdmittedNotWithin, FlowsFull, NoSfidFree, NoSidFree, ElementsOver, MinislotsOver, Accepted}
+use Rattle.trace_report.proofs.TableLemmas.Common.{Contains, MatchResult, AllByRecursion, cond_both, cond-true, cond-false, eqb-true, true≢false, false≢true, All-from_recursion, All-contains, set_type_subtype, set_type_number, known_set_types, set_type_of, FlowFields, Null, Provisioned, Admitted, ProvisionedAndAdmitted, Active, AdmittedAndActive, AllSets, Modem, Kind, Dsa, Dsc, Dsd, Code, RejectRequiredParameterNotPresent, RejectInvalidForContext, RejectAuthorizationFailure, ReplyFields, ParamFields, SetsFields, Refusal, is_within, nothing_fails, asked_of, Flow, AskedSets, Refused, Operator, IsAbout, EncodingAsksFor, EncodingIsRefused, Admits, Activates, IsSetWhere, IsSetType, NamesUnknownClass, AcceptsSetType, GivesNoSet, set_type_code, Check, WrongSetType, NoParameterSet, ActiveNotWithin, AdmittedNotWithin, FlowsFull, NoSfidFree, NoSidFree, ElementsOver, MinislotsOver, Accepted}
 use Rattle.lists.specs.Results.{◌>>=◌}
 use Rattle.tlv24.specs.declared.set_type.SetType.{SetType}
 use Rattle.param_sets.specs.Reading.{parameter_set_of}
-use Rattle.operator_model.specs.Asked.{refused_by, refusal_naming, is_same, has_set_type, set_or_refusal, set_over_class, set_of, is_change, asked_by_type, asked_by_one, asked_in_order, asked_by_two, asked_sets, failing_active, failing_admitted, nested_unless, nested_sets}
+use Rattle.operator_model.specs.Asked.{refusal_naming, is_same, has_set_type, set_or_refusal, set_over_class, set_of, is_change, asked_by_type, asked_by_one, asked_in_order, asked_by_two, asked_sets, failing_active, failing_admitted, nested_unless, nested_sets}
 use Rattle.trace_report.proofs.TableLemmas.ListLemmas.{contains-here, contains-later, contains_cases, contains-nothing, any_from, none_any, all_more, first-here, first-later}
 use Rattle.trace_report.proofs.TableLemmas.TableLemmas.{up_to_flow, up_to_sets, Fails, IsDecided, decided}
 use Rattle.trace_report.proofs.TableLemmas.EncodingLemmas.{is_same_from, unclassed, IsShape, said_of, trans, named_refusal, IsReady}
@@ -22,7 +22,7 @@ number_of n set_type is = subst (λ (o : Option SetType). IfSome o (λ t. n ≡ 
 -- ---- one check after the other
 
 -- what a check gives the next one takes over
-pub match_then : {A B : Type 0} (P : A → Type 0) (R : B → Type 0) (Q : CheckRefusal → Type 0) (r : Result A CheckRefusal) (f : A → Result B CheckRefusal)
+pub match_then : {A B : Type 0} (P : A → Type 0) (R : B → Type 0) (Q : ReplyFields → Type 0) (r : Result A ReplyFields) (f : A → Result B ReplyFields)
     → MatchResult r P Q → ((x : A) → P x → MatchResult (f x) R Q) → MatchResult (r >>= f) R Q
 match_then P R Q (Ok x) f h next = next x h
 match_then P R Q (Err reply) f h next = h
@@ -96,15 +96,15 @@ module _ (op : Operator) (modem : Modem) (kind : Kind) (tid : ℕ) (not_dsd : ki
   abbrev Failing : List FlowFields → Check → Type 0
   Failing es check = Fails op modem (said_of op modem kind tid not_dsd es) check
 
-  abbrev Decided : List FlowFields → CheckRefusal → Type 0
-  Decided es refused = IsDecided op modem (said_of op modem kind tid not_dsd es) (Refused refused)
+  abbrev Decided : List FlowFields → ReplyFields → Type 0
+  Decided es reply = IsDecided op modem (said_of op modem kind tid not_dsd es) (Refused reply)
 
-  abbrev naming_refusal : Check → Code → FlowFields → ℕ → CheckRefusal
-  naming_refusal check code e subtype = refused_by check (refusal_naming (trans op modem kind tid not_dsd) code e subtype)
+  abbrev naming_refusal : Code → FlowFields → ℕ → ReplyFields
+  naming_refusal code e subtype = refusal_naming (trans op modem kind tid not_dsd) code e subtype
 
   -- the set of an encoding, or why it has none
-  abbrev IsNoSet : FlowFields → CheckRefusal → Type 0
-  IsNoSet e refused = (r : Refusal) × EncodingIsRefused op.consts e r × (refused ≡ naming_refusal NoParameterSet r.code e r.subtype)
+  abbrev IsNoSet : FlowFields → ReplyFields → Type 0
+  IsNoSet e reply = (r : Refusal) × EncodingIsRefused op.consts e r × (reply ≡ naming_refusal r.code e r.subtype)
 
   set-view : (e : FlowFields) → ¬ NamesUnknownClass op.consts.classes e → MatchResult (set_of (trans op modem kind tid not_dsd) op.consts e) (EncodingAsksFor op.consts e) (IsNoSet e)
   unfolding set_of
@@ -132,24 +132,24 @@ module _ (op : Operator) (modem : Modem) (kind : Kind) (tid : ℕ) (not_dsd : ki
     pub null : asked.admitted ≡ None → (kind ≡ Dsc) × (asked.active ≡ None)
     pub none : AllByRecursion (Failing es) (up_to_flow ++ WrongSetType ∷ NoParameterSet ∷ [])
 
-  abbrev View : List FlowFields → Result AskedSets CheckRefusal → Type 0
+  abbrev View : List FlowFields → Result AskedSets ReplyFields → Type 0
   View es r = MatchResult r (AreAsked es) (Decided es)
 
   -- ---- one encoding
 
   module _ (e : FlowFields) (known : ¬ NamesUnknownClass op.consts.classes e) (none : AllByRecursion (Failing (e ∷ [])) up_to_flow) where
-    wrong_type : ¬ AcceptsSetType kind e.set_type → (code : Code) → code ≡ set_type_code e.set_type → Decided (e ∷ []) (naming_refusal WrongSetType code e 6)
+    wrong_type : ¬ AcceptsSetType kind e.set_type → (code : Code) → code ≡ set_type_code e.set_type → Decided (e ∷ []) (naming_refusal code e 6)
     wrong_type untaken code is =
         decided op modem (said_of op modem kind tid not_dsd (e ∷ [])) up_to_flow WrongSetType
         (NoParameterSet ∷ ActiveNotWithin ∷ AdmittedNotWithin ∷ FlowsFull ∷ NoSfidFree ∷ NoSidFree ∷ ElementsOver ∷ MinislotsOver ∷ Accepted ∷ [])
         _ refl none (e, refl, untaken)
-        (e, refl, ap (λ (c : Code). Refused (naming_refusal WrongSetType c e 6)) is ∙ named_refusal op modem kind tid not_dsd WrongSetType (e ∷ []) (set_type_code e.set_type) e 6)
+        (e, refl, ap (λ (c : Code). Refused (naming_refusal c e 6)) is ∙ named_refusal op modem kind tid not_dsd (e ∷ []) (set_type_code e.set_type) e 6)
 
     right_type : AcceptsSetType kind e.set_type → AllByRecursion (Failing (e ∷ [])) (up_to_flow ++ WrongSetType ∷ [])
     right_type taken = all_more (Failing (e ∷ [])) up_to_flow WrongSetType none
         (λ h. let same : e ≡ h.0 = cc in h.2 (subst (λ (x : FlowFields). AcceptsSetType kind x.set_type) same taken))
 
-    no_set : AcceptsSetType kind e.set_type → ¬ IsSetType Null e.set_type → (reply : CheckRefusal) → IsNoSet e reply → Decided (e ∷ []) reply
+    no_set : AcceptsSetType kind e.set_type → ¬ IsSetType Null e.set_type → (reply : ReplyFields) → IsNoSet e reply → Decided (e ∷ []) reply
     no_set taken not_null reply is =
         decided op modem (said_of op modem kind tid not_dsd (e ∷ [])) (up_to_flow ++ WrongSetType ∷ []) NoParameterSet
         (ActiveNotWithin ∷ AdmittedNotWithin ∷ FlowsFull ∷ NoSfidFree ∷ NoSidFree ∷ ElementsOver ∷ MinislotsOver ∷ Accepted ∷ [])
@@ -158,7 +158,7 @@ module _ (op : Operator) (modem : Modem) (kind : Kind) (tid : ℕ) (not_dsd : ki
           is.0,
           first-here (GivesNoSet op.consts) e [] (not_null, is.0, is.1),
           is.1,
-          ap (λ (r : CheckRefusal). Refused r) is.2 ∙ named_refusal op modem kind tid not_dsd NoParameterSet (e ∷ []) is.0.code e is.0.subtype,
+          ap (λ (r : ReplyFields). Refused r) is.2 ∙ named_refusal op modem kind tid not_dsd (e ∷ []) is.0.code e is.0.subtype,
         )
 
     some_set : AcceptsSetType kind e.set_type → (set : ParamFields) → EncodingAsksFor op.consts e set → AllByRecursion (Failing (e ∷ [])) (up_to_flow ++ WrongSetType ∷ NoParameterSet ∷ [])
@@ -172,7 +172,7 @@ module _ (op : Operator) (modem : Modem) (kind : Kind) (tid : ℕ) (not_dsd : ki
         idle (inl other) = cc
         idle (inr other) = cc
 
-        by : (r : Result ParamFields CheckRefusal) → MatchResult r (EncodingAsksFor op.consts e) (IsNoSet e) → View (e ∷ []) (r >>= λ set. Ok (record { admitted = Some set; active = None }))
+        by : (r : Result ParamFields ReplyFields) → MatchResult r (EncodingAsksFor op.consts e) (IsNoSet e) → View (e ∷ []) (r >>= λ set. Ok (record { admitted = Some set; active = None }))
         by (Err reply) h = no_set (inl is) (λ other. cc) reply h
         by (Ok set) asks =
             let admitted : IsSetWhere Admits op.consts (e ∷ []) (Some set) = set_here op Admits (e ∷ []) e set (contains-here e []) (inl is) asks in
@@ -189,7 +189,7 @@ module _ (op : Operator) (modem : Modem) (kind : Kind) (tid : ℕ) (not_dsd : ki
     activates_one : IsSetType AdmittedAndActive e.set_type → View (e ∷ []) (set_of (trans op modem kind tid not_dsd) op.consts e >>= λ set. Ok (record { admitted = Some set; active = Some set }))
     activates_one is = by (set_of (trans op modem kind tid not_dsd) op.consts e) (set-view e known)
       where
-        by : (r : Result ParamFields CheckRefusal) → MatchResult r (EncodingAsksFor op.consts e) (IsNoSet e) → View (e ∷ []) (r >>= λ set. Ok (record { admitted = Some set; active = Some set }))
+        by : (r : Result ParamFields ReplyFields) → MatchResult r (EncodingAsksFor op.consts e) (IsNoSet e) → View (e ∷ []) (r >>= λ set. Ok (record { admitted = Some set; active = Some set }))
         by (Err reply) h = no_set (inr (inl is)) (λ other. cc) reply h
         by (Ok set) asks =
             let admitted : IsSetWhere Admits op.consts (e ∷ []) (Some set) = set_here op Admits (e ∷ []) e set (contains-here e []) (inr is) asks in
@@ -234,7 +234,7 @@ module _ (op : Operator) (modem : Modem) (kind : Kind) (tid : ℕ) (not_dsd : ki
         untaken n set_type is found a b c (inr (inl both)) = let same : n ≡ set_type_number AdmittedAndActive = cc in b (sym found ∙ ap set_type_of same)
         untaken n set_type is found a b c (inr (inr null)) = let same : n ≡ set_type_number Null = cc (null.1) in c null.0 (sym found ∙ ap set_type_of same)
 
-        wrong : (n : ℕ) → e.set_type ≡ Some n → ¬ AcceptsSetType kind e.set_type → Decided (e ∷ []) (naming_refusal WrongSetType RejectInvalidForContext e set_type_subtype)
+        wrong : (n : ℕ) → e.set_type ≡ Some n → ¬ AcceptsSetType kind e.set_type → Decided (e ∷ []) (refusal_naming (trans op modem kind tid not_dsd) RejectInvalidForContext e set_type_subtype)
         wrong n is not_taken = wrong_type not_taken RejectInvalidForContext (ap set_type_code (sym is))
 
         changes : (k : Kind) → is_change k ≡ true → k ≡ Dsc
@@ -276,7 +276,7 @@ module _ (op : Operator) (modem : Modem) (kind : Kind) (tid : ℕ) (not_dsd : ki
     two_types : AllByRecursion (Failing both) (up_to_flow ++ WrongSetType ∷ [])
     two_types = all_more (Failing both) up_to_flow WrongSetType none (λ h. cc (h.1))
 
-    first_no_set : ¬ IsSetType Null a.set_type → (reply : CheckRefusal) → IsNoSet a reply → Decided both reply
+    first_no_set : ¬ IsSetType Null a.set_type → (reply : ReplyFields) → IsNoSet a reply → Decided both reply
     first_no_set not_null reply is =
         decided op modem (said_of op modem kind tid not_dsd both) (up_to_flow ++ WrongSetType ∷ []) NoParameterSet
         (ActiveNotWithin ∷ AdmittedNotWithin ∷ FlowsFull ∷ NoSfidFree ∷ NoSidFree ∷ ElementsOver ∷ MinislotsOver ∷ Accepted ∷ [])
@@ -285,13 +285,13 @@ module _ (op : Operator) (modem : Modem) (kind : Kind) (tid : ℕ) (not_dsd : ki
           is.0,
           first-here (GivesNoSet op.consts) a (b ∷ []) (not_null, is.0, is.1),
           is.1,
-          ap (λ (r : CheckRefusal). Refused r) is.2 ∙ named_refusal op modem kind tid not_dsd NoParameterSet both is.0.code a is.0.subtype,
+          ap (λ (r : ReplyFields). Refused r) is.2 ∙ named_refusal op modem kind tid not_dsd both is.0.code a is.0.subtype,
         )
 
     gives_a_set : (e : FlowFields) (set : ParamFields) → EncodingAsksFor op.consts e set → ¬ GivesNoSet op.consts e
     gives_a_set e set asks h = let refused : EncodingIsRefused op.consts e h.1 = h.2 in cc
 
-    second_no_set : ¬ IsSetType Null b.set_type → (set : ParamFields) → EncodingAsksFor op.consts a set → (reply : CheckRefusal) → IsNoSet b reply → Decided both reply
+    second_no_set : ¬ IsSetType Null b.set_type → (set : ParamFields) → EncodingAsksFor op.consts a set → (reply : ReplyFields) → IsNoSet b reply → Decided both reply
     second_no_set not_null set asks reply is =
         decided op modem (said_of op modem kind tid not_dsd both) (up_to_flow ++ WrongSetType ∷ []) NoParameterSet
         (ActiveNotWithin ∷ AdmittedNotWithin ∷ FlowsFull ∷ NoSfidFree ∷ NoSidFree ∷ ElementsOver ∷ MinislotsOver ∷ Accepted ∷ [])
@@ -300,7 +300,7 @@ module _ (op : Operator) (modem : Modem) (kind : Kind) (tid : ℕ) (not_dsd : ki
           is.0,
           first-later (GivesNoSet op.consts) a (b ∷ []) b (gives_a_set a set asks) (first-here (GivesNoSet op.consts) b [] (not_null, is.0, is.1)),
           is.1,
-          ap (λ (r : CheckRefusal). Refused r) is.2 ∙ named_refusal op modem kind tid not_dsd NoParameterSet both is.0.code b is.0.subtype,
+          ap (λ (r : ReplyFields). Refused r) is.2 ∙ named_refusal op modem kind tid not_dsd both is.0.code b is.0.subtype,
         )
 
     two_sets : (x y : ParamFields) → EncodingAsksFor op.consts a x → EncodingAsksFor op.consts b y → AllByRecursion (Failing both) (up_to_flow ++ WrongSetType ∷ NoParameterSet ∷ [])
@@ -354,11 +354,11 @@ module _ (op : Operator) (modem : Modem) (kind : Kind) (tid : ℕ) (not_dsd : ki
     two-view : View both (asked_by_two (trans op modem kind tid not_dsd) op.consts a b)
     two-view = by (set_of (trans op modem kind tid not_dsd) op.consts a) (set-view a known_a)
       where
-        then : (x : ParamFields) → EncodingAsksFor op.consts a x → (r : Result ParamFields CheckRefusal) → MatchResult r (EncodingAsksFor op.consts b) (IsNoSet b) → View both (r >>= λ y. Ok (asked_in_order a x y))
+        then : (x : ParamFields) → EncodingAsksFor op.consts a x → (r : Result ParamFields ReplyFields) → MatchResult r (EncodingAsksFor op.consts b) (IsNoSet b) → View both (r >>= λ y. Ok (asked_in_order a x y))
         then x asks_x (Err reply) h = second_no_set not_null_b x asks_x reply h
         then x asks_x (Ok y) asks_y = ordered x y asks_x asks_y shape
 
-        by : (r : Result ParamFields CheckRefusal) → MatchResult r (EncodingAsksFor op.consts a) (IsNoSet a)
+        by : (r : Result ParamFields ReplyFields) → MatchResult r (EncodingAsksFor op.consts a) (IsNoSet a)
             → View both (r >>= λ x. set_of (trans op modem kind tid not_dsd) op.consts b >>= λ y. Ok (asked_in_order a x y))
         by (Err reply) h = first_no_set not_null_a reply h
         by (Ok x) asks_x = then x asks_x (set_of (trans op modem kind tid not_dsd) op.consts b) (set-view b known_b)
@@ -388,13 +388,13 @@ module _ (op : Operator) (modem : Modem) (kind : Kind) (tid : ℕ) (not_dsd : ki
       pub are : sets ≡ record { provisioned = provisioned_of about; admitted = asked.admitted; active = asked.active }
       pub none : AllByRecursion (Failing es) up_to_sets
 
-    abbrev Nested : Result SetsFields CheckRefusal → Type 0
+    abbrev Nested : Result SetsFields ReplyFields → Type 0
     Nested r = MatchResult r AreNestedSets (Decided es)
 
-    active_fails : (subtype : ℕ) → failing_active asked.active asked.admitted ≡ Some subtype → Decided es (naming_refusal ActiveNotWithin RejectInvalidForContext first subtype)
+    active_fails : (subtype : ℕ) → failing_active asked.active asked.admitted ≡ Some subtype → Decided es (naming_refusal RejectInvalidForContext first subtype)
     active_fails subtype fails = by asked.active asked.admitted refl refl fails
       where
-        by : (x y : Option ParamFields) → asked.active ≡ x → asked.admitted ≡ y → failing_active x y ≡ Some subtype → Decided es (naming_refusal ActiveNotWithin RejectInvalidForContext first subtype)
+        by : (x y : Option ParamFields) → asked.active ≡ x → asked.admitted ≡ y → failing_active x y ≡ Some subtype → Decided es (naming_refusal RejectInvalidForContext first subtype)
         by None y is_x is_y fails = cc
         by (Some x) None is_x is_y fails = let none = (is.null is_y).1 in cc
         by (Some x) (Some y) is_x is_y fails =
@@ -403,7 +403,7 @@ module _ (op : Operator) (modem : Modem) (kind : Kind) (tid : ℕ) (not_dsd : ki
             decided op modem (said_of op modem kind tid not_dsd es) (up_to_flow ++ WrongSetType ∷ NoParameterSet ∷ []) ActiveNotWithin
             (AdmittedNotWithin ∷ FlowsFull ∷ NoSfidFree ∷ NoSidFree ∷ ElementsOver ∷ MinislotsOver ∷ Accepted ∷ [])
             _ refl is.none (x, y, active, admitted, λ within. let nothing = nothing_fails x y within in cc)
-            (first, x, y, subtype, has, active, admitted, fails, named_refusal op modem kind tid not_dsd ActiveNotWithin es RejectInvalidForContext first subtype)
+            (first, x, y, subtype, has, active, admitted, fails, named_refusal op modem kind tid not_dsd es RejectInvalidForContext first subtype)
 
     active_holds : failing_active asked.active asked.admitted ≡ None → AllByRecursion (Failing es) (up_to_flow ++ WrongSetType ∷ NoParameterSet ∷ ActiveNotWithin ∷ [])
     active_holds fails = all_more (Failing es) (up_to_flow ++ WrongSetType ∷ NoParameterSet ∷ []) ActiveNotWithin is.none
@@ -411,11 +411,11 @@ module _ (op : Operator) (modem : Modem) (kind : Kind) (tid : ℕ) (not_dsd : ki
         ∙ (ap (λ (y : Option ParamFields). failing_active asked.active y) (is.only_admitted (Some h.1) h.3) ∙ fails))))
 
     admitted_fails : (subtype : ℕ) → failing_active asked.active asked.admitted ≡ None → failing_admitted asked.admitted (provisioned_of about) ≡ Some subtype
-        → Decided es (naming_refusal AdmittedNotWithin RejectAuthorizationFailure first subtype)
+        → Decided es (naming_refusal RejectAuthorizationFailure first subtype)
     admitted_fails subtype within fails = by asked.admitted about refl refl fails
       where
         to : (flow : Flow) → about ≡ Some flow → (y : ParamFields) → asked.admitted ≡ Some y → (z : Option ParamFields) → flow.sets.provisioned ≡ z
-            → failing_admitted (Some y) z ≡ Some subtype → Decided es (naming_refusal AdmittedNotWithin RejectAuthorizationFailure first subtype)
+            → failing_admitted (Some y) z ≡ Some subtype → Decided es (naming_refusal RejectAuthorizationFailure first subtype)
         to flow is_flow y is_y None is_z fails = cc
         to flow is_flow y is_y (Some z) is_z fails =
             let there : IsAbout op (said_of op modem kind tid not_dsd es) (Some flow) = subst (IsAbout op (said_of op modem kind tid not_dsd es)) is_flow is_about in
@@ -423,10 +423,10 @@ module _ (op : Operator) (modem : Modem) (kind : Kind) (tid : ℕ) (not_dsd : ki
             decided op modem (said_of op modem kind tid not_dsd es) (up_to_flow ++ WrongSetType ∷ NoParameterSet ∷ ActiveNotWithin ∷ []) AdmittedNotWithin
             (FlowsFull ∷ NoSfidFree ∷ NoSidFree ∷ ElementsOver ∷ MinislotsOver ∷ Accepted ∷ [])
             _ refl (active_holds within) (flow, y, z, there, admitted, is_z, λ inside. let nothing = nothing_fails y z inside in cc)
-            (first, flow, y, z, subtype, has, there, admitted, is_z, fails, named_refusal op modem kind tid not_dsd AdmittedNotWithin es RejectAuthorizationFailure first subtype)
+            (first, flow, y, z, subtype, has, there, admitted, is_z, fails, named_refusal op modem kind tid not_dsd es RejectAuthorizationFailure first subtype)
 
         by : (y : Option ParamFields) (o : Option Flow) → asked.admitted ≡ y → about ≡ o → failing_admitted y (provisioned_of o) ≡ Some subtype
-            → Decided es (naming_refusal AdmittedNotWithin RejectAuthorizationFailure first subtype)
+            → Decided es (naming_refusal RejectAuthorizationFailure first subtype)
         by None o is_y is_o fails = cc
         by (Some y) None is_y is_o fails = cc
         by (Some y) (Some flow) is_y is_o fails = to flow is_o y is_y flow.sets.provisioned refl fails

@@ -1,6 +1,6 @@
 -- Each action that is not refused leaves who waits.
 use Rattle.std.proofs.Common.{◌≡◌, ◌≢◌, ◌==◌, ◌&&◌, ◌≤◌, not, nat_le, ℕ, Bool, true, false, cond, List, [], ◌∷◌, ◌++◌, length, ◌⊎◌, inl, inr, Option, Some, None, Result, Ok, Err, IfSome, is_some, option_map, AllPairs, find, map, refl, sym, ap, ◌∙◌, subst, arith}
-use Rattle.trace_report.proofs.TableLemmas.Common.{nat_cmp, remove_entry, cases_eq, cond_both, and_parts, false≢true, none-some, same_Some, Modem, Kind, Dsa, Dsc, Dsd, Message, MessageFault, message_of, KeptEntry, is_waiting, is_of, same_kind, waits_for, begun_entry, given_up_in, RowFields, same_modem, IsRowOf, Flow, asks_for_grants, flow_after_ack, flow_after_request, flow_at, flow_with, with_flow, is_sid, flowing_in, Verdict, Refused, Put, Deleted, OperatorState, Operator, operator, opened_flow, opened_state, refusal, faulty, verdict, encoding_refusal, StepResult, reply_of, sfid_of, does_wait, flows_acked, carried_out, is_of_cmts, new_unless, transaction_result, acked_if, ack_result, kind_of, tid_of, message_handled, asked_of_flow, handle, at_frame, flows_left, tick_result, IsWaitingOf, HasItsFlow, IsSound, at-insert_same, at-insert_other, at-remove_same, at-remove_other, at-find, at-change_other, at-undone_other, All-find, passes-find, given_up-HaveFlows, AreOfTwo, AreAwaited}
+use Rattle.trace_report.proofs.TableLemmas.Common.{nat_cmp, remove_entry, cases_eq, cond_both, and_parts, false≢true, none-some, same_Some, Modem, Kind, Dsa, Dsc, Dsd, Message, MessageFault, message_of, KeptEntry, is_waiting, is_of, same_kind, waits_for, begun_entry, given_up_in, RowFields, same_modem, IsRowOf, Flow, asks_for_grants, flow_after_ack, flow_after_request, flow_at, flow_with, with_flow, is_sid, flowing_in, Verdict, Refused, Put, Deleted, OperatorState, Operator, operator, opened_flow, opened_state, refusal, verdict, encoding_refusal, StepResult, reply_of, sfid_of, does_wait, flows_acked, carried_out, is_of_cmts, new_unless, transaction_result, acked_if, ack_result, kind_of, tid_of, message_handled, asked_of_flow, handle, at_frame, flows_left, tick_result, IsWaitingOf, HasItsFlow, IsSound, at-insert_same, at-insert_other, at-remove_same, at-remove_other, at-find, at-change_other, at-undone_other, All-find, passes-find, given_up-HaveFlows, AreOfTwo, AreAwaited}
 use Rattle.std.specs.BTreeMap.{is_at}
 use Rattle.dsx_messages.specs.declared.code.Code.TheVariants as codes
 use Rattle.dsx_messages.specs.declared.message.Message.TheVariants as messages
@@ -145,8 +145,8 @@ module _ (op : Operator) (sound : IsSound op) (held : Held op.state) where
   message_held modem (Err faults.Empty) = held
   message_held modem (Err (faults.NotOurs mtype)) = held
   message_held modem (Err faults.Short) = held
-  message_held modem (Err (faults.Tlv tid kind id fault)) = transacted_held modem kind tid (Refused (faulty (encoding_refusal kind tid id fault)))
-  message_held modem (Err (faults.LeftOut tid kind found)) = transacted_held modem kind tid (Refused (faulty (refusal kind tid codes.RejectUnrecognizedSetting)))
+  message_held modem (Err (faults.Tlv tid kind id fault)) = transacted_held modem kind tid (Refused (encoding_refusal kind tid id fault))
+  message_held modem (Err (faults.LeftOut tid kind found)) = transacted_held modem kind tid (Refused (refusal kind tid codes.RejectUnrecognizedSetting))
   message_held modem (Err faults.NoMemory) = held
   message_held modem (Ok (messages.Ack kind tid code)) = acked_held modem tid kind code
   message_held modem (Ok (messages.Request request)) = transacted_held modem (kind_of request) (tid_of request) (verdict op modem request)

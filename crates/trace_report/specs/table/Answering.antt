@@ -6,10 +6,7 @@ use Rattle.dsx_messages.specs.declared.modem.Modem.{Modem}
 use Rattle.dsx_messages.specs.declared.kind.Kind.{Kind}
 use Rattle.dsx_messages.specs.declared.kind.Kind.TheVariants.{Dsa, Dsc, Dsd}
 use Rattle.dsx_messages.specs.declared.code.Code.{Code}
-use Rattle.dsx_messages.specs.declared.code.Code.TheVariants.{Okay, RejectTemporary, RejectPermanent, RejectNotOwner, RejectFlowNotFound}
-use Rattle.dsx_messages.specs.declared.code.Code.TheVariants.{RejectRequiredParameterNotPresent, RejectDuplicateReference}
-use Rattle.dsx_messages.specs.declared.code.Code.TheVariants.{RejectMultipleUpstreamFlows, RejectInvalidForContext}
-use Rattle.dsx_messages.specs.declared.code.Code.TheVariants.{RejectAuthorizationFailure}
+use Rattle.dsx_messages.specs.declared.code.Code.TheVariants.{Okay, RejectTemporary, RejectPermanent, RejectNotOwner, RejectFlowNotFound, RejectRequiredParameterNotPresent, RejectDuplicateReference, RejectMultipleUpstreamFlows, RejectInvalidForContext, RejectAuthorizationFailure}
 use Rattle.dsx_messages.specs.declared.reply.Detail.{Detail}
 use Rattle.dsx_messages.specs.declared.reply.Detail.TheVariants.{Nothing, Given, Errored}
 use Rattle.admission.specs.Free.{IsLeastFree}
@@ -20,26 +17,18 @@ use Rattle.flow_table.specs.declared.flow.Flow.{Flow}
 use Rattle.flow_table.specs.Table.{sfids_of, sids_of}
 use Rattle.operator_model.specs.declared.verdict.Verdict.{Verdict}
 use Rattle.operator_model.specs.declared.verdict.Verdict.TheVariants.{Refused, Put, Deleted}
-use Rattle.operator_model.specs.declared.check.Decision.TheVariants as decisions
 use Rattle.operator_model.specs.State.{Operator}
 use Rattle.lists.specs.First.{IsFirst}
-use Rattle.trace_report.specs.table.Said.{Said, told_identifier, identifier_subtype, NamesFlow, IsOfFlow, IsAbout, EncodingIsRefused}
-use Rattle.trace_report.specs.table.Said.{IsToBeAdmitted, IsToBeActive}
+use Rattle.trace_report.specs.table.Said.{Said, told_identifier, identifier_subtype, NamesFlow, IsOfFlow, IsAbout, EncodingIsRefused, IsToBeAdmitted, IsToBeActive}
 use Rattle.trace_report.specs.table.Holding.{NamesUnknownClass, GivesNoSet}
-use Rattle.operator_model.specs.declared.check.Check.{Check}
-use Rattle.operator_model.specs.declared.check.Check.TheVariants.{UnknownClass, NoEncoding, IdentifiersDiffer, NotTogether, NoIdentifier}
-use Rattle.operator_model.specs.declared.check.Check.TheVariants.{UnknownFlow, NotOwner, FlowWaits, WrongSetType, NoParameterSet}
-use Rattle.operator_model.specs.declared.check.Check.TheVariants.{ActiveNotWithin, AdmittedNotWithin, FlowsFull, NoSfidFree, NoSidFree}
-use Rattle.operator_model.specs.declared.check.Check.TheVariants.{ElementsOver, MinislotsOver, Accepted}
+use Rattle.trace_report.specs.declared.table.check.Check.{Check}
+use Rattle.trace_report.specs.declared.table.check.Check.TheVariants.{UnknownClass, NoEncoding, IdentifiersDiffer, NotTogether, NoIdentifier, UnknownFlow, NotOwner, FlowWaits, WrongSetType, NoParameterSet, ActiveNotWithin, AdmittedNotWithin, FlowsFull, NoSfidFree, NoSidFree, ElementsOver, MinislotsOver, Accepted}
 
 -- ---- refusals
 
--- a refusal of the request by this check, with this confirmation code and this detail
-abbrev pub refusal_verdict : Check → Said → Code → Detail → Verdict
-refusal_verdict check said code detail = Refused (record {
-  check = decisions.Request check;
-  reply = record { kind = said.kind; tid = said.tid; code = code; detail = detail };
-})
+-- a refusal of the request with this confirmation code and this detail
+abbrev pub refusal_verdict : Said → Code → Detail → Verdict
+refusal_verdict said code detail = Refused (record { kind = said.kind; tid = said.tid; code = code; detail = detail })
 
 -- the invalid encoding, by its identifier, and a subtype
 abbrev pub naming : Said → FlowFields → ℕ → Detail
@@ -128,43 +117,43 @@ IsAccepted Dsd op modem said answer = IsDeleted said answer
 
 -- ---- the answers
 
--- what each check answers: a verdict that names the check, its confirmation code, and where it has one the encoding and the subtype that
--- the reply names (which code is implementation-specific)
+-- what each check answers: its confirmation code, and where it has one the encoding and the subtype that the reply names (which code is
+-- implementation-specific)
 abbrev pub AnswersCheck : Check → Operator → Modem → Said → Verdict → Type 0
 AnswersCheck UnknownClass op modem said answer =
     (encoding : FlowFields) × IsFirst (NamesUnknownClass op.consts.classes) said.encodings encoding
-    × (answer ≡ refusal_verdict UnknownClass said RejectPermanent (naming said encoding class_name_subtype))
-AnswersCheck NoEncoding op modem said answer = answer ≡ refusal_verdict NoEncoding said RejectRequiredParameterNotPresent Nothing
-AnswersCheck IdentifiersDiffer op modem said answer = answer ≡ refusal_verdict IdentifiersDiffer said RejectMultipleUpstreamFlows Nothing
-AnswersCheck NotTogether op modem said answer = answer ≡ refusal_verdict NotTogether said RejectDuplicateReference Nothing
+    × (answer ≡ refusal_verdict said RejectPermanent (naming said encoding class_name_subtype))
+AnswersCheck NoEncoding op modem said answer = answer ≡ refusal_verdict said RejectRequiredParameterNotPresent Nothing
+AnswersCheck IdentifiersDiffer op modem said answer = answer ≡ refusal_verdict said RejectMultipleUpstreamFlows Nothing
+AnswersCheck NotTogether op modem said answer = answer ≡ refusal_verdict said RejectDuplicateReference Nothing
 AnswersCheck NoIdentifier op modem said answer =
-    answer ≡ refusal_verdict NoIdentifier said RejectRequiredParameterNotPresent (Errored None (identifier_subtype said.kind))
-AnswersCheck UnknownFlow op modem said answer = answer ≡ refusal_verdict UnknownFlow said RejectFlowNotFound Nothing
-AnswersCheck NotOwner op modem said answer = answer ≡ refusal_verdict NotOwner said RejectNotOwner Nothing
-AnswersCheck FlowWaits op modem said answer = answer ≡ refusal_verdict FlowWaits said RejectTemporary Nothing
+    answer ≡ refusal_verdict said RejectRequiredParameterNotPresent (Errored None (identifier_subtype said.kind))
+AnswersCheck UnknownFlow op modem said answer = answer ≡ refusal_verdict said RejectFlowNotFound Nothing
+AnswersCheck NotOwner op modem said answer = answer ≡ refusal_verdict said RejectNotOwner Nothing
+AnswersCheck FlowWaits op modem said answer = answer ≡ refusal_verdict said RejectTemporary Nothing
 AnswersCheck WrongSetType op modem said answer =
     (encoding : FlowFields) × (said.encodings ≡ encoding ∷ [])
-    × (answer ≡ refusal_verdict WrongSetType said (set_type_code encoding.set_type) (naming said encoding set_type_subtype))
+    × (answer ≡ refusal_verdict said (set_type_code encoding.set_type) (naming said encoding set_type_subtype))
 AnswersCheck NoParameterSet op modem said answer =
     (encoding : FlowFields) × (refusal : Refusal) × IsFirst (GivesNoSet op.consts) said.encodings encoding
     × EncodingIsRefused op.consts encoding refusal
-    × (answer ≡ refusal_verdict NoParameterSet said refusal.code (naming said encoding refusal.subtype))
+    × (answer ≡ refusal_verdict said refusal.code (naming said encoding refusal.subtype))
 AnswersCheck ActiveNotWithin op modem said answer =
     (encoding : FlowFields) × (active : ParamFields) × (admitted : ParamFields) × (subtype : ℕ)
     × Contains said.encodings encoding
     × IsToBeActive op said (Some active) × IsToBeAdmitted op said (Some admitted)
     × (first_failing active admitted ≡ Some subtype)
-    × (answer ≡ refusal_verdict ActiveNotWithin said RejectInvalidForContext (naming said encoding subtype))
+    × (answer ≡ refusal_verdict said RejectInvalidForContext (naming said encoding subtype))
 AnswersCheck AdmittedNotWithin op modem said answer =
     (encoding : FlowFields) × (flow : Flow) × (admitted : ParamFields) × (provisioned : ParamFields) × (subtype : ℕ)
     × Contains said.encodings encoding
     × IsAbout op said (Some flow) × IsToBeAdmitted op said (Some admitted)
     × (flow.sets.provisioned ≡ Some provisioned)
     × (first_failing admitted provisioned ≡ Some subtype)
-    × (answer ≡ refusal_verdict AdmittedNotWithin said RejectAuthorizationFailure (naming said encoding subtype))
-AnswersCheck FlowsFull op modem said answer = answer ≡ refusal_verdict FlowsFull said RejectTemporary Nothing
-AnswersCheck NoSfidFree op modem said answer = answer ≡ refusal_verdict NoSfidFree said RejectTemporary Nothing
-AnswersCheck NoSidFree op modem said answer = answer ≡ refusal_verdict NoSidFree said RejectTemporary Nothing
-AnswersCheck ElementsOver op modem said answer = answer ≡ refusal_verdict ElementsOver said RejectTemporary Nothing
-AnswersCheck MinislotsOver op modem said answer = answer ≡ refusal_verdict MinislotsOver said RejectTemporary Nothing
+    × (answer ≡ refusal_verdict said RejectAuthorizationFailure (naming said encoding subtype))
+AnswersCheck FlowsFull op modem said answer = answer ≡ refusal_verdict said RejectTemporary Nothing
+AnswersCheck NoSfidFree op modem said answer = answer ≡ refusal_verdict said RejectTemporary Nothing
+AnswersCheck NoSidFree op modem said answer = answer ≡ refusal_verdict said RejectTemporary Nothing
+AnswersCheck ElementsOver op modem said answer = answer ≡ refusal_verdict said RejectTemporary Nothing
+AnswersCheck MinislotsOver op modem said answer = answer ≡ refusal_verdict said RejectTemporary Nothing
 AnswersCheck Accepted op modem said answer = IsAccepted said.kind op modem said answer

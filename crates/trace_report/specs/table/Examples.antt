@@ -12,10 +12,9 @@ use Rattle.operator_model.specs.declared.output.Output.{Output}
 use Rattle.operator_model.specs.declared.verdict.Verdict.{Verdict}
 use Rattle.operator_model.specs.State.{Operator, operator}
 use Rattle.operator_model.specs.Handle.{StepResult, reply_of}
-use Rattle.operator_model.specs.Worked.{worked_consts, worked_row, first_modem, hex, message_actions, addition, addition_ack, full_addition}
-use Rattle.operator_model.specs.Worked.{after}
-use Rattle.operator_model.specs.declared.check.Check.{Check}
-use Rattle.operator_model.specs.declared.check.MessageCheck.{MessageCheck}
+use Rattle.operator_model.specs.Worked.{worked_consts, worked_row, first_modem, hex, message_actions, addition, addition_ack, full_addition, after}
+use Rattle.trace_report.specs.declared.table.check.Check.{Check}
+use Rattle.trace_report.specs.declared.table.check.MessageCheck.{MessageCheck}
 use Rattle.trace_report.specs.table.Said.{said_by}
 use Rattle.trace_report.specs.table.Table.{IsDecidedBy}
 use Rattle.trace_report.specs.table.Messages.{IsHandledBy}

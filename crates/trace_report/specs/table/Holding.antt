@@ -1,6 +1,5 @@
 -- When each check of the table holds, by itself (CM-SP-MULPIv3.1, 11.2.2 and 11.2.3; which checks there are is implementation-specific).
-use Rattle.std.specs.Prelude.{◌≡◌, ◌≢◌, ℕ, ◌+◌, ◌-◌, ◌<◌, ◌≤◌, max, List, [], ◌∷◌, length, map, sum_by, All, Any, Contains, Option, Some}
-use Rattle.std.specs.Prelude.{None, IsSome, ◌⊎◌}
+use Rattle.std.specs.Prelude.{◌≡◌, ◌≢◌, ℕ, ◌+◌, ◌-◌, ◌<◌, ◌≤◌, max, List, [], ◌∷◌, length, map, sum_by, All, Any, Contains, Option, Some, None, IsSome, ◌⊎◌}
 use Rattle.tlv24.specs.SetType.{set_type_number}
 use Rattle.tlv24.specs.declared.fields.FlowFields.{FlowFields}
 use Rattle.tlv24.specs.declared.set_type.SetType.TheVariants.{Null, Admitted, Active, AdmittedAndActive}
@@ -20,13 +19,9 @@ use Rattle.flow_table.specs.Flow.{committed_of}
 use Rattle.flow_table.specs.Table.{sfids_of, sids_of, sid_if}
 use Rattle.operator_model.specs.declared.share.NextShare.{NextShare}
 use Rattle.operator_model.specs.State.{Operator}
-use Rattle.operator_model.specs.declared.check.Check.{Check}
-use Rattle.operator_model.specs.declared.check.Check.TheVariants.{UnknownClass, NoEncoding, IdentifiersDiffer, NotTogether, NoIdentifier}
-use Rattle.operator_model.specs.declared.check.Check.TheVariants.{UnknownFlow, NotOwner, FlowWaits, WrongSetType, NoParameterSet}
-use Rattle.operator_model.specs.declared.check.Check.TheVariants.{ActiveNotWithin, AdmittedNotWithin, FlowsFull, NoSfidFree, NoSidFree}
-use Rattle.operator_model.specs.declared.check.Check.TheVariants.{ElementsOver, MinislotsOver, Accepted}
-use Rattle.trace_report.specs.table.Said.{Said, identifier, NamesFlow, IsOfFlow, IsAbout, EncodingIsRefused, IsSetType, IsToBeAdmitted}
-use Rattle.trace_report.specs.table.Said.{IsToBeActive}
+use Rattle.trace_report.specs.declared.table.check.Check.{Check}
+use Rattle.trace_report.specs.declared.table.check.Check.TheVariants.{UnknownClass, NoEncoding, IdentifiersDiffer, NotTogether, NoIdentifier, UnknownFlow, NotOwner, FlowWaits, WrongSetType, NoParameterSet, ActiveNotWithin, AdmittedNotWithin, FlowsFull, NoSfidFree, NoSidFree, ElementsOver, MinislotsOver, Accepted}
+use Rattle.trace_report.specs.table.Said.{Said, identifier, NamesFlow, IsOfFlow, IsAbout, EncodingIsRefused, IsSetType, IsToBeAdmitted, IsToBeActive}
 
 -- an encoding names a class, and no class of the plant has that name
 abbrev pub NamesUnknownClass : List Class → FlowFields → Type 0

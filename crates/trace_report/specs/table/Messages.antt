@@ -1,12 +1,11 @@
 -- The checks of a message that is not an acknowledgement (CM-SP-MULPIv3.1, 11.2; which checks there are, their order and
 -- what is kept are implementation-specific).
-use Rattle.std.specs.Prelude.{◌≡◌, ◌≢◌, ℕ, ◌≤◌, ◌⊎◌, length, Result, Ok, Err}
+use Rattle.std.specs.Prelude.{◌≡◌, ◌≢◌, ℕ, ◌≤◌, ◌⊎◌, List, [], ◌∷◌, length, Result, Ok, Err}
 use Rattle.tlv24.specs.declared.tlv.TlvFault.TheVariants as tlv_faults
 use Rattle.dsx_messages.specs.declared.modem.Modem.{Modem}
 use Rattle.dsx_messages.specs.declared.kind.Kind.{Kind}
 use Rattle.dsx_messages.specs.declared.code.Code.{Code}
-use Rattle.dsx_messages.specs.declared.code.Code.TheVariants.{RejectOther, RejectUnrecognizedSetting, RejectTemporary}
-use Rattle.dsx_messages.specs.declared.code.Code.TheVariants.{RejectUnknownTransaction, RejectInvalidForContext}
+use Rattle.dsx_messages.specs.declared.code.Code.TheVariants.{RejectOther, RejectUnrecognizedSetting, RejectTemporary, RejectUnknownTransaction, RejectInvalidForContext}
 use Rattle.dsx_messages.specs.declared.reply.Detail.{Detail}
 use Rattle.dsx_messages.specs.declared.reply.Detail.TheVariants.{Nothing, Errored}
 use Rattle.dsx_messages.specs.declared.message.Request.{Request}
@@ -20,13 +19,11 @@ use Rattle.operator_model.specs.declared.output.Cause.{Cause}
 use Rattle.operator_model.specs.declared.output.Cause.TheVariants as causes
 use Rattle.operator_model.specs.declared.verdict.Verdict.{Verdict}
 use Rattle.operator_model.specs.declared.verdict.Verdict.TheVariants.{Refused}
-use Rattle.operator_model.specs.declared.check.Decision.TheVariants as decisions
-use Rattle.operator_model.specs.Checks.{message_table}
 use Rattle.operator_model.specs.State.{Operator}
 use Rattle.operator_model.specs.Handle.{StepResult, silent, reply_result, carried_out}
-use Rattle.operator_model.specs.declared.check.Check.{Check}
-use Rattle.operator_model.specs.declared.check.MessageCheck.{MessageCheck}
-use Rattle.operator_model.specs.declared.check.MessageCheck.TheVariants.{Unread, OfCmts, Repeated, KeptFull, Faulty, Judged}
+use Rattle.trace_report.specs.declared.table.check.Check.{Check}
+use Rattle.trace_report.specs.declared.table.check.MessageCheck.{MessageCheck}
+use Rattle.trace_report.specs.declared.table.check.MessageCheck.TheVariants.{Unread, OfCmts, Repeated, KeptFull, Faulty, Judged}
 use Rattle.lists.specs.First.{IsFirst}
 use Rattle.trace_report.specs.table.Said.{said_by}
 use Rattle.trace_report.specs.table.Table.{IsDecidedBy}
@@ -112,11 +109,15 @@ AnswersOf Faulty op modem reading ran =
     × ReadsAsRequest reading kind tid × (reading ≡ Err fault)
     × IsRefusedFor fault code detail
     × (ran ≡ carried_out op modem kind tid
-    (Refused (record { check = decisions.Message Faulty; reply = record { kind = kind; tid = tid; code = code; detail = detail } })))
+    (Refused (record { kind = kind; tid = tid; code = code; detail = detail })))
 AnswersOf Judged op modem reading ran =
     (request : Request) × (check : Check) × (verdict : Verdict) × (reading ≡ Ok (messages.Request request))
     × IsDecidedBy op modem (said_by request) check verdict
     × (ran ≡ carried_out op modem (said_by request).kind (said_by request).tid verdict)
+
+-- the checks 0 to 4 of docs/RULES.md, in their order, and then the check of the request
+abbrev pub message_table : List MessageCheck
+message_table = Unread ∷ OfCmts ∷ Repeated ∷ KeptFull ∷ Faulty ∷ Judged ∷ []
 
 -- this check of a message that is not an acknowledgement holds, none before it does, and this is what handling the message results in
 pub record IsHandledBy (op : Operator) (modem : Modem) (reading : Reading) (check : MessageCheck) (ran : StepResult) : Type 0 where

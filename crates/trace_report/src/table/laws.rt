@@ -3,13 +3,11 @@
 ghost use Rattle.std.specs.Prelude.{◌≡◌};
 ghost use Rattle.dsx_messages.specs.declared.message.Request.{Request};
 ghost use Rattle.dsx_messages.specs.declared.modem.Modem.{Modem};
-ghost use Rattle.operator_model.specs.declared.check.Decision.TheVariants as decisions;
 ghost use Rattle.operator_model.specs.declared.verdict.Verdict.{Verdict};
 ghost use Rattle.operator_model.specs.State.{Operator};
 ghost use Rattle.operator_model.specs.Sound.{IsSound};
-ghost use Rattle.operator_model.specs.Deciding.{check_of};
 ghost use Rattle.operator_model.specs.Verdict.{verdict};
-ghost use Rattle.operator_model.specs.declared.check.Check.{Check};
+ghost use Rattle.trace_report.specs.declared.table.check.Check.{Check};
 ghost use Rattle.trace_report.specs.table.Said.{Said, said_by};
 ghost use Rattle.trace_report.specs.table.Table.{IsDecidedBy};
 
@@ -18,14 +16,6 @@ ghost use Rattle.trace_report.specs.table.Table.{IsDecidedBy};
 pub fn verdict_is_decided()
     ensures { (op : Operator) (modem : Modem) (request : Request) → IsSound op
         → (check : Check) × IsDecidedBy op modem (said_by request) check (verdict op modem request) }
-{}
-
-/// States that the machine's verdict names its check: the check of the table that decides, whose
-/// answer the verdict is.
-pub fn verdict_names_its_check()
-    ensures { (op : Operator) (modem : Modem) (request : Request) → IsSound op
-        → (check : Check) × (check_of (verdict op modem request) ≡ decisions.Request check)
-        × IsDecidedBy op modem (said_by request) check (verdict op modem request) }
 {}
 
 /// States that just one check decides a request, with just one answer.

@@ -1,17 +1,14 @@
 //! The table against the machine: which check decides a message.
 
-ghost use Rattle.std.specs.Prelude.{◌≡◌, ℕ, List, Some};
+ghost use Rattle.std.specs.Prelude.{◌≡◌, ℕ, List};
 ghost use Rattle.tlv24.specs.Law.{AreBytes};
 ghost use Rattle.dsx_messages.specs.declared.modem.Modem.{Modem};
 ghost use Rattle.dsx_messages.specs.Reading.{message_of};
-ghost use Rattle.operator_model.specs.declared.check.Decision.TheVariants as decisions;
 ghost use Rattle.operator_model.specs.declared.heard.Heard.TheVariants as heards;
 ghost use Rattle.operator_model.specs.State.{Operator};
 ghost use Rattle.operator_model.specs.Sound.{IsSound};
-ghost use Rattle.operator_model.specs.Deciding.{message_decision};
 ghost use Rattle.operator_model.specs.Handle.{StepResult, handle};
-ghost use Rattle.operator_model.specs.declared.check.MessageCheck.{MessageCheck};
-ghost use Rattle.trace_report.specs.Decision.{DecidesReading};
+ghost use Rattle.trace_report.specs.declared.table.check.MessageCheck.{MessageCheck};
 ghost use Rattle.trace_report.specs.table.Messages.{Reading, IsNoAck, IsHandledBy};
 
 /// States that whatever the state that a machine can have, the modem and the bytes of a message
@@ -21,22 +18,6 @@ pub fn message_is_decided()
     ensures { (op : Operator) (modem : Modem) (bytes : List ℕ) → IsSound op → AreBytes bytes
         → IsNoAck (message_of bytes) → (check : MessageCheck)
         × IsHandledBy op modem (message_of bytes) check (handle op modem (heards.Message bytes)) }
-{}
-
-/// States that the check that the machine names for a message decides it: the first of the messages'
-/// table that holds, or the check of the request whose answer the verdict is. It names none exactly
-/// for an acknowledgement.
-pub fn message_names_its_check()
-    ensures { (op : Operator) (modem : Modem) (bytes : List ℕ) → IsSound op
-        → DecidesReading op modem (message_of bytes) (message_decision op modem (message_of bytes)) }
-{}
-
-/// States that where the machine names a check of a message, handling the message results in what
-/// that check answers.
-pub fn named_check_is_answered()
-    ensures { (op : Operator) (modem : Modem) (bytes : List ℕ) (check : MessageCheck) → IsSound op → AreBytes bytes
-        → message_decision op modem (message_of bytes) ≡ Some (decisions.Message check)
-        → IsHandledBy op modem (message_of bytes) check (handle op modem (heards.Message bytes)) }
 {}
 
 /// States that just one check decides a message, and handling it results in just one thing.

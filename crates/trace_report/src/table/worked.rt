@@ -1,8 +1,8 @@
 //! Which check decides, worked through on a plant.
 
 ghost use Rattle.std.specs.Prelude.{codes, [], ◌∷◌};
-ghost use Rattle.operator_model.specs.declared.check.Check.TheVariants.{NoEncoding, IdentifiersDiffer, NotTogether, NoIdentifier, UnknownFlow, NotOwner, FlowWaits, WrongSetType, NoParameterSet, ActiveNotWithin, AdmittedNotWithin, FlowsFull, NoSfidFree, NoSidFree, ElementsOver, MinislotsOver};
-ghost use Rattle.operator_model.specs.declared.check.MessageCheck.TheVariants.{Faulty};
+ghost use Rattle.trace_report.specs.declared.table.check.Check.TheVariants.{NoEncoding, IdentifiersDiffer, NotTogether, NoIdentifier, UnknownFlow, NotOwner, FlowWaits, WrongSetType, NoParameterSet, ActiveNotWithin, AdmittedNotWithin, FlowsFull, NoSfidFree, NoSidFree, ElementsOver, MinislotsOver};
+ghost use Rattle.trace_report.specs.declared.table.check.MessageCheck.TheVariants.{Faulty};
 ghost use Rattle.trace_report.specs.table.Examples.{worked_operator, one_added, full_added, provisioned_row, Decides, HandlesAs};
 ghost use Rattle.operator_model.specs.Worked.{worked_row, first_modem, second_modem, message_actions, addition, hex_reply};
 
@@ -31,8 +31,7 @@ pub fn worked_flows()
         (codes "150001000000000009") UnknownFlow (codes "1600010600") }
     ensures not_owner { Decides (worked_operator worked_row one_added) second_modem
         (codes "150001000000000101") NotOwner (codes "1600010500") }
-    ensures waits { Decides (worked_operator worked_row (message_actions first_modem addition)) first_modem
-        (codes "150002000000000101")
+    ensures waits { Decides (worked_operator worked_row (message_actions first_modem addition)) first_modem (codes "150002000000000101")
         FlowWaits (codes "1600020300") }
 {}
 
@@ -40,8 +39,7 @@ pub fn worked_flows()
 pub fn worked_room()
     ensures flows { Decides (worked_operator (record worked_row { flows = 1 }) one_added) first_modem
         (codes "0F0002180A010200020601060F0102") FlowsFull (codes "10000203") }
-    ensures sfids { Decides (worked_operator (record worked_row { sfids = record { first = 257; last = 257 } })
-        one_added)
+    ensures sfids { Decides (worked_operator (record worked_row { sfids = record { first = 257; last = 257 } }) one_added)
         first_modem (codes "0F0002180A010200020601060F0102") NoSfidFree (codes "10000203") }
     ensures sids { Decides (worked_operator (record worked_row { sids = record { first = 257; last = 257 } }) one_added)
         first_modem (codes "0F0002180A010200020601060F0102") NoSidFree (codes "10000203") }

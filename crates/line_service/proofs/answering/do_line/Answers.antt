@@ -1,5 +1,5 @@
 use Rattle.std.proofs.Common.{◌≡◌, Ok, subst, sym}
-use Rattle.plant_core.specs.declared.live.live_core.LiveCore.{LiveCore}
+use Rattle.plant_core.specs.declared.live.held.LiveCore.{LiveCore}
 use Rattle.plant_core.specs.live.After.{IsAfterFrom}
 use Rattle.line_service.proofs.Common.{PlantFields, live_view, LineOutcome, steps_said, HasAnswered}
 use Rattle.line_service.proofs.StepLemmas.{after_plant}

@@ -67,9 +67,9 @@ loop-number-preserved g c =
       finite = tt;
       count = count_next _ line _ _ _ left c.in-Some.ensures.steps.1 at.invariant.count;
       half = λ plant start before shown after.
-          half_more plant start before shown _ _ (live_view c.step_over_by.new.self) _ (g.W.Write.contents c.note_step.new.writer) (g.W.Write.contents c.write_noted.new.writer) line _ c.step_over_by.new.outs.items
+          half_more plant start before shown _ _ (live_view c.step_over_by.new.self) _ (g.W.Write.contents c.note_step.new.writer) (g.W.Write.contents c.write_outs.new.writer) line _ c.step_over_by.new.outs.items
           (rw c.note_step.ensures.kept (rw left at (at.invariant.half plant start before shown after))) (c.in-Ok-2.ensures.reached start)
-          (rw (← c.plant.ensures, ← c.as_slice.ensures.value) c.in_ok-write_noted-in-Ok-2.ensures);
+          (rw (← c.plant.ensures, ← c.as_slice.ensures.value) c.in_ok-write_outs-in-Ok-2.ensures);
     }
 
 pub returns-in-Err : goal.returns-in-Err
@@ -78,7 +78,7 @@ returns-in-Err g c plant start before shown after =
     let line = c.in-Some.field-0 in
     let left : into_iter_items at.number-iterator ≡ line ∷ into_iter_items c.next.new.self = c.in-Some.ensures.steps.0 in
     step_not_done plant start before shown c.args.steps.items (live_view at.core) (live_view c.step_over_by.new.self) (g.W.Write.contents c.args.writer.now) (g.W.Write.contents c.note_step.new.writer) line (into_iter_items c.next.new.self) (Unit {0}) c.in-Err.fault _
-    (rw c.note_step.ensures.kept (rw left at (at.invariant.half plant start before shown after))) c.in-Err.ensures.err c.in-Err.ensures.fault c.end_at_fault.ensures
+    (rw c.note_step.ensures.kept (rw left at (at.invariant.half plant start before shown after))) c.in-Err.ensures.err c.in-Err.ensures.fault c.end_of.ensures
 
 pub returns : goal.returns
 returns g c plant start before shown after =

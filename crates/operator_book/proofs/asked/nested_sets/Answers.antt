@@ -7,4 +7,4 @@ pub returns-in-Ok : goal.returns-in-Ok
 returns-in-Ok c = sym (nested_ok c.args.t c.args.first.now c.args.sets c.args.asked.now c.in-Ok.sets (search rules) (search rules))
 
 pub returns-in-Err : goal.returns-in-Err
-returns-in-Err c = ap Err c.refuse_naming-in-Err.ensures ∙ sym (nested_err c.args.t c.args.first.now c.args.sets c.args.asked.now c.in-Err.refused (search rules) (search rules))
+returns-in-Err c = ap Err c.refusal_naming-in-Err.ensures ∙ sym (nested_err c.args.t c.args.first.now c.args.sets c.args.asked.now c.in-Err.refused (search rules) (search rules))

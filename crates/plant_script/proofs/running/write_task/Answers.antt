@@ -1,6 +1,6 @@
 use Rattle.std.proofs.Common.{ℕ, IfOk, sym, subst}
 use Rattle.plant_script.proofs.Common.{if_ok, status_code, RunsTo}
-use Rattle.diagnostics.specs.declared.command_line.asked.RunReport.{RunReport}
+use Rattle.command_line.specs.declared.asked.RunReport.{RunReport}
 use Rattle.plant_script.proofs.Reached.{outcome_written}
 use Rattle.plant_script.proofs.running.write_task.Goals as goal
 

@@ -7,17 +7,17 @@ returns-in-Some g c =
     let row = some_at c.args.plant.now.rows c.loop-op.op (omega (arith, c.loop-op-test.true, c.requires)) in
     record {
       row = row.0;
-      book = cell_book c.index-states-op.result;
+      book = cell_book c.index-helds-op.result;
       row_is = row.1;
-      book_is = map_there cell_book c.args.states.now c.loop-op.op c.index-states-op.result c.loop-op-test.true c.index-states-op.is;
+      book_is = map_there cell_book c.args.helds.now c.loop-op.op c.index-helds-op.result c.loop-op-test.true c.index-helds-op.is;
       strays = c.in-Some.ensures row.0 row.1;
       before = c.loop-op.invariant;
     }
 
 pub loop-op-preserved : goal.loop-op-preserved
 loop-op-preserved g c i row book lt here there =
-    next_place _ c.loop-op.op (cell_book c.index-states-op.result)
-    (map_there cell_book c.args.states.now c.loop-op.op c.index-states-op.result c.loop-op-test.true c.index-states-op.is)
+    next_place _ c.loop-op.op (cell_book c.index-helds-op.result)
+    (map_there cell_book c.args.helds.now c.loop-op.op c.index-helds-op.result c.loop-op-test.true c.index-helds-op.is)
     (λ k b. (r : RowFields) → slice_get c.args.plant.now.rows k ≡ Some r → IsBookAfter c.args.plant.now c.args.steps.now k r b)
     (λ k b below e r f. c.loop-op.invariant k r b below f e)
     (λ r f. c.in_default.ensures r f)

@@ -1,6 +1,6 @@
 use Rattle.std.proofs.Common.{ap, subst, true}
 use Rattle.clap.specs.Walk.{texts}
-use Rattle.diagnostics.specs.command_line.CommandLine.{GivesFault, GivesLine, asks_json, reading}
+use Rattle.command_line.specs.CommandLine.{GivesFault, GivesLine, asks_json, reading}
 use Rattle.program_runner.proofs.Common.{IsAskedAnswer, Asked, Reading}
 use Rattle.program_runner.proofs.WithoutOptions.{fault_helped, fault_named, fault_refused, fault_served, fault_version, named_line, served_line}
 use Rattle.program_runner.proofs.running.run_with_options.Goals as goal

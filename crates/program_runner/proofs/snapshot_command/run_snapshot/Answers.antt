@@ -1,10 +1,5 @@
-use Rattle.program_runner.proofs.SnapshotLemmas.{saved, unfinished, unsaved, not_begun}
+use Rattle.program_runner.proofs.SnapshotLemmas.{unfinished, unsaved, not_begun}
 use Rattle.program_runner.proofs.snapshot_command.run_snapshot.Goals as goal
-
-pub returns-in-Ok-Saved : goal.returns-in-Ok-Saved
-returns-in-Ok-Saved g c =
-    saved (g.R.Read.remaining c.args.reader.now) (g.W.Write.contents c.args.writer.now) (g.W.Write.contents c.snapshot_after-ended.new.writer) c.status.result
-    c.in-Ok-Saved.field-0 c.in-Ok-Saved.field-0-is c.in-Ok-Saved.ensures c.status.ensures
 
 pub returns-in-Ok-Unfinished : goal.returns-in-Ok-Unfinished
 returns-in-Ok-Unfinished g c =

@@ -8,4 +8,4 @@ returns-in-Ok g c = λ other.
     let front = g.R.Read.remaining c.new-reader.result.reader.now in
     let read = g.R.Read.remaining c.args.reader.now in
     let same : front ≡ read = search rules in
-    inl (refl, served_behind (seen_bytes c.args.device) c.in-Ok.unfinished _ (g.W.Write.contents c.args.writer.now) (g.W.Write.contents c.serve_state-ended.new.writer) front read same c.in-Ok.ensures.served)
+    inl (refl, served_behind (seen_bytes c.args.device) _ (g.W.Write.contents c.args.writer.now) (g.W.Write.contents c.serve_state-ended.new.writer) front read same c.in-Ok.ensures.served)

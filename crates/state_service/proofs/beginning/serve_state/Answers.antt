@@ -19,9 +19,9 @@ returns-clause-served g c =
     unread_same (λ (r : _). g.R.Read.remaining r.now) lines c.in_ok-lines.ensures.empty c.in_ok-lines.ensures.capacity ∙ ap (λ (r : _). g.R.Read.remaining r.now) c.in_ok-lines.ensures.inner in
     let is_found = subst (λ (f : List ℕ). IsFoundIn bytes f found) c.as_slice.ensures.value c.in_ok-state.ensures.is_found in
     if_ok c.serve_restored.result _ _
-    (λ unfinished served.
-    given_serves (g.R.Read.remaining c.args.reader.now) rest file bytes found content old new unfinished c.in_ok-given.ensures.file c.in_ok-given.ensures.lines is_found
-    (subst (λ (o : Option (List ℕ)). IfSome o (λ input. IsServiceOn found file input unfinished content old new)) same served))
+    (λ x served.
+    given_serves (g.R.Read.remaining c.args.reader.now) rest file bytes found content old new c.in_ok-given.ensures.file c.in_ok-given.ensures.lines is_found
+    (subst (λ (o : Option (List ℕ)). IfSome o (λ input. IsServiceOn found file input content old new)) same served))
     c.serve_restored.ensures.served
 
 pub returns-in_err-state-clause-any_moment : goal.returns-in_err-state-clause-any_moment

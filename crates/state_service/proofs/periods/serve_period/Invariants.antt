@@ -12,11 +12,11 @@ invariant-loop g l = record {
   leads : LeadsHere (journal_content (g.D.Device.seen l.fn.journal.device)) (live_view l.fn.service.core) l.fn.service.count
       → LeadsHere (journal_content (g.D.Device.seen l.journal.device)) (live_view l.service.core) l.service.count;
   on : (file : List ℕ) (first : CoreView) (count : ℕ) (known written : Option (List ℕ))
-      → l.fn.service.file ≡ file → WhereKnown known (g.B.Read.remaining l.fn.reader) (λ input rest. IsServing file first count input rest l.fn.intake.part.items (live_view l.fn.service.core) l.fn.service.count written (g.W.Write.contents l.fn.writer))
-      → WhereKnown known (g.B.Read.remaining l.reader) (λ input rest. IsServing file first count input rest l.intake.part.items (live_view l.service.core) l.service.count written (g.W.Write.contents l.writer));
-  holds : (origin : ServiceOrigin) → IsJournalOf origin Open (journal_content (g.D.Device.seen l.fn.journal.device)) (g.B.Read.remaining l.fn.reader) l.fn.intake.part.items
-      → IsJournalOf origin Open (journal_content (g.D.Device.seen l.journal.device)) (g.B.Read.remaining l.reader) l.intake.part.items;
-  any_moment : (origin : ServiceOrigin) → IsJournalOf origin Open (journal_content (g.D.Device.seen l.fn.journal.device)) (g.B.Read.remaining l.fn.reader) l.fn.intake.part.items
+      → l.fn.service.file ≡ file → WhereKnown known (g.B.Read.remaining l.fn.reader) (λ input rest. IsServing file first count input rest l.fn.part.items (live_view l.fn.service.core) l.fn.service.count written (g.W.Write.contents l.fn.writer))
+      → WhereKnown known (g.B.Read.remaining l.reader) (λ input rest. IsServing file first count input rest l.part.items (live_view l.service.core) l.service.count written (g.W.Write.contents l.writer));
+  holds : (origin : ServiceOrigin) → IsJournalOf origin Open (journal_content (g.D.Device.seen l.fn.journal.device)) (g.B.Read.remaining l.fn.reader) l.fn.part.items
+      → IsJournalOf origin Open (journal_content (g.D.Device.seen l.journal.device)) (g.B.Read.remaining l.reader) l.part.items;
+  any_moment : (origin : ServiceOrigin) → IsJournalOf origin Open (journal_content (g.D.Device.seen l.fn.journal.device)) (g.B.Read.remaining l.fn.reader) l.fn.part.items
       → LeavesOnly g.D.Device.moment g.D.Device.left_since l.fn.journal.device l.journal.device (λ c. IsLeftFrom origin (journal_content c));
   counted : g.D.Device.faults l.fn.journal.device ≤ g.D.Device.faults l.journal.device;
 }

@@ -1,4 +1,4 @@
-use Rattle.std.proofs.Common.{arith, rules, ◌++◌, ◌+◌, ◌<◌, ℕ, List, Vec, Option, drop, length, subst, append-nil}
+use Rattle.std.proofs.Common.{rules, ◌++◌, ◌+◌, ◌<◌, ℕ, List, Vec, Option, drop, length, subst, append-nil}
 use Rattle.state_service.proofs.Common.{Global, drop_more, texts, AreTaken, line_if_any}
 use Rattle.state_service.proofs.reading.take_bytes.Goals as goal
 
@@ -8,16 +8,6 @@ returns-in-Some-clause-taken c input rest before so_far =
     let i = c.loop-place.place in
     let inside : i < length bytes = search rules in
     subst (λ (o : Option (Vec ℕ Global)). AreTaken input (drop (i + 1) bytes ++ rest) (before ++ (texts c.take_byte.new.lines.items ++ line_if_any o)) c.take_byte.new.part.items) c.in-Some.is
-    (c.in_ok-take_byte.ensures.taken input (drop (i + 1) bytes ++ rest) before
-    (subst (λ (left : List ℕ). AreTaken input (left ++ rest) (before ++ texts c.loop-place.lines.items) c.loop-place.part.items) (drop_more bytes i 0 inside)
-    (c.loop-place.invariant.so_far input rest before so_far)))
-
-pub returns-then-len-ge-MOST_LINES-clause-taken : goal.returns-then-len-ge-MOST_LINES-clause-taken
-returns-then-len-ge-MOST_LINES-clause-taken c input rest before so_far =
-    let bytes = c.args.bytes.now in
-    let i = c.loop-place.place in
-    let inside : i < length bytes = search rules in
-    subst (λ (o : Option (Vec ℕ Global)). AreTaken input (drop (i + 1) bytes ++ rest) (before ++ (texts c.take_byte.new.lines.items ++ line_if_any o)) c.take_byte.new.part.items) c.in-None.is
     (c.in_ok-take_byte.ensures.taken input (drop (i + 1) bytes ++ rest) before
     (subst (λ (left : List ℕ). AreTaken input (left ++ rest) (before ++ texts c.loop-place.lines.items) c.loop-place.part.items) (drop_more bytes i 0 inside)
     (c.loop-place.invariant.so_far input rest before so_far)))
@@ -34,6 +24,5 @@ loop-place-preserved c = record {
       (c.in_ok-take_byte.ensures.taken input (drop (i + 1) bytes ++ rest) before
       (subst (λ (left : List ℕ). AreTaken input (left ++ rest) (before ++ texts c.loop-place.lines.items) c.loop-place.part.items) (drop_more bytes i 0 inside)
       (c.loop-place.invariant.so_far input rest before first))));
-  few = omega (arith, c.if-len-ge-MOST_LINES.false, c.len.ensures);
   plain = λ none. c.in_ok-take_byte.ensures.plain (c.loop-place.invariant.plain none);
 }

@@ -8,12 +8,12 @@ pub returns-in-Err-clause-any_moment : goal.returns-in-Err-clause-any_moment
 returns-in-Err-clause-any_moment g c =
     let content = journal_content (g.D.Device.seen c.args.journal.now.device) in
     let known = g.B.Read.remaining c.args.reader.now in
-    unchanged g.D.Device.moment g.D.Device.left_since _ g.D.Device.seen g.D.Device.may_leave (λ o. IsLeftUnder content c.args.opened.given.file.items known o) (g.met.D.Device.only_now _) c.requires.settled.durable
-    (found_left content _ known _ (stands_has content _ _ _ c.args.opened.state.lines.items c.requires.found))
+    unchanged g.D.Device.moment g.D.Device.left_since _ g.D.Device.seen g.D.Device.may_leave (λ o. IsLeftUnder content c.args.given.file.items known o) (g.met.D.Device.only_now _) c.requires.settled.durable
+    (found_left content _ known _ (stands_has content _ _ _ c.args.state.lines.items c.requires.found))
 
 pub returns-clause-on : goal.returns-clause-on
 returns-clause-on g c =
-    let state = c.args.opened.state in
+    let state = c.args.state in
     let started = c.in_ok-service.ensures in
     let service = c.in_ok-service.field-0.service in
     let same = c.as_slice.ensures.value in

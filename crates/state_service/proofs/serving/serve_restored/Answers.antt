@@ -10,9 +10,9 @@ returns-in-Ended-clause-served g c =
     let served = c.loop.served in
     let on = c.loop.invariant.on in
     let new = journal_content (g.D.Device.seen c.loop.journal.device) in
-    all_served (journal_content (g.D.Device.seen c.args.journal.now.device)) new c.args.opened.given.file.items c.loop.intake.part.items served.end on.live served.count
-    (g.B.Read.remaining c.args.reader.now) (g.B.Read.remaining c.loop.reader) (g.W.Write.contents c.args.writer.now) (g.W.Write.contents c.loop.writer) c.in-Ended.unfinished c.in-Ended.is
-    (ended_leads served.end new on.live served.count c.in-Ended.unfinished c.in-Ended.is on.leads) on.serves
+    all_served (journal_content (g.D.Device.seen c.args.journal.now.device)) new c.args.given.file.items c.loop.part.items served.end on.live served.count
+    (g.B.Read.remaining c.args.reader.now) (g.B.Read.remaining c.loop.reader) (g.W.Write.contents c.args.writer.now) (g.W.Write.contents c.loop.writer) c.in-Ended.is
+    (ended_leads served.end new on.live served.count c.in-Ended.is on.leads) on.serves
 
 pub returns-in_err-served-2-clause-any_moment : goal.returns-in_err-served-2-clause-any_moment
 returns-in_err-served-2-clause-any_moment g c =
@@ -21,11 +21,11 @@ returns-in_err-served-2-clause-any_moment g c =
     let new = c.serve_kept.new.journal.device in
     let served = c.loop.served in
     let found = journal_content (g.D.Device.seen old) in
-    let given = c.args.opened.given.file.items in
+    let given = c.args.given.file.items in
     let known = g.B.Read.remaining c.args.reader.now in
     let w0 = g.W.Write.contents c.args.writer.now in
     let on =
-    subst (λ (e : PeriodEnd). IsServedUpTo found (journal_content (g.D.Device.seen mid)) given served.file served.count e c.loop.intake.part.items known (g.B.Read.remaining c.loop.reader) w0 (g.W.Write.contents c.loop.writer))
+    subst (λ (e : PeriodEnd). IsServedUpTo found (journal_content (g.D.Device.seen mid)) given served.file served.count e c.loop.part.items known (g.B.Read.remaining c.loop.reader) w0 (g.W.Write.contents c.loop.writer))
     c.in-Due.is c.loop.invariant.on in
     joined g.D.Device.moment g.D.Device.left_since old mid new (λ d. IsLeftUnder found given known (journal_content d)) c.loop.invariant.any_moment (c.serve_kept.ensures.any_moment found given known w0 on)
 
@@ -36,11 +36,11 @@ loop-preserved g c =
     let new = c.serve_kept.new.journal.device in
     let served = c.loop.served in
     let found = journal_content (g.D.Device.seen old) in
-    let given = c.args.opened.given.file.items in
+    let given = c.args.given.file.items in
     let known = g.B.Read.remaining c.args.reader.now in
     let w0 = g.W.Write.contents c.args.writer.now in
     let on =
-    subst (λ (e : PeriodEnd). IsServedUpTo found (journal_content (g.D.Device.seen mid)) given served.file served.count e c.loop.intake.part.items known (g.B.Read.remaining c.loop.reader) w0 (g.W.Write.contents c.loop.writer))
+    subst (λ (e : PeriodEnd). IsServedUpTo found (journal_content (g.D.Device.seen mid)) given served.file served.count e c.loop.part.items known (g.B.Read.remaining c.loop.reader) w0 (g.W.Write.contents c.loop.writer))
     c.in-Due.is c.loop.invariant.on in
     record {
       settled = c.in_ok-served-2.ensures.settled;
@@ -60,4 +60,4 @@ returns-in_err-served-2-clause-fault g c =
     let result = c.from_residual-in_err-served-2.result in
     let inner : IfErr result (IsServingFault mid new) = search rules in
     if_err result _ _
-    (λ e is. serving_start (journal_content (g.D.Device.seen c.args.journal.now.device)) c.args.opened.given.file.items old new e (later_fault mid new old new e c.loop.invariant.counted (le_refl new) is)) inner
+    (λ e is. serving_start (journal_content (g.D.Device.seen c.args.journal.now.device)) c.args.given.file.items old new e (later_fault mid new old new e c.loop.invariant.counted (le_refl new) is)) inner

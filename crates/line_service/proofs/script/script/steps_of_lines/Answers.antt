@@ -5,10 +5,10 @@ use Rattle.line_service.proofs.ScriptLemmas.Scripts.{steps_more, steps_fail}
 use Rattle.line_service.proofs.script.script.steps_of_lines.Goals as goal
 
 pub returns-in-Err-Invalid-clause-value : goal.returns-in-Err-Invalid-clause-value
-returns-in-Err-Invalid-clause-value g c =
+returns-in-Err-Invalid-clause-value c =
     let none : Bor (List ℕ) = record { ref_ptr = (0, 0); now = [] } in
     let place = c.loop-line.line-index in
-    let plant = g.P.Routing.plant_of c.args.routes.now in
+    let plant = c.args.routes.now in
     let number = c.loop-line.number in
     let steps = c.loop-line.steps.items in
     let line = (get_or c.args.lines.now place none).now in
@@ -22,10 +22,10 @@ returns-in-Err-Invalid-clause-value g c =
     ∙ steps_fail plant number steps line (drop (place + 1) lines) _ said refl fails
 
 pub loop-line-preserved : goal.loop-line-preserved
-loop-line-preserved g c =
+loop-line-preserved c =
     let none : Bor (List ℕ) = record { ref_ptr = (0, 0); now = [] } in
     let place = c.loop-line.line-index in
-    let plant = g.P.Routing.plant_of c.args.routes.now in
+    let plant = c.args.routes.now in
     let number = c.loop-line.number in
     let steps = c.loop-line.steps.items in
     let line = (get_or c.args.lines.now place none).now in

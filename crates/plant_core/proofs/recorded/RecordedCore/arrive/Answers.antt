@@ -1,5 +1,5 @@
 use Rattle.std.proofs.Common.{ap}
-use Rattle.plant_core.specs.declared.live.live_core.LiveCore.{LiveCore}
+use Rattle.plant_core.specs.declared.live.held.LiveCore.{LiveCore}
 use Rattle.plant_core.proofs.Common.{live_view, arrives, record_view}
 use Rattle.plant_core.proofs.RecordLemmas.{is_of}
 use Rattle.plant_core.proofs.StepLemmas.{none_refuses}

@@ -17,4 +17,4 @@ returns-in_err-index-clause-err g c =
     (refused_later _ _ _ _ c.copy_if_open.ensures.looks c.copy_if_open.ensures.ended_cell c.in_err-index.ensures.err)
 
 pub returns-clause-ok : goal.returns-clause-ok
-returns-clause-ok g c = acts_later _ _ _ _ c.in-Ok.copied _ c.copy_if_open.ensures.looks c.copy_if_open.ensures.ended_cell c.in-Ok.ensures.copy c.in_ok-index.ensures.ok
+returns-clause-ok g c = acts_later _ _ _ _ c.in-Ok.told _ c.copy_if_open.ensures.looks c.copy_if_open.ensures.ended_cell c.in-Ok.ensures.copy c.in_ok-index.ensures.ok

@@ -1,0 +1,6 @@
+mod Common
+mod CommandLemmas
+pub mod ReadLemmas
+mod StrayLemmas
+pub mod WordLemmas
+pub mod BareLemmas

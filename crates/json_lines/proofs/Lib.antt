@@ -1,0 +1,2 @@
+mod OneLine
+mod Puts

@@ -1,4 +1,0 @@
-use Rattle.operator_book.proofs.machine.Machine.first_request.Goals as goal
-
-pub returns : goal.returns
-returns c = rw (← c.self.view_is) c.first_request.ensures

@@ -1,0 +1,6 @@
+use Rattle.std.proofs.Common.{refl}
+use Rattle.run_model.specs.declared.step.Step.TheVariants as steps
+use Rattle.plant_core.proofs.live.held.LiveCore.tick_by.Goals as goal
+
+pub act_by-requires-clause-step : goal.act_by-requires-clause-step
+act_by-requires-clause-step g c = (steps.Tick c.args.op, refl)

@@ -1,4 +1,0 @@
-mod Common
-pub mod Resumes
-pub mod SoundState
-pub mod UnderState

@@ -1,6 +1,0 @@
-use Rattle.std.proofs.Common.{ℕ, All, take}
-use Rattle.state_judge.proofs.Common.{Flow, IsTypedFlow}
-use Rattle.state_judge.proofs.judging.flows_are_typed.Given as goal
-
-abbrev pub invariant-loop-entry : goal.invariant-loop-entry
-invariant-loop-entry l = All (λ (entry : ℕ × Flow). IsTypedFlow entry.1) (take l.entry-index l.flows)

@@ -1,6 +1,0 @@
-use Rattle.std.proofs.Common.{◌≡◌, drop}
-use Rattle.state_judge.specs.Resuming.{first_fault_in, response_fault}
-use Rattle.state_judge.proofs.response_fault.responses_fault.Given as goal
-
-abbrev pub invariant-loop-entry : goal.invariant-loop-entry
-invariant-loop-entry l = first_fault_in (response_fault l.row l.flows.flows) (drop l.entry-index l.entries) ≡ first_fault_in (response_fault l.row l.flows.flows) l.entries
